@@ -17,6 +17,7 @@ use Rattle.board_rules.specs.Serial.{commits_by, is_settled_in}
 use Rattle.board_rules.specs.Stands.{version_or_zero}
 use Rattle.board_rules.specs.Worth.{first_value}
 use Rattle.board_rules.proofs.Places.{version_stays}
+use Rattle.board_rules.proofs.Judging.{fails_at}
 use Rattle.board_tallies.specs.Board.{BoardData, IsBoardOf, closes_in}
 use Rattle.worth_steps.specs.Kept.{AreWorths, WorthsData}
 use Rattle.worth_steps.specs.Worth.{Noted}
@@ -28,7 +29,7 @@ use Rattle.board_judge.specs.declared.noting.Step.{Step}
 use Rattle.board_judge.specs.inside.Rewriting.{HasNoted, IsClosing, IsCompared, IsRewritten, closed_noted}
 use Rattle.board_judge.specs.inside.Steps.{AreClosings, AreNoted}
 use Rattle.board_judge.specs.inside.Votes.{HasVersions, IsRightRead}
-use Rattle.board_judge.proofs.Going.{one_at, one_last, run_more}
+use Rattle.board_judge.proofs.Going.{one_last, run_more}
 use Rattle.board_judge.proofs.Rewritten.{kinds_many, there_too}
 use Rattle.board_judge.proofs.Voting.{but_cause}
 
@@ -138,7 +139,7 @@ pub closing_at : (s : ScriptData) (h : List Entry) (ys : List Place) (sts : List
     → IsClosing s (places_of h ++ take i ys) (drop (suc i) ys) (record { node = p; act = a }) st.noted.closed b
 closing_at s h ys sts b i p a st noted here there = record {
   move = but_cause s h [] (places_of h ++ take i ys) p a
-      (one_at (IsMove s h) (places_of h) (take i ys) (placed_at p a) (drop (suc i) ys)
+      (fails_at (IsMove s h) (places_of h) (take i ys) (placed_at p a) (drop (suc i) ys)
       (subst (OneByOne (IsMove s h) (places_of h)) (split_at ys i (placed_at p a) here) noted.moves));
   closes = closings_at s (places_of h) ys sts i (placed_at p a) st noted.closings here there;
   board = subst (λ (zs : List Place). IsBoardOf s zs b)
@@ -169,7 +170,7 @@ pub rewritten_wrong : (s : ScriptData) (h : List Entry) (ys : List Place) (i : �
 rewritten_wrong s h ys i y vs at one = record {
   reads = (
     (λ never. absurd (cc never)),
-    (λ all. one.reads.1 (one_at (ShowsRight s) (places_of h) (take i ys) y (drop (suc i) ys)
+    (λ all. one.reads.1 (fails_at (ShowsRight s) (places_of h) (take i ys) y (drop (suc i) ys)
         (subst (OneByOne (ShowsRight s) (places_of h)) (split_at ys i y at) all))),
   );
   known = λ never. absurd (cc never);

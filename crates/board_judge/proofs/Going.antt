@@ -17,6 +17,7 @@ use Rattle.board_rules.specs.Gates.{KeepsTo}
 use Rattle.board_rules.specs.Histories.{Place, places_at, places_of}
 use Rattle.board_rules.specs.Judging.{FirstFails, rule_of}
 use Rattle.board_rules.specs.Moves.{IsMove, OneByOne}
+use Rattle.board_rules.proofs.Judging.{fails_at}
 use Rattle.board_tallies.specs.Board.{BoardData, IsBoardOf, closes_in}
 use Rattle.board_tallies.specs.GateRows.{GatesData}
 use Rattle.board_tallies.specs.TakenBack.{taken_back}
@@ -38,15 +39,11 @@ pub one_front : (P : List Place → Place → Type 0) (xs ys zs : List Place) �
 one_front P xs [] zs all = tt
 one_front P xs (y ∷ ys) zs all = (all.0, one_front P (xs ++ y ∷ []) ys zs all.1)
 
-pub one_at : (P : List Place → Place → Type 0) (xs ys : List Place) (y : Place) (zs : List Place) → OneByOne P xs (ys ++ y ∷ zs) → P (xs ++ ys) y
-one_at P xs [] y zs all = subst (λ (ws : List Place). P ws y) (sym (append-nil xs)) all.0
-one_at P xs (w ∷ ys) y zs all = subst (λ (ws : List Place). P ws y) (append_assoc xs (w ∷ []) ys) (one_at P (xs ++ w ∷ []) ys y zs all.1)
-
 decide_last : (P : List Place → Place → Type 0) (xs ys : List Place) (y : Place) (a b : Bool) → Decides a (OneByOne P xs ys) → Decides b (P (xs ++ ys) y)
     → Decides (a && b) (OneByOne P xs (ys ++ y ∷ []))
 decide_last P xs ys y a b all one = (
   (λ so. let parts = and_parts a b so in one_last P xs ys y (all.0 parts.0) (one.0 parts.1)),
-  (λ so. and_from a b (all.1 (one_front P xs ys (y ∷ []) so)) (one.1 (one_at P xs ys y [] so))),
+  (λ so. and_from a b (all.1 (one_front P xs ys (y ∷ []) so)) (one.1 (fails_at P xs ys y [] so))),
 )
 
 pub none_noted : (s : ScriptData) (g : GatesData) (u : UsersData) (h : List Entry) (b : BoardData) (ws : List WorthsData) → IsMidway s g u h (places_of h) b ws

@@ -11,10 +11,11 @@ use Rattle.board_rules.specs.Histories.{Place, places_at}
 use Rattle.board_rules.specs.Moves.{AtEachAct}
 use Rattle.board_rules.specs.Rules.{AreByRule, IsByRule}
 use Rattle.tree_laws.proofs.AptVersions.{before}
-use Rattle.tree_laws.proofs.Histories.{at_each_act_more, places_more}
+use Rattle.tree_laws.proofs.Histories.{at_each_act_more}
 use Rattle.rule_laws.proofs.Fronts.{act_of_place, front, in_both, one_by_one, place_of, placed}
 use Rattle.rule_laws.proofs.Rules.{follows_rules}
 use Rattle.board_rules.specs.ButCause.{IsMoveButCause, IsMoveButCauseAt}
+use Rattle.board_rules.proofs.Places.{places_more}
 use Rattle.board_laws.proofs.Asked.{deed_is, voting_is}
 use Rattle.board_laws.proofs.Births.{birth_is, waiting_is}
 use Rattle.board_laws.proofs.Raised.{showing_is, sweeping_is, turn_is}

@@ -22,6 +22,7 @@ use Rattle.world_model.specs.Notices.{act_of}
 use Rattle.world_model.specs.Runs.{IsStepRun}
 use Rattle.world_model.specs.Strict.{notice_by}
 use Rattle.world_model.proofs.Scripts.{SubAt, sub_here}
+use Rattle.world_model.proofs.Bags.{one_if_both}
 use Rattle.board_rules.specs.Histories.{Place, does, places_at, was_done}
 use Rattle.board_rules.specs.Moves.{IsAsked, IsAskedBy, IsDeed}
 use Rattle.board_rules.specs.Rules.{IsFreeDeed}
@@ -34,7 +35,6 @@ use Rattle.tree_laws.specs.Turns.{has_turn, turns}
 use Rattle.tree_laws.proofs.AptStagesOwn.{Doing, asked}
 use Rattle.tree_laws.proofs.AptTurns.{sub_has_turns}
 use Rattle.tree_laws.proofs.AptVersions.{before}
-use Rattle.tree_laws.proofs.Counts.{one_here}
 use Rattle.tree_laws.proofs.Counted.{dids_in, was_done_of}
 use Rattle.run_laws.proofs.EveryDid.{dids_are_turns}
 use Rattle.run_laws.proofs.EveryWhole.{strict_is}
@@ -58,7 +58,7 @@ parent_turn : (s : ScriptData) (past : List Entry) (e : Entry) (p : ℕ) (r : Le
     → AsksIn r.body t k → (c : SubAt s t.0 k.0) → 0 < k.0 → 1 ≤ turns past t.0 c.sub.parent.0
 parent_turn s past e p r t k g (OfRoot is first) c later = absurd (omega (arith, later, ap (λ (x : SubNo). x.0) first))
 parent_turn s past e p r t k g (OfSub v is) c later =
-    let one : asks t.0 k.0 r.body ≡ 1 = ap (asks t.0 k.0) is ∙ one_here t.0 k.0 in
+    let one : asks t.0 k.0 r.body ≡ 1 = ap (asks t.0 k.0) is ∙ one_if_both t.0 k.0 in
     omega (arith, asked s past e p t.0 k.0 r g one, sub_has_turns s past t.0 k.0 c g.valid g.apt.1 g.run.1 later)
 
 -- A Did: its tree isn't strict, so its parent was done.
@@ -176,7 +176,7 @@ vote_by s past e j t k vote at (Votes p r u i g asks of is none) =
     subst (λ (x : TreeNo). AsksIn r.body x k) (sym same.0) (subst (λ (y : SubNo). AsksIn r.body u y) (sym same.1) asks) in
     let strict : is_strict_at s t.0 ≡ true = rw (kind, is_strict_at) refl in
     let there = is_there s past e p r t k g here in
-    let own : has_turn t.0 k.0 (acts.Voted t k vote) ≡ 1 = one_here t.0 k.0 in
+    let own : has_turn t.0 k.0 (acts.Voted t k vote) ≡ 1 = one_if_both t.0 k.0 in
     record {
       strict = strict_is s t.0 (slice_get s.trees t.0) refl ∙ strict;
       born = born_before s past e j (acts.Voted t k vote) p r t k Strict g here kind at refl;

@@ -14,13 +14,13 @@ use Rattle.script_parts.specs.ScriptData.{ScriptData}
 use Rattle.script_parts.specs.Valid.{IsValid}
 use Rattle.world_model.specs.Counts.{one_if, tally}
 use Rattle.world_model.specs.Runs.{IsStepRun, node_in}
+use Rattle.world_model.proofs.Bags.{one_if_both}
 use Rattle.board_rules.specs.Histories.{Place, born_as}
 use Rattle.board_rules.specs.Moves.{IsBirth, IsWaiting}
 use Rattle.strict_laws.specs.Meant.{IsMeant, IsMeantRoot}
 use Rattle.tree_laws.specs.Dids.{asks, is_born, letters_asking}
 use Rattle.tree_laws.proofs.Acts.{of_act}
 use Rattle.tree_laws.proofs.AptVersions.{before, not_born}
-use Rattle.tree_laws.proofs.Counts.{one_here}
 use Rattle.tree_laws.proofs.Counted.{unborn}
 use Rattle.phase_laws.proofs.Brought.{BringsTo, brought_meant, brought_outstanding}
 use Rattle.phase_laws.proofs.LevelAt.{unread}
@@ -81,7 +81,7 @@ waiting_is s past e j t u r valid run at =
     omega (
       arith,
       ap (asks t.0 0) w.root,
-      one_here t.0 0,
+      one_if_both t.0 0,
       brought_outstanding s past e o.node o.letter o.brings run.0 (λ (l : Letter). asks t.0 0 l.body),
     ) in
     subst (λ (xs : List Place). IsWaiting s xs e.actor.0 t.0 u.0 r.0) (sym (first_front past e j o.first))

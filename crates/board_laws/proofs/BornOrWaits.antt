@@ -22,6 +22,7 @@ use Rattle.script_parts.specs.declared.parts.TreeKind.{TreeKind}
 use Rattle.script_parts.specs.declared.parts.TreeKind.TheVariants.{Update, Read, Strict}
 use Rattle.script_parts.specs.ScriptData.{ScriptData}
 use Rattle.script_parts.specs.Valid.{IsValid}
+use Rattle.script_parts.proofs.SubsOf.{home_below}
 use Rattle.tree_home.specs.declared.homes.Answered.{Answered}
 use Rattle.node_versions.specs.declared.turns.Turns.{Turns}
 use Rattle.board_rules.specs.Histories.{Place, born_as, is_strict_tree, places_at, places_of, version_in, was_born}
@@ -43,7 +44,7 @@ use Rattle.world_model.proofs.KeptThere.{kept_in_past}
 use Rattle.strict_laws.specs.Meant.{IsLetterMeant, IsMeant}
 use Rattle.strict_laws.proofs.Meant.{letters_are_meant}
 use Rattle.tree_laws.proofs.Histories.{before_more}
-use Rattle.phase_laws.proofs.Brought.{BringsTo, brought_meant, home_below}
+use Rattle.phase_laws.proofs.Brought.{BringsTo, brought_meant}
 use Rattle.phase_laws.proofs.Progress.{brings_to}
 use Rattle.run_laws.proofs.AtOnce.{called_asks}
 use Rattle.run_laws.proofs.EveryApt.{all_apt}

@@ -13,15 +13,14 @@ use Rattle.letter_types.specs.declared.entries.Entry.{Entry}
 use Rattle.letter_types.specs.declared.entries.Letter.{Letter}
 use Rattle.script_parts.specs.ScriptData.{ScriptData}
 use Rattle.script_parts.specs.Valid.{IsValid}
-use Rattle.world_model.specs.Core.{Core}
-use Rattle.world_model.specs.Epochs.{plain_order, is_obeyed_now}
+use Rattle.world_model.specs.Epochs.{plain_order}
 use Rattle.world_model.specs.Runs.{IsStepRun, keeping_in, node_in}
 use Rattle.world_model.proofs.Epochs.{Anew, Orders, Plainly}
 use Rattle.board_rules.specs.Histories.{Place}
 use Rattle.board_rules.specs.Moves.{IsShowing, IsSweeping, IsTurn}
 use Rattle.tree_laws.proofs.AptVersions.{before}
 use Rattle.phase_laws.specs.Given.{greatest_given}
-use Rattle.phase_laws.specs.Phases.{Stage, ShowStage, SweepStage, TurnStage}
+use Rattle.phase_laws.specs.Phases.{Stage, ShowStage, SweepStage, TurnStage, stage_of}
 use Rattle.phase_laws.proofs.Advancing.{IsOrderGiven, brought_turned, taken_ahead, taken_given}
 use Rattle.phase_laws.proofs.Brought.{BringsTo, IsAsking}
 use Rattle.phase_laws.proofs.Progress.{itself}
@@ -40,13 +39,6 @@ took_it : (s : ScriptData) (past : List Entry) (e : Entry) (p : ℕ) (r : Letter
 took_it s past e p r body b is other =
     let same : r ≡ e.took = itself s past e p r b (λ asks. other (subst IsAsking is asks)) in
     sym (ap (λ (l : Letter). l.body) same) ∙ is
-
--- An order.
--- what it tells
-abbrev pub stage_of : What → Stage
-stage_of whats.Turn = TurnStage
-stage_of whats.Show = ShowStage
-stage_of whats.Sweep = SweepStage
 
 plain_given : (past : List Entry) (what : What) (v : Version) → IsOrderGiven past (plain_order what v) → v.0 ≤ greatest_given (stage_of what) past
 plain_given past whats.Turn v of = of

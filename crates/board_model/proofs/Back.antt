@@ -7,11 +7,12 @@ use Rattle.std.proofs.lemmas.Bool.Decides.{nat_tests}
 use Rattle.std.proofs.lemmas.List.{length-replicate, length-set, reverse-append}
 use Rattle.std.proofs.lemmas.Bool.{and_left}
 use Rattle.std.proofs.Math.Bool.{and-false, or-false}
+use Rattle.std.proofs.lemmas.Option.{cond_some}
 use Rattle.tv_base.specs.declared.numbers.ItemNo.{ItemNo}
 use Rattle.tv_base.specs.declared.numbers.SubNo.{SubNo}
 use Rattle.tv_base.specs.declared.numbers.TreeNo.{TreeNo}
 use Rattle.tv_base.specs.declared.numbers.Version.{Version}
-use Rattle.tv_base.proofs.Truths.{left_true}
+use Rattle.tv_base.proofs.Truths.{left_true, or_none}
 use Rattle.commute_ops.specs.declared.value.Value.{Value}
 use Rattle.letter_types.specs.declared.acts.Act.{Act}
 use Rattle.letter_types.specs.declared.acts.Act.TheVariants.{Born, Did, Turned, Showed, Swept, Finished, Waits, Parked, Voted, Freed, Decided, Applied}
@@ -120,10 +121,6 @@ get_set (x ∷ xs) (suc j) (suc k) small =
     let same : (j == k) ≡ (suc j == suc k) = grind (arith, nat_tests) in
     get_set xs j k (omega arith) ∙ ap (λ (b : Bool). b || get_or xs k false) same
 
-hidden_false : (a b : Bool) → b ≡ ((a && false) || b)
-hidden_false true b = refl
-hidden_false false b = refl
-
 born_told : (t : ℕ) (v : Version) (p : ℕ) (u : TreeNo) (xs : List Place) (row : Tally) → u.0 ≡ t → Tells t xs row
     → Tells t (record { node = p; act = Born u v } ∷ xs) (with_born v row)
 born_told t v p u xs row e h =
@@ -133,7 +130,7 @@ born_told t v p u xs row e h =
       many = h.many;
       done = h.done;
       nodes = h.nodes;
-      applied = λ (q : ℕ) small. h.applied q small ∙ hidden_false (p == q) (was_applied t q xs);
+      applied = λ (q : ℕ) small. h.applied q small ∙ or_none (p == q) (was_applied t q xs);
       committed = h.committed;
     }
 
@@ -151,7 +148,7 @@ untouched t x xs row bears did committed applied h =
       done = λ (k : ℕ) small. h.done k small ∙ sym (ap (λ (b : Bool). b || was_done t k xs) (did k));
       nodes = h.nodes;
       applied = λ (q : ℕ) small.
-          h.applied q small ∙ hidden_false (x.node == q) (was_applied t q xs)
+          h.applied q small ∙ or_none (x.node == q) (was_applied t q xs)
           ∙ sym (ap (λ (b : Bool). ((x.node == q) && b) || was_applied t q xs) applied);
       committed = h.committed ∙ sym (ap (λ (b : Bool). b || was_committed t xs) committed);
     }
@@ -168,7 +165,7 @@ did_told t p u j vs xs row e h =
           ∙ ap (λ (b : Bool). (j.0 == k) || b) (h.done k small)
           ∙ sym (ap (λ (b : Bool). (b && (j.0 == k)) || was_done t k xs) yes);
       nodes = h.nodes;
-      applied = λ (q : ℕ) small. h.applied q small ∙ hidden_false (p == q) (was_applied t q xs);
+      applied = λ (q : ℕ) small. h.applied q small ∙ or_none (p == q) (was_applied t q xs);
       committed = h.committed;
     }
 
@@ -181,7 +178,7 @@ decided_told t p u commit xs row e h =
       many = h.many;
       done = h.done;
       nodes = h.nodes;
-      applied = λ (q : ℕ) small. h.applied q small ∙ hidden_false (p == q) (was_applied t q xs);
+      applied = λ (q : ℕ) small. h.applied q small ∙ or_none (p == q) (was_applied t q xs);
       committed =
           ap (λ (b : Bool). commit || b) h.committed
           ∙ sym (ap (λ (b : Bool). (b && commit) || was_committed t xs) yes);
@@ -412,17 +409,13 @@ tree_there [] t f e = absurd (cc e)
 tree_there (tree ∷ ts) zero f e = omega arith
 tree_there (tree ∷ ts) (suc t) f e = omega (arith, tree_there ts t f e)
 
-chosen : (b : Bool) (t u : ℕ) → (if b then Some t else None) ≡ Some u → (b ≡ true) × (t ≡ u)
-chosen true t u e = (refl, (let same : t ≡ u = cc e in same))
-chosen false t u e = absurd (cc e)
-
 closes_small : (s : ScriptData) (a : Act) (t : ℕ) → commits_by s a ≡ Some t → t < length s.trees
 closes_small s (Did u k vs) t e =
-    let c = chosen (updates s u.0) u.0 t e in
+    let c = cond_some (updates s u.0) u.0 t e in
     let small = tree_there s.trees u.0 (λ (tree : Tree). is_update tree.kind) c.0 in
     omega (arith, small, c.1)
 closes_small s (Decided u commit) t e =
-    let c = chosen (is_strict_tree s u.0 && commit) u.0 t e in
+    let c = cond_some (is_strict_tree s u.0 && commit) u.0 t e in
     let small = tree_there s.trees u.0 (λ (tree : Tree). is_strict tree.kind) (left_true (is_strict_tree s u.0) commit c.0) in
     omega (arith, small, c.1)
 closes_small s (Born u v) t e = absurd (cc e)

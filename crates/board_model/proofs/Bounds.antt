@@ -7,6 +7,7 @@ use Rattle.std.proofs.lemmas.Int.{ints}
 use Rattle.std.proofs.lemmas.Option.{slice_get_within}
 use Rattle.std.proofs.lemmas.Bool.Decides.{nat_tests}
 use Rattle.std.proofs.lemmas.Bool.{and_from}
+use Rattle.tv_base.proofs.Chosen.{if_most}
 use Rattle.commute_ops.specs.declared.kinds.TheConstants.{MOST_AMOUNT}
 use Rattle.commute_ops.specs.declared.kinds.Kind.{Kind}
 use Rattle.commute_ops.specs.declared.kinds.Kind.TheVariants.{Sum as SumKind, Top as TopKind, Bag as BagKind}
@@ -210,13 +211,9 @@ abbrev among : ℕ → List ℕ → ℕ → List Tree → ℕ
 among x ts k [] = 0
 among x ts k (tree ∷ trees) = (if is_in k ts then subs_load x tree.subs else 0) + among x ts (k + 1) trees
 
-part : (b : Bool) (n : ℕ) → (if b then n else 0) ≤ n
-part true n = omega arith
-part false n = omega arith
-
 among_most : (x : ℕ) (ts : List ℕ) (k : ℕ) (trees : List Tree) → among x ts k trees ≤ trees_load x trees
 among_most x ts k [] = omega arith
-among_most x ts k (tree ∷ trees) = omega (arith, part (is_in k ts) (subs_load x tree.subs), among_most x ts (k + 1) trees)
+among_most x ts k (tree ∷ trees) = omega (arith, if_most (is_in k ts) (subs_load x tree.subs), among_most x ts (k + 1) trees)
 
 -- a tree below the first isn't counted
 among_past : (x t : ℕ) (ts : List ℕ) (k : ℕ) (trees : List Tree) → t < k → among x (t ∷ ts) k trees ≡ among x ts k trees

@@ -24,7 +24,7 @@ use Rattle.board_rules.specs.Histories.{is_strict_tree}
 use Rattle.nc_locks.specs.Modes.{modes_conflict}
 use Rattle.nc_locks.specs.declared.modes.Mode.TheVariants.{Mark}
 use Rattle.board_rules.specs.Stands.{lock_mode_of}
-use Rattle.board_rules.specs.Worth.{changes, ops_change}
+use Rattle.board_rules.specs.Worth.{changes, ops_change, subs_change}
 use Rattle.board_rules.proofs.Once.{AreOnce, clash, has, has_append, numbers_equal, same_number}
 use Rattle.board_rules.proofs.Precedence.{change}
 use Rattle.board_rules.proofs.Rules.{IsItemAt}
@@ -238,3 +238,10 @@ item_at s p x r valid at node = record {
   marks = λ t k i o up is. marks_it s t k i o valid up is;
   strict = λ t k i o strict is. holds_it s t k i o valid strict is;
 }
+
+-- a tree of which one subtransaction changes the item changes it
+pub changed_in : (x j : ℕ) (subs : List Sub) (sub : Sub) → slice_get subs j ≡ Some sub → ops_change x sub.ops ≡ true → subs_change x subs ≡ true
+changed_in x j [] sub at is = absurd (cc at)
+changed_in x zero (y ∷ subs) sub at is =
+    let same : y ≡ sub = cc at in or_left (ops_change x y.ops) (subs_change x subs) (ap (λ (z : Sub). ops_change x z.ops) same ∙ is)
+changed_in x (suc j) (y ∷ subs) sub at is = or_right (ops_change x y.ops) (subs_change x subs) (changed_in x j subs sub at is)

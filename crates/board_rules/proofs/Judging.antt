@@ -9,7 +9,7 @@ use Rattle.script_parts.specs.ScriptData.{ScriptData}
 use Rattle.board_rules.specs.declared.rule_names.Rule.{Rule}
 use Rattle.board_rules.specs.declared.rule_names.Rule.TheVariants as rules
 use Rattle.board_rules.specs.Gates.{Fits}
-use Rattle.board_rules.specs.Histories.{Place, places_at, places_of}
+use Rattle.board_rules.specs.Histories.{Place, places_of}
 use Rattle.board_rules.specs.Judging.{AreMoves, AreRight, Breaks, DoesAtOnce, FirstFails, IsAccepted, KeepToScript, MayCome, rule_of}
 use Rattle.board_rules.specs.Moves.{IsBoardRun, IsMove, OneByOne}
 use Rattle.board_rules.specs.Right.{IsAtOnce, IsRight}
@@ -45,7 +45,7 @@ accepted_before s h e all n f at =
     subst (λ (xs : List Entry). MayCome s xs f) (sym (front_is h e n (omega (arith, lt)))) (all n f (slice_get_left h (e ∷ []) n f at))
 
 -- The first act that fails.
-fails_at : (P : List Place → Place → Type 0) (xs bs : List Place) (a : Place) (rest : List Place) → OneByOne P xs (bs ++ a ∷ rest)
+pub fails_at : (P : List Place → Place → Type 0) (xs bs : List Place) (a : Place) (rest : List Place) → OneByOne P xs (bs ++ a ∷ rest)
     → P (xs ++ bs) a
 fails_at P xs [] a rest all = subst (λ (ys : List Place). P ys a) (sym (append-nil xs)) all.0
 fails_at P xs (b ∷ bs) a rest all =

@@ -1,8 +1,9 @@
 -- The places of two histories, one after the other, and what holds of each act.
-use Rattle.std.proofs.Common.{◌≡◌, ℕ, true, take, List, ◌∷◌, ◌++◌, refl, ap, sym, ◌∙◌, append_assoc, []}
+use Rattle.std.proofs.Common.{◌≡◌, ℕ, true, take, List, ◌∷◌, ◌++◌, refl, ap, sym, ◌∙◌, append_assoc, [], reverse}
 use Rattle.std.specs.Prelude.{◌||◌, ◌&&◌, ◌==◌, Option, Some, None, is_some}
 use Rattle.std.specs.Option.{option_or}
 use Rattle.std.proofs.lemmas.List.Folds.{list_any-append}
+use Rattle.std.proofs.lemmas.List.{append-nil, reverse-append}
 use Rattle.letter_types.specs.declared.entries.Entry.{Entry}
 use Rattle.board_rules.specs.Histories.{Place, applies, born_as, commits, does, places_at, places_of, version_in, was_applied, was_committed, was_done}
 use Rattle.board_rules.specs.Moves.{AtEachAct, OneByOne}
@@ -56,3 +57,9 @@ pub at_each_act_map : (P Q : List Entry → List Place → Place → Type 0) (h 
     → ((before : List Entry) (xs : List Place) (x : Place) → P before xs x → Q before xs x) → AtEachAct P h → AtEachAct Q h
 at_each_act_map P Q h step all = λ n e here.
     one_by_one_map (P (take n h)) (Q (take n h)) (places_of (take n h)) (places_at e) (step (take n h)) (all n e here)
+
+-- the acts of a past with one entry more
+pub places_more : (e : Entry) (past : List Entry) → places_of (reverse (e ∷ past)) ≡ places_of (reverse past) ++ places_at e
+places_more e past =
+    ap places_of (reverse-append (e ∷ []) past) ∙ places_of-append (reverse past) (e ∷ [])
+    ∙ ap (λ (xs : List Place). places_of (reverse past) ++ xs) (append-nil (places_at e))

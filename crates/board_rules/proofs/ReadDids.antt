@@ -114,7 +114,7 @@ closings_same : (s : ScriptData) (xs : List Place) (node : ℕ) (t : TreeNo) (k 
 closings_same s [] node t k values apart = ap (λ (b : Bool). with_closed (if b then Some t.0 else None) []) apart
 closings_same s (x ∷ xs) node t k values apart = ap (with_closed (commits_by s x.act)) (closings_same s xs node t k values apart)
 
-filter_same : (p q : ℕ → Bool) (ts : List ℕ) → ((t : ℕ) → p t ≡ q t) → filter p ts ≡ filter q ts
+pub filter_same : (p q : ℕ → Bool) (ts : List ℕ) → ((t : ℕ) → p t ≡ q t) → filter p ts ≡ filter q ts
 filter_same p q [] same = refl
 filter_same p q (t ∷ ts) same = let one = same t in let rest = filter_same p q ts same in cc
 

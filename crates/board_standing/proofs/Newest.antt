@@ -23,6 +23,7 @@ use Rattle.board_rules.specs.Worth.{changes, ops_change, subs_change}
 use Rattle.board_rules.proofs.ActTests.{applies_as_is, applies_as_one, as_commits, commits_as, decides_as_is, does_is}
 use Rattle.board_rules.proofs.Once.{clash, same_tests}
 use Rattle.board_rules.proofs.Positions.{found_all, taken_is, there}
+use Rattle.board_rules.proofs.ItemAt.{changed_in}
 use Rattle.board_standing.specs.declared.users.User.{User}
 use Rattle.board_standing.specs.Settled.{IsMoveRun}
 use Rattle.board_standing.specs.inside.Users.{changes_in, has_written, is_tree_of, newest_by, ops_users, subs_users, tree_users, trees_users, user_of, users_of, version_by}
@@ -236,12 +237,6 @@ changer x i (y ∷ subs) is = by (changer x (suc i) subs) (or_cases (ops_change 
   by : (subs_change x subs ≡ true → Changer x (suc i) subs) → (ops_change x y.ops ≡ true) ⊎ (subs_change x subs ≡ true) → Changer x i (y ∷ subs)
   by rest (inl here) = record { number = 0; sub = y; at = refl; changed = here }
   by rest (inr later) = let r = rest later in record { number = suc r.number; sub = r.sub; at = r.at; changed = r.changed }
-
-changed_in : (x j : ℕ) (subs : List Sub) (sub : Sub) → slice_get subs j ≡ Some sub → ops_change x sub.ops ≡ true → subs_change x subs ≡ true
-changed_in x j [] sub at is = absurd (cc at)
-changed_in x zero (y ∷ subs) sub at is =
-    let same : y ≡ sub = cc at in or_left (ops_change x y.ops) (subs_change x subs) (ap (λ (z : Sub). ops_change x z.ops) same ∙ is)
-changed_in x (suc j) (y ∷ subs) sub at is = or_right (ops_change x y.ops) (subs_change x subs) (changed_in x j subs sub at is)
 
 if_some : (b : Bool) (w n : ℕ) → 0 < w → nat_le w (if b then n else 0) ≡ true → (b ≡ true) × (nat_le w n ≡ true)
 if_some true w n lt is = (refl, is)

@@ -18,10 +18,11 @@ use Rattle.board_rules.specs.Serial.{commit_order, is_member_in, is_settled_in, 
 use Rattle.board_rules.specs.Stands.{version_or_zero}
 use Rattle.board_rules.specs.Worth.{after_ops, after_subs, after_tree, first_value, worth_in}
 use Rattle.board_rules.proofs.Places.{version_stays}
+use Rattle.board_rules.proofs.ReadDids.{filter_same}
 use Rattle.worth_steps.specs.Worth.{Noted, after_noted, in_order, noted_in, worth_of}
 use Rattle.board_standing.specs.Notes.{noted_on, ops_noted, subs_noted, tree_noted, trees_noted}
 use Rattle.board_standing.specs.Settled.{IsMoveRun, closes_in, settled_order}
-use Rattle.board_standing.proofs.OneMore.{filter_alike, filter_twice, settled_born, settled_order_more, with_last}
+use Rattle.board_standing.proofs.OneMore.{filter_twice, settled_born, settled_order_more, with_last}
 
 -- Deeds noted in one version.
 ops_in_version_by : (v u x : ℕ) (same : Bool) → (u == v) ≡ same → (os : List SubOp)
@@ -92,7 +93,7 @@ members_noted : (s : ScriptData) (xs : List Place) (v : ℕ) → IsValid s → I
     → filter (in_version xs v) (settled_order s xs) ≡ members_in s xs v
 members_noted s xs v valid run =
     filter_twice (in_version xs v) (is_settled_in s xs) (commit_order s xs)
-    ∙ filter_alike (λ (t : ℕ). is_settled_in s xs t && in_version xs v t) (is_member_in s xs v) (commit_order s xs)
+    ∙ filter_same (λ (t : ℕ). is_settled_in s xs t && in_version xs v t) (is_member_in s xs v) (commit_order s xs)
     (λ t. by t (is_settled_in s xs t) refl) where
       and_last : (b : Bool) → (b && true) ≡ b
       and_last true = refl

@@ -7,7 +7,7 @@ use Rattle.std.specs.Option.{option_or}
 use Rattle.std.proofs.lemmas.Bool.{and_from, and_parts, eqb-true, false_from_ne_true, or_cases, or_left, or_right}
 use Rattle.std.proofs.lemmas.List.{take_all}
 use Rattle.std.proofs.lemmas.List.Elements.{filter-append}
-use Rattle.std.proofs.lemmas.Option.{slice_get_within}
+use Rattle.std.proofs.lemmas.Option.{slice_get_within, cond_some}
 use Rattle.tv_base.proofs.Truths.{left_true, right_true, same_test}
 use Rattle.letter_types.specs.declared.acts.Act.{Act}
 use Rattle.letter_types.specs.declared.acts.Act.TheVariants.{Born, Did, Turned, Showed, Swept, Finished, Waits, Parked, Voted, Freed, Decided, Applied}
@@ -15,6 +15,7 @@ use Rattle.script_parts.specs.ScriptData.{ScriptData, subs_at, updates}
 use Rattle.script_parts.specs.Valid.{IsTree, IsValid}
 use Rattle.script_parts.specs.declared.parts.Sub.{Sub}
 use Rattle.script_parts.specs.declared.parts.Tree.{Tree}
+use Rattle.script_parts.proofs.SubsOf.{has_root}
 use Rattle.board_rules.specs.ButCause.{IsMoveButCause, IsMoveButCauseAt}
 use Rattle.board_rules.specs.Histories.{Place, all_done, born_as, commits, does, is_complete, is_strict_tree, is_whole_in, version_in, was_born, was_committed, was_done}
 use Rattle.board_rules.specs.Moves.{IsAskedBy, decides_as, was_decided_as}
@@ -28,6 +29,7 @@ use Rattle.board_rules.proofs.Places.{version_in-append, was_committed-append, w
 use Rattle.board_rules.proofs.Positions.{found_all, taken_is, there}
 use Rattle.board_rules.proofs.SerialOrder.{done_of}
 use Rattle.board_rules.proofs.Wholes.{any_more, born_version, strict_there, update_not_strict, updates_there, version_more, whole_done, whole_more}
+use Rattle.board_rules.proofs.ReadDids.{filter_same}
 
 -- A tree of a valid script has a root.
 abbrev subs_in : Option Tree → List Sub
@@ -39,9 +41,6 @@ rooted_by s t [] lt all found is = absurd (omega (arith, lt))
 rooted_by s zero (tree ∷ ts) lt all (Some u) is = let same : tree ≡ u = cc is in subst (λ (x : Tree). 0 < length x.subs) same all.0.root
 rooted_by s zero (tree ∷ ts) lt all None is = absurd (cc is)
 rooted_by s (suc t) (tree ∷ ts) lt all found is = rooted_by s t ts (omega (arith, lt)) all.1 found is
-
-pub has_root : (s : ScriptData) (t : ℕ) → IsValid s → t < length s.trees → 0 < length (subs_at s t)
-has_root s t valid lt = rooted_by s t s.trees lt valid.trees (slice_get s.trees t) refl
 
 -- What is done, or has voted, or is committed, is born.
 born_at : (t i : ℕ) (xs : List Place) → is_some (version_in t (take i xs)) ≡ true → was_born xs t ≡ true
@@ -228,10 +227,6 @@ settled_kept s xs x t valid run move never =
     (settled_more s xs (x ∷ []) t)
 
 -- The tree that the act closes didn't take effect before.
-chosen : (b : Bool) (m t : ℕ) → (if b then Some m else None) ≡ Some t → (b ≡ true) × (m ≡ t)
-chosen true m t is = (refl, cc is)
-chosen false m t is = absurd (cc is)
-
 pub asked_there : (had : ℕ → Bool) (k : ℕ) (ks : List Sub) → IsAskedBy had k (slice_get ks k) → k < length ks
 asked_there had k ks is = by (slice_get ks k) refl is where
   by : (found : Option Sub) → slice_get ks k ≡ found → IsAskedBy had k found → k < length ks
@@ -251,7 +246,7 @@ decided_once t xs none =
 not_yet_by : (s : ScriptData) (xs : List Place) (p : ℕ) (a : Act) (t : ℕ) → IsMoveButCauseAt s [] xs p a → commits_by s a ≡ Some t
     → is_settled_in s xs t ≡ true → ⊥
 not_yet_by s xs p (Did u j values) t move is settled =
-    let c = chosen (updates s u.0) u.0 t is in
+    let c = cond_some (updates s u.0) u.0 t is in
     let up : updates s t ≡ true = ap (updates s) (sym c.1) ∙ c.0 in
     let lt = asked_there (λ (k : ℕ). was_done u.0 k xs) j.0 (subs_at s u.0) move.asked in
     elim (or_cases (updates s t && is_whole_in s xs t) (is_strict_tree s t && was_committed t xs) settled) [
@@ -261,7 +256,7 @@ not_yet_by s xs p (Did u j values) t move is settled =
       | inr strict ↦ clash (is_strict_tree s t) (left_true (is_strict_tree s t) (was_committed t xs) strict) (update_not_strict s t up)
     ]
 not_yet_by s xs p (Decided u commit) t move is settled =
-    let c = chosen (is_strict_tree s u.0 && commit) u.0 t is in
+    let c = cond_some (is_strict_tree s u.0 && commit) u.0 t is in
     let strict : is_strict_tree s t ≡ true = ap (is_strict_tree s) (sym c.1) ∙ left_true (is_strict_tree s u.0) commit c.0 in
     let none : was_committed t xs ≡ false = decided_once t xs (subst (λ (m : ℕ). was_decided_as m true xs ≡ false) c.1 (move.once true)) in
     elim (or_cases (updates s t && is_whole_in s xs t) (is_strict_tree s t && was_committed t xs) settled) [
@@ -296,9 +291,6 @@ filter_every : (p : ℕ → Bool) (ts : List ℕ) → ((t : ℕ) → p t ≡ tru
 filter_every p [] all = refl
 filter_every p (t ∷ ts) all = rw (all t) (ap (λ (us : List ℕ). t ∷ us) (filter_every p ts all))
 
-pub filter_alike : (p q : ℕ → Bool) (ts : List ℕ) → ((t : ℕ) → p t ≡ q t) → filter p ts ≡ filter q ts
-filter_alike p q ts same = ap (λ (f : ℕ → Bool). filter f ts) (λ i t. same t i)
-
 -- the trees with one more, if there is one
 abbrev pub with_last : List ℕ → Option ℕ → List ℕ
 with_last ts None = ts
@@ -319,7 +311,7 @@ module _ (s : ScriptData) (xs : List Place) (x : Place) (valid : IsValid s) (run
   none_more (Some t) is none = absurd (cc none)
   none_more None is none =
       ap (filter after) (append-nil (filter (is_out []) order) ∙ filter_every (is_out []) order (λ t. refl))
-      ∙ filter_alike after before order (λ t. settled_kept s xs x t valid run move (λ closed. absurd (let no_one : None ≡ Some t = sym is ∙ closed in cc no_one)))
+      ∙ filter_same after before order (λ t. settled_kept s xs x t valid run move (λ closed. absurd (let no_one : None ≡ Some t = sym is ∙ closed in cc no_one)))
 
   -- but for the tree that the act may close, the same take effect after it as before
   others : (t u : ℕ) → commits_by s x.act ≡ Some t → (is_out (t ∷ []) u && after u) ≡ before u
@@ -335,7 +327,7 @@ module _ (s : ScriptData) (xs : List Place) (x : Place) (valid : IsValid s) (run
       → filter after (filter (is_out (t ∷ [])) order ++ t ∷ []) ≡ with_last (filter before order) (if closed then Some t else None)
   one_more t is closed now =
       filter-append after (filter (is_out (t ∷ [])) order) (t ∷ [])
-      ∙ ap (λ (ts : List ℕ). ts ++ filter after (t ∷ [])) (filter_twice after (is_out (t ∷ [])) order ∙ filter_alike (λ (u : ℕ). is_out (t ∷ []) u && after u) before order (λ u. others t u is))
+      ∙ ap (λ (ts : List ℕ). ts ++ filter after (t ∷ [])) (filter_twice after (is_out (t ∷ [])) order ∙ filter_same (λ (u : ℕ). is_out (t ∷ []) u && after u) before order (λ u. others t u is))
       ∙ last closed now where
         last : (b : Bool) → after t ≡ b → filter before order ++ filter after (t ∷ []) ≡ with_last (filter before order) (if b then Some t else None)
         last true now = rw now refl

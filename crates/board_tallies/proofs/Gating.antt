@@ -6,9 +6,10 @@ use Rattle.script_parts.specs.Counts.{is_advance}
 use Rattle.script_parts.specs.declared.parts.ScriptRow.{ScriptRow}
 use Rattle.script_parts.specs.declared.parts.ScriptRow.TheVariants as rows
 use Rattle.board_rules.specs.Gates.{is_settle_row}
+use Rattle.board_rules.proofs.Settles.{behind_other, behind_settle}
 use Rattle.board_tallies.specs.GateRows.{AreGatesFor, gate_behind, is_tree_row, rows_passing}
 use Rattle.board_tallies.specs.declared.gates.Gate.{Gate}
-use Rattle.board_tallies.proofs.Settling.{behind_other, behind_settle, gates_none, gates_push, gates_skip}
+use Rattle.board_tallies.proofs.Settling.{gates_none, gates_push, gates_skip}
 
 -- the gates of the rows so far, and the gate of a row that comes next
 pub record IsGated (rs : List ScriptRow) (trees advances : List Gate) (gate : Gate) : Type 0 where

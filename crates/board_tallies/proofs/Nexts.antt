@@ -7,6 +7,7 @@ use Rattle.std.proofs.lemmas.Bool.{ltb-false, or_parts}
 use Rattle.std.proofs.lemmas.List.{length-set}
 use Rattle.std.proofs.lemmas.List.Sums.{sum_by-cons}
 use Rattle.tv_base.specs.declared.numbers.TreeNo.{TreeNo}
+use Rattle.tv_base.proofs.Chosen.{if_zero}
 use Rattle.letter_types.specs.declared.acts.Act.{Act}
 use Rattle.letter_types.specs.declared.entries.Entry.{Entry}
 use Rattle.script_parts.specs.ScriptData.{ScriptData}
@@ -82,10 +83,6 @@ none_counted true p none =
 none_counted false p none =
     let some = or_parts (nat_lt 0 p.writers) (nat_lt 0 p.reads) none in omega (arith, ltb-false 0 p.writers some.0)
 
-counted_zero : (b : Bool) (n : ℕ) → n ≡ 0 → (if b then n else 0) ≡ 0
-counted_zero true n is = is
-counted_zero false n is = refl
-
 settled_by : (r : Bool) (v : ℕ) (p : Pending) (ps : List Pending) (b : Bool) → is_counted p ≡ b
     → pending_of r v (filter is_counted ps) ≡ pending_of r v ps
     → pending_of r v (cond b (p ∷ filter is_counted ps) (filter is_counted ps)) ≡ pending_of r v (p ∷ ps)
@@ -94,7 +91,7 @@ settled_by r v p ps true is rest =
     ∙ ap (λ (n : ℕ). counted_in r v p + n) rest
     ∙ sym (sum_by-cons (counted_in r v) p ps)
 settled_by r v p ps false is rest =
-    let none : counted_in r v p ≡ 0 = counted_zero (p.version.0 == v) (count_of r p) (none_counted r p is) in
+    let none : counted_in r v p ≡ 0 = if_zero (p.version.0 == v) (count_of r p) (none_counted r p is) in
     let more = sum_by-cons (counted_in r v) p ps in
     let same : pending_of r v ps ≡ pending_of r v (p ∷ ps) = omega (arith, none, more) in
     rest ∙ same

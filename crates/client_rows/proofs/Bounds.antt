@@ -1,6 +1,7 @@
 -- What every row of the client's table keeps.
 use Rattle.std.proofs.Common.{if◌then◌else◌, ◌≡◌, ℕ, ◌+◌, ◌≤◌, Bool, true, false, List, [], ◌∷◌, ◌++◌, length, take, drop, refl, sym, ◌∙◌, ap, arith}
 use Rattle.std.proofs.lemmas.List.{length-set, length-drop, length-replicate}
+use Rattle.tv_base.proofs.Chosen.{if_within}
 use Rattle.tx_trees.specs.ScriptData.{ScriptData}
 use Rattle.tx_trees.specs.declared.parts.ScriptRow.{ScriptRow}
 use Rattle.tx_trees.specs.declared.parts.ScriptRow.TheVariants.{Tree as TreeRow, Advance as AdvanceRow, Settle as SettleRow, Lose as LoseRow}
@@ -20,11 +21,6 @@ use Rattle.client_rows.specs.declared.news.Heard.{Heard}
 use Rattle.client_rows.specs.declared.news.Heard.TheVariants.{Nothing, Told, Asked}
 use Rattle.client_rows.proofs.Submits.{Submission, row-heard, state_after, submission-row}
 
--- where the client waits it submits fewer
-fewer : (b : Bool) (n m : ℕ) → n ≤ m → (if b then n else 0) ≤ m
-fewer true n m le = le
-fewer false n m le = omega arith
-
 -- no more rows are submitted than there are
 pub few_submitted : (c : Client) (before rows : List ScriptRow) → submitted c before rows ≤ length rows
 few_submitted c before [] = omega arith
@@ -32,7 +28,7 @@ few_submitted c before (TreeRow t ∷ rows) = omega (arith, few_submitted c (bef
 few_submitted c before (AdvanceRow ∷ rows) = omega (arith, few_submitted c (before ++ AdvanceRow ∷ []) rows)
 few_submitted c before (LoseRow ∷ rows) = omega (arith, few_submitted c (before ++ LoseRow ∷ []) rows)
 few_submitted c before (SettleRow ∷ rows) =
-    fewer (have_ended c before) (submitted c (before ++ SettleRow ∷ []) rows + 1) (length (SettleRow ∷ rows))
+    if_within (have_ended c before) (submitted c (before ++ SettleRow ∷ []) rows + 1) (length (SettleRow ∷ rows))
     (omega (arith, few_submitted c (before ++ SettleRow ∷ []) rows))
 
 -- the client stays within the rows

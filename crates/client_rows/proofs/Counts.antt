@@ -4,7 +4,7 @@ use Rattle.std.proofs.lemmas.List.{length-take, take-append-drop, take_more}
 use Rattle.tx_trees.specs.Adding.{advances_in}
 use Rattle.tx_trees.specs.declared.parts.ScriptRow.{ScriptRow}
 use Rattle.tx_trees.specs.declared.parts.ScriptRow.TheVariants.{Tree as TreeRow, Advance as AdvanceRow, Settle as SettleRow, Lose as LoseRow}
-use Rattle.tx_trees.proofs.Rebuilding.{advances_in-append}
+use Rattle.tx_trees.proofs.Rebuilding.{advances_in-append, asked_most}
 use Rattle.client_rows.specs.Kept.{trees_in, unanswered_in}
 use Rattle.client_rows.specs.inside.Places.{place_at}
 use Rattle.client_rows.specs.declared.places.Place.{Place}
@@ -53,16 +53,12 @@ few_advances (AdvanceRow ∷ xs) = omega (arith, few_advances xs)
 few_advances (SettleRow ∷ xs) = omega (arith, few_advances xs)
 few_advances (LoseRow ∷ xs) = omega (arith, few_advances xs)
 
--- a part of the rows asks for no more advancements than all, and so does that part with what comes after it
-pub few_asked : (n : ℕ) (rows : List ScriptRow) → advances_in (take n rows) ≤ advances_in rows
-few_asked n rows =
-    omega (arith, advances_in-append (take n rows) (drop n rows), ap advances_in (take-append-drop n rows))
-
+-- a part of the rows, with what comes after it, asks for no more advancements than all
 pub few_more_asked : (n m : ℕ) (rows : List ScriptRow)
     → advances_in (take n rows) + advances_in (take m (drop n rows)) ≤ advances_in rows
 few_more_asked n m rows = omega (
   arith,
-  few_asked m (drop n rows),
+  asked_most m (drop n rows),
   advances_in-append (take n rows) (drop n rows),
   ap advances_in (take-append-drop n rows),
 )
@@ -119,7 +115,7 @@ asked_next rows answered at d lt is here =
     let further : ◌≡◌ {A = Place} (record { next = at.next + 1; sent = at.sent; unanswered = at.unanswered; asked = at.asked + 1 })
     (place_at rows answered (at.next + 1)) =
     place_behind rows answered at d AdvanceRow at.sent at.unanswered (at.asked + 1) lt is here (omega arith) (omega arith) (omega arith) in
-    omega (arith, ap (λ (p : Place). p.asked) further, few_asked (at.next + 1) rows)
+    omega (arith, ap (λ (p : Place). p.asked) further, asked_most (at.next + 1) rows)
 
 -- the numbers of a place fit where the next row's does
 pub below_next : (rows : List ScriptRow) (answered : List Bool) (at : Place) → at ≡ place_at rows answered at.next → IsWithin at

@@ -14,7 +14,7 @@ use Rattle.letter_types.specs.declared.entries.Outgoing.{Outgoing}
 use Rattle.letter_types.specs.declared.entries.StepOut.{StepOut}
 use Rattle.letter_types.specs.Steps.{Out, still, made}
 use Rattle.world_model.specs.Client.{Client, have_ended, submitted, rows_letters, advances_sent, next_after, client_finishes, submit, wanted, client_row}
-use Rattle.world_model.specs.Lossy.{is_lossy}
+use Rattle.tx_trees.specs.Counts.{is_lossy}
 use Rattle.client_rows.specs.News.{answered_after, ended_after, client_with_news, sent_first}
 use Rattle.client_rows.specs.inside.Heard.{heard_of, heard_row, submit_at}
 use Rattle.client_rows.specs.inside.Places.{is_over}

@@ -7,7 +7,7 @@ ghost use Rattle.world_model.specs.Client.{advance_letter, rows_letters};
 ghost use Rattle.client_rows.specs.News.{sent_first};
 
 use crate::news::News;
-use letter_types::{Act, Acts, Body, Letters, Outgoing, StepOut};
+use letter_types::{Act, Acts, Body, Letters, Outgoing, StepOut, one_letter};
 use std::alloc::Global;
 use tv_base::{ActorNo, NoMemory};
 use tx_trees::{Script, ScriptRow};
@@ -34,11 +34,11 @@ fn sent_first(alloc: Global, script: &Script, news: News) -> Result<Letters, NoM
 }
 
 /// The letter that asks for the advancement after so many.
-fn advance(script: &Script, asked: u32) -> Body
+fn advance_letter(script: &Script, asked: u32) -> Body
     requires { asked + 1 < 2 ^ 32 }
     ensures { result ≡ advance_letter script.now asked }
 {
-    if script.loses() > 0 {
+    if script.is_lossy() {
         Body::AdvanceNo { advance: asked + 1 }
     } else {
         Body::Advance
@@ -65,7 +65,7 @@ fn letters(
                 body: Body::Root { tree },
             })?,
             ScriptRow::Advance => {
-                sent.push(to_coordinator(script, advance(script, asked)))?;
+                sent.push(to_coordinator(script, advance_letter(script, asked)))?;
                 asked += 1;
             }
             ScriptRow::Lose => sent.push(to_coordinator(script, Body::Lose))?,
@@ -109,18 +109,16 @@ pub(crate) fn wanted(
     alloc: Global,
     script: &Script,
     epoch: u64,
-    asked: u32,
+    advances: u32,
 ) -> Result<StepOut, NoMemory>
     ensures { IfOk result (λ out. out ≡ record {
-      sent = record { to = record { 0 = script.now.nodes }; body = Wanted epoch asked } ∷ [];
+      sent = record { to = record { 0 = script.now.nodes }; body = Wanted epoch advances } ∷ [];
       acts = [];
     }) }
 {
-    let mut sent = Letters::new(alloc);
-    let advances = asked;
-    sent.push(to_coordinator(script, Body::Wanted { epoch, advances }))?;
+    let body = Body::Wanted { epoch, advances };
     Ok(StepOut {
-        sent,
+        sent: one_letter(alloc, ActorNo(script.nodes()), body)?,
         acts: Acts::new(alloc),
     })
 }

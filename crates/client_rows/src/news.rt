@@ -41,7 +41,7 @@ pub(crate) fn heard_of(script: &Script, body: &Body) -> Heard
             Heard::Told(News::Answered(*tree))
         }
         Body::Advanced { version } => Heard::Told(news_of_end(script, *version)),
-        Body::Ask { epoch } if script.loses() > 0 => Heard::Asked(*epoch),
+        Body::Ask { epoch } if script.is_lossy() => Heard::Asked(*epoch),
         _ => Heard::Nothing,
     }
 }
@@ -51,7 +51,7 @@ pub(crate) fn heard_of(script: &Script, body: &Body) -> Heard
 fn news_of_end(script: &Script, version: Version) -> News
     ensures { result ≡ news_of_end script.now version }
 {
-    if script.loses() > 0 {
+    if script.is_lossy() {
         News::EndedTo(version)
     } else {
         News::Ended

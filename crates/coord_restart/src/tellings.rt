@@ -108,7 +108,7 @@ impl<'a> Tellings<'a> {
     }
 }
 
-/// The phase in which no advancement is under way: turning begins where one more is wanted than have ended.
+/// The phase in which no advancement is in progress: turning begins where one more is wanted than have ended.
 pub(crate) fn next_advance(wanted: u64, ended: u64) -> RestartPhase
     ensures { result ≡ next_advance wanted ended }
 {

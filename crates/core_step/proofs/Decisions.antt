@@ -2,6 +2,7 @@
 use Rattle.std.proofs.Common.{◌≡◌, ℕ, ◌<◌, ◌==◌, ◌&&◌, ◌||◌, Bool, true, false, not, List, [], ◌∷◌, length, refl, sym, ap, ◌∙◌, arith, Option, Some, None}
 use Rattle.std.specs.Prelude.{nat_lt}
 use Rattle.std.proofs.lemmas.Bool.Decides.{nat_tests}
+use Rattle.std.proofs.lemmas.Bool.{ltb-true}
 use Rattle.tv_base.specs.declared.numbers.SubNo.{SubNo}
 use Rattle.tv_base.specs.declared.numbers.TreeNo.{TreeNo}
 use Rattle.tv_base.specs.declared.numbers.Version.{Version}
@@ -47,9 +48,6 @@ decides_if s st t k values strict = by (answer_noted t k values st.homes) refl w
       sym (ap (λ (u : TreeNo). not (is_strict_at s u.0) || is_near st a.version) own
       ∙ ap (λ (b : Bool). not b || is_near st a.version) strict)
 
-pub is_less : (a b : ℕ) → nat_lt a b ≡ true → a < b
-is_less a b is = grind (arith, nat_tests)
-
 some_below : (k n : ℕ) → k < n → 0 < n
 some_below k n lt = omega (arith, lt)
 
@@ -86,8 +84,8 @@ is_notice s p from st t k v notice due =
     let all = notice_tests (home_of s t.0 == p) (nat_lt k.0 (length (subs_at s t.0))) (nat_lt from s.nodes)
     (suits (is_strict_at s t.0) notice) (is_near st v) due in
     record {
-      there = some_below k.0 (length (subs_at s t.0)) (is_less k.0 (length (subs_at s t.0)) all.0);
-      sent = is_less from s.nodes all.1;
+      there = some_below k.0 (length (subs_at s t.0)) (ltb-true k.0 (length (subs_at s t.0)) all.0);
+      sent = ltb-true from s.nodes all.1;
       near = all.2;
     }
 
@@ -120,7 +118,7 @@ is_decision s p from c t v commit apt =
     (is_strict_at s t.0) (can_decide s p t v commit c.node.items) apt in
     record {
       there = visits_some (subs_at s t.0) p all.0;
-      sent = is_less from s.nodes all.1;
+      sent = ltb-true from s.nodes all.1;
       near = all.2;
       strict = all.3;
       can = all.4;
@@ -142,4 +140,4 @@ pub is_ack : (s : ScriptData) (p from : ℕ) (c : Core) (t : TreeNo) (v : Versio
     → acked_apt s p from c t v ≡ true → IsAck s from c v
 is_ack s p from c t v apt =
     let all = ack_tests (has_strict s) (home_of s t.0 == p) (nat_lt from s.nodes) (is_near c.node v) apt in
-    record { sent = is_less from s.nodes all.0; near = all.1 }
+    record { sent = ltb-true from s.nodes all.0; near = all.1 }

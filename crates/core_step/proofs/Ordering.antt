@@ -2,6 +2,7 @@
 use Rattle.std.proofs.Common.{◌≡◌, ℕ, ◌<◌, ◌≤◌, ◌||◌, Bool, true, false, refl, sym, subst, ap, ◌∙◌, Option, Some, None, arith}
 use Rattle.std.specs.Prelude.{if◌then◌else◌, nat_lt}
 use Rattle.std.proofs.lemmas.Bool.Decides.{nat_tests}
+use Rattle.std.proofs.lemmas.Bool.{le-ltb, lt-ltb}
 use Rattle.tv_base.specs.declared.numbers.Version.{Version}
 use Rattle.letter_types.specs.declared.bodies.Body.{Body}
 use Rattle.letter_types.specs.declared.bodies.Body.TheVariants.{Ask, Numbers, Obeyed, Order}
@@ -110,17 +111,11 @@ plain_far s l n what v is far =
     (plain_apt s l.to.0 l.from.0 (core_of n) what v) far
 
 -- One of a coordinator that forgets: of an epoch before the node's
-is_before : (e d : ℕ) → e < d → nat_lt e d ≡ true
-is_before e d lt = grind (arith, nat_tests)
-
-isnt_before : (e d : ℕ) → d ≤ e → nat_lt e d ≡ false
-isnt_before e d le = grind (arith, nat_tests)
-
 pub old_order : (s : ScriptData) (l : Letter) (n : NodeCore) (e : ℕ) (what : What) (v : Version) (q : CorePrepared)
     → l.body ≡ Order e what v → IsCoreReady s l.to.0 n → e < n.epoch → q ≡ still_step → IsOwnPlan s l n (Does q)
 old_order s l n e what v q is ready before made =
     let c = core_of n in
-    let old = is_before e n.epoch before in
+    let old = lt-ltb e n.epoch before in
     own_done s l n (Order e what v) (still c) q is
     (sym (ap (λ (b : Bool). b || can_obey what v n.parts.turns) old) ∙ order_apt s l.to.0 l.from.0 c e what v) refl
     (sym (ap (λ (b : Bool). if b then still c else heard_in s e (Obeyed e what v)
@@ -133,7 +128,7 @@ pub far_order : (s : ScriptData) (l : Letter) (n : NodeCore) (e : ℕ) (what : W
 far_order s l n e what v is later far =
     plan_one s l n (Order e what v) (nat_lt e n.epoch || can_obey what v n.parts.turns) Still is
     (order_apt s l.to.0 l.from.0 (core_of n) e what v)
-    (ap (λ (b : Bool). b || can_obey what v n.parts.turns) (isnt_before e n.epoch later) ∙ far)
+    (ap (λ (b : Bool). b || can_obey what v n.parts.turns) (le-ltb e n.epoch later) ∙ far)
 
 -- and one that the node obeys
 obeyed_homes : (s : ScriptData) (e : ℕ) (what : What) (v : Version) (st : Node)
@@ -171,7 +166,7 @@ obeyed_done s p from c e what v later =
     obeyed_heard s p from c e what v
     ∙ sym (ap (λ (b : Bool). if b then still c else heard_in s e (Obeyed e what v)
     (if was_obeyed what v c.node then still c else in_core c (row s p c.node from (plain_order what v))))
-    (isnt_before e c.epoch later))
+    (le-ltb e c.epoch later))
 
 either_true : (a b : Bool) → b ≡ true → true ≡ (a || b)
 either_true a b is = grind arith
@@ -196,7 +191,7 @@ old_ask s l n e q is ready before made =
     let c = core_of n in
     own_done s l n (Ask e) (still c) q is (ask_apt s l.to.0 l.from.0 c e) refl
     (sym (ap (λ (b : Bool). if b then still c else heard_in s e
-    (Numbers e c.node.turns.update c.node.turns.read c.node.turns.low) (still c)) (is_before e n.epoch before)))
+    (Numbers e c.node.turns.update c.node.turns.read c.node.turns.low) (still c)) (lt-ltb e n.epoch before)))
     (still_done s l.to.0 n q ready made)
 
 -- and in one that it hears of
@@ -205,7 +200,7 @@ asked_done : (s : ScriptData) (c : Core) (e : ℕ) → c.epoch ≤ e
     ≡ ask_core s e c
 asked_done s c e later =
     sym (ap (λ (b : Bool). if b then still c else heard_in s e
-    (Numbers e c.node.turns.update c.node.turns.read c.node.turns.low) (still c)) (isnt_before e c.epoch later))
+    (Numbers e c.node.turns.update c.node.turns.read c.node.turns.low) (still c)) (le-ltb e c.epoch later))
 
 pub ask_plan : (s : ScriptData) (l : Letter) (n : NodeCore) (e : ℕ) (p : Prepared) (q : CorePrepared) → l.body ≡ Ask e
     → IsCoreReady s l.to.0 n → n.epoch ≤ e

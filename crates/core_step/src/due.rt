@@ -6,7 +6,6 @@ ghost use Rattle.tree_home.specs.HeldAnswers.{held_answers, held_in};
 ghost use Rattle.tree_home.specs.Homes.{open_trees};
 ghost use Rattle.tx_trees.specs.ScriptData.{node_of, sub_at};
 ghost use Rattle.world_model.specs.Epochs.{is_of_coordinator, is_of_forgetting, is_of_remembering};
-ghost use Rattle.world_model.specs.Lossy.{is_lossy};
 ghost use Rattle.world_model.specs.Named.{is_strict_at};
 ghost use Rattle.world_model.specs.Notices.{answer_noted, values_of};
 ghost use Rattle.world_model.specs.Strict.{is_near_answer, is_unheld};
@@ -62,18 +61,11 @@ fn is_of_remembering(body: &Body) -> bool
     )
 }
 
-/// Whether a row of the script makes its coordinator forget.
-fn is_lossy(script: &Script) -> bool
-    ensures { result ≡ is_lossy script.now }
-{
-    script.loses() != 0
-}
-
-/// Whether a letter is one that the script's coordinator has.
+/// Whether a letter is none that only the other kind of coordinator has, which the script doesn't run.
 pub(crate) fn is_of_coordinator(script: &Script, body: &Body) -> bool
     ensures { result ≡ is_of_coordinator script.now body.now }
 {
-    if is_lossy(script) {
+    if script.is_lossy() {
         return !is_of_remembering(body);
     }
     !is_of_forgetting(body)

@@ -333,7 +333,7 @@ fn plan_wake(
     Ok(CorePlan::Does(still_step(alloc)?))
 }
 
-/// What a core does with a letter that the script's coordinator has.
+/// What a core does with a letter that the script's kind of coordinator allows.
 #[inline(always)]
 fn plan_own(
     alloc: Global,

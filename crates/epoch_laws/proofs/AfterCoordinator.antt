@@ -1,5 +1,6 @@
 -- What is left to show of an entry of the coordinator, once its letters are as they should be.
 use Rattle.std.proofs.Common.{◌≡◌, ◌⊎◌, inl, inr, ℕ, ◌+◌, ◌<◌, ◌≤◌, List, ◌∷◌, refl, ap, arith}
+use Rattle.std.proofs.lemmas.Bool.{cases_lt}
 use Rattle.letter_types.specs.declared.bodies.Body.{Body}
 use Rattle.letter_types.specs.declared.bodies.Body.TheVariants.{Go, Advanced, Ask, AskAsked, AskDone, Numbers, Obeyed, Order, Show, Sweep, Turn}
 use Rattle.letter_types.specs.declared.entries.Entry.{Entry}
@@ -184,13 +185,10 @@ pub record IsNewlySilent (s : ScriptData) (past : List Entry) (v : ℕ) : Type 0
   pub silent : IsSilent s past v
   pub closed : Closed s past v
 
-under_or : (v m : ℕ) → (v < m) ⊎ (m ≤ v)
-under_or v m = grind arith
-
 silent_now : (s : ScriptData) (past : List Entry) (e : Entry) → IsTreeLawful s → IsStepRun s (e ∷ past) → AllApt s (e ∷ past) → IsGood s past
     → ((v : ℕ) → greatest_given SweepStage past ≤ v → v < greatest_given SweepStage (e ∷ past) → IsNewlySilent s past v)
     → (v : ℕ) → v < greatest_given SweepStage (e ∷ past) → IsSilent s (e ∷ past) v
-silent_now s past e laws run apt good new v lt = by (under_or v (greatest_given SweepStage past)) where
+silent_now s past e laws run apt good new v lt = by (cases_lt v (greatest_given SweepStage past)) where
   by : (v < greatest_given SweepStage past) ⊎ (greatest_given SweepStage past ≤ v) → IsSilent s (e ∷ past) v
   by (inl old) = silent_stays s past e v laws run apt (good.silent v old) (closed_below s past v good old)
   by (inr from) = let n = new v from lt in silent_stays s past e v laws run apt n.silent n.closed

@@ -13,15 +13,14 @@ use Rattle.tx_trees.specs.Valid.{IsValid}
 use Rattle.world_model.specs.Advancing.{to_coordinator}
 use Rattle.world_model.specs.Client.{Client, advances_sent, nudge, rows_letters, submit, submitted, wanted, with_answer, with_end}
 use Rattle.world_model.specs.Counts.{Each}
-use Rattle.world_model.specs.Lossy.{is_lossy}
+use Rattle.script_parts.specs.Counts.{is_lossy}
 use Rattle.world_model.specs.Node.{Node}
 use Rattle.world_model.specs.Runs.{IsStepRun, client_in, keeping_in, node_in}
-use Rattle.world_model.proofs.EachOutstanding.{each_took}
 use Rattle.world_model.proofs.Every.{each_append, each_map}
 use Rattle.world_model.proofs.Nexts.{MadeByClient, Order, Shows, Sweeps, TellsAsked, TellsDone, Turns}
 use Rattle.world_model.proofs.Sends.{OfRows, rows_each}
-use Rattle.strict_laws.specs.Meant.{IsLetterMeant, IsMeant}
-use Rattle.strict_laws.proofs.Meant.{letters_are_meant}
+use Rattle.strict_laws.specs.Meant.{IsMeant}
+use Rattle.strict_laws.proofs.Meant.{took_meant}
 use Rattle.phase_laws.proofs.Heeds.{AreWakes, Heed, IsWake}
 use Rattle.phase_laws.proofs.Heeds.{Answers as HeedAnswers, Leaves as HeedLeaves, Obeys as HeedObeys, Repeats as HeedRepeats}
 use Rattle.phase_laws.proofs.Progress.{Asked, Begins, Coordinates, Course, Ends, Hears, Obeys as ObeysOrder, Restarts, WakesFor, Work, are_wakes}
@@ -77,10 +76,6 @@ pub data Aside (s : ScriptData) (past : List Entry) (e : Entry) : Type 0 where
   Counts : (p : ℕ) → TellsCounts s past e p → Aside s past e
   Heeds : (p : ℕ) → e.actor.0 ≡ p → p < s.nodes → Heed s (keeping_in s past p).core (keeping_in s (e ∷ past) p).core e.took.body e.sent
       → Aside s past e
-
--- The letter that is taken is meant for its actor, so it is none of a coordinator that remembers.
-pub took_meant : (s : ScriptData) (past : List Entry) (e : Entry) → IsValid s → IsStepRun s (e ∷ past) → IsLetterMeant s e.took
-took_meant s past e valid run = each_took (IsLetterMeant s) s past e run.0 (letters_are_meant s past valid run.1)
 
 took_as : (s : ScriptData) (past : List Entry) (e : Entry) (body : Body) → IsValid s → IsStepRun s (e ∷ past)
     → e.took.body ≡ body

@@ -15,10 +15,10 @@ use Rattle.script_parts.specs.Counts.{advances_in}
 use Rattle.tx_trees.specs.ScriptData.{ScriptData}
 use Rattle.world_model.specs.Client.{Client}
 use Rattle.world_model.specs.Coordinator.{to_nodes}
-use Rattle.world_model.specs.Counts.{Each, one_if, tally}
+use Rattle.world_model.specs.Counts.{Each, tally}
 use Rattle.world_model.specs.Keeping.{KeepingNode}
 use Rattle.world_model.specs.Runs.{MayFollow, client_in, in_flight, keeping_in, restarting_in}
-use Rattle.world_model.proofs.Bags.{tally-append, tally-drop}
+use Rattle.world_model.proofs.Bags.{tally-append, tally-drop, one_if_and, one_if_both, one_if_other, one_if_same, tally_most}
 use Rattle.world_model.proofs.Every.{each_append, each_map, each_none, each_sealed, each_zero}
 use Rattle.world_model.proofs.Flows.{client_kept}
 use Rattle.world_model.proofs.Outstanding.{keeping_elsewhere}
@@ -53,14 +53,11 @@ each_after P s past e old new =
     each_append P (left_of s past e) (letters_of e) old (each_sealed P e.stamp.0 e.actor.0 0 e.sent new)
 
 -- Orders and answers of the present epoch, where the coordinator waits for none.
-apart : (a b : ℕ) → a ≢ b → one_if (a == b) ≡ 0
-apart a b ne = grind (arith, nat_tests)
-
 token_none : (e from to : ℕ) (body : Body) (s : ScriptData) (past : List Entry) → e ≡ (restarting_in s past).epoch
     → ((what : What) (v : Version) → IsCurrent (restarting_in s past) what v → ⊥) → IsRight s past from to body → token e from to body ≡ 0
 token_none e from to (Order d what v) s past same calm right =
-    apart d e (λ is. calm what v (right.current (is ∙ same)))
-token_none e from to (Obeyed d what v) s past same calm right = apart d e (λ is. calm what v (right.current (is ∙ same)))
+    one_if_other d e (λ is. calm what v (right.current (is ∙ same)))
+token_none e from to (Obeyed d what v) s past same calm right = one_if_other d e (λ is. calm what v (right.current (is ∙ same)))
 token_none e from to Go s past same calm right = refl
 token_none e from to _ s past same calm right = refl
 
@@ -83,20 +80,11 @@ none_left s past e m last =
     each_zero f (left_of s past e) (omega (arith, last, tally-drop f e.took.id (in_flight s past) e.took m.waits))
 
 -- An order to a node is one of the epoch's letters.
-and_most : (a b : Bool) → one_if (a && b) ≤ one_if a
-and_most true true = omega arith
-and_most true false = omega arith
-and_most false b = omega arith
-
 pub order_most : (e q from to : ℕ) (body : Body) → order_to e q from to body ≤ token e from to body
-order_most e q from to (Order d what v) = and_most (d == e) (to == q)
+order_most e q from to (Order d what v) = one_if_and (d == e) (to == q)
 order_most e q from to (Obeyed d what v) = omega arith
 order_most e q from to Go = omega arith
 order_most e q from to _ = omega arith
-
-tally_most : (f g : Letter → ℕ) (ls : List Letter) → ((l : Letter) → f l ≤ g l) → tally f ls ≤ tally g ls
-tally_most f g [] le = omega arith
-tally_most f g (l ∷ ls) le = omega (arith, le l, tally_most f g ls le)
 
 pub orders_most : (s : ScriptData) (past : List Entry) (e q : ℕ) → going (order_to e q) s past ≤ going (token e) s past
 orders_most s past e q =
@@ -104,18 +92,12 @@ orders_most s past e q =
     (λ l. order_most e q l.from.0 l.to.0 l.body)
 
 -- Orders to all nodes.
-same_one : (a : ℕ) → one_if (a == a) ≡ 1
-same_one a = grind (arith, nat_tests)
-
-both_one : (a b : ℕ) → one_if ((a == a) && (b == b)) ≡ 1
-both_one a b = grind (arith, nat_tests)
-
 pub orders_tokens : (n e a : ℕ) (what : What) (v : Version) → tally (leaving (token e) a) (to_nodes n (Order e what v)) ≡ n
 orders_tokens zero e a what v = refl
 orders_tokens (suc n) e a what v =
     omega (
       arith,
-      same_one e,
+      one_if_same e,
       orders_tokens n e a what v,
       tally-append (leaving (token e) a) (to_nodes n (Order e what v)) (record { to = record { 0 = n }; body = Order e what v } ∷ []),
     )
@@ -137,4 +119,4 @@ nodes_sent f (suc n) a body q lt one = by (nodes_sent f n a body q) (below_or q 
   by rest (inr is) = omega (arith, split, one, ap (λ (k : ℕ). f a k body) is)
 
 pub order_sent : (n e a : ℕ) (what : What) (v : Version) (q : ℕ) → q < n → 1 ≤ tally (leaving (order_to e q) a) (to_nodes n (Order e what v))
-order_sent n e a what v q lt = nodes_sent (order_to e q) n a (Order e what v) q lt (omega (arith, both_one e q))
+order_sent n e a what v q lt = nodes_sent (order_to e q) n a (Order e what v) q lt (omega (arith, one_if_both e q))

@@ -10,12 +10,11 @@ use Rattle.letter_types.specs.declared.entries.Entry.{Entry}
 use Rattle.letter_types.specs.declared.entries.Letter.{Letter}
 use Rattle.letter_types.specs.declared.entries.Outgoing.{Outgoing}
 use Rattle.letter_types.specs.Steps.{Out}
-use Rattle.tx_trees.specs.Counts.{advances_in}
+use Rattle.tx_trees.specs.Counts.{advances_in, is_lossy}
 use Rattle.tx_trees.specs.ScriptData.{ScriptData}
 use Rattle.tx_trees.specs.Valid.{IsValid}
 use Rattle.world_model.specs.AllApt.{AllApt}
 use Rattle.world_model.specs.Counts.{tally}
-use Rattle.world_model.specs.Lossy.{is_lossy}
 use Rattle.world_model.specs.Restarting.{Restarting, forget, least_low, phase_by, restarting_row, resume, with_advances}
 use Rattle.world_model.specs.Runs.{IsStepRun, MayFollow, restarting_in}
 use Rattle.world_model.specs.declared.restarting.RestartPhase.{RestartPhase}

@@ -18,23 +18,23 @@ use Rattle.tx_trees.specs.ScriptData.{ScriptData, client_of}
 use Rattle.world_model.specs.AllApt.{AllApt}
 use Rattle.world_model.specs.Client.{Client}
 use Rattle.world_model.specs.Counts.{one_if, tally}
-use Rattle.world_model.specs.Lossy.{is_lossy}
+use Rattle.script_parts.specs.Counts.{is_lossy}
 use Rattle.world_model.specs.Restarting.{Restarting, after_doing, begin_counting, end_counting, enter, in_restart_phase, least_low, next_advance, restarting_row, resume, with_wanted}
 use Rattle.world_model.specs.Runs.{IsStepRun, MayFollow, client_in, in_flight, restarting_in}
-use Rattle.world_model.specs.declared.restarting.RestartPhase.{RestartPhase}
 use Rattle.world_model.specs.declared.restarting.RestartPhase.TheVariants.{Idle, Recovering, Doing, Counting, Paused}
 use Rattle.world_model.proofs.Flows.{client_kept, flow}
 use Rattle.world_model.proofs.Sends.{on}
 use Rattle.strict_laws.specs.Meant.{IsMeant}
+use Rattle.strict_laws.proofs.Meant.{took_meant}
 use Rattle.phase_laws.specs.Phases.{count_in_flight}
 use Rattle.phase_laws.proofs.ClientSteps.{Aside, Begins, ClientStep, Ends as HearsEnd, Hears, Tells, client_step}
 use Rattle.phase_laws.proofs.Lawful.{IsTreeLawful}
 use Rattle.phase_laws.proofs.Progress.{MadeByRestarting, TellsAnew, restarts, told_anew}
-use Rattle.epoch_laws.proofs.Aside.{end_is, took_meant}
+use Rattle.epoch_laws.proofs.Aside.{end_is}
 use Rattle.epoch_laws.proofs.AtCoordinator.{client_stays}
 use Rattle.epoch_laws.proofs.Away.{restarting_kept}
 use Rattle.epoch_laws.proofs.Recovers.{still_covered}
-use Rattle.epoch_laws.proofs.RecoverSteps.{HasHeard, Knows, Misses, Recovery, recovery}
+use Rattle.epoch_laws.proofs.RecoverSteps.{HasHeard, Knows, Misses, Recovery, recovery, knows_by}
 use Rattle.epoch_laws.proofs.WantSteps.{more_waits, most_rises, one_most, some_most}
 use Rattle.epoch_laws.proofs.RestartSteps.{RestartStep, asked_kept, asks_with, done_kept, restart_step}
 use Rattle.epoch_laws.proofs.RestartSteps.{Acks, Agrees, Ends, Flags, Forgets, Goes, KeepsAsked, KeepsDone, Pauses, Recounts, Recovers, Rests, Resumes, Wants}
@@ -52,9 +52,6 @@ HearsAll s past c = Knows c.phase
 -- 1. Each step of the coordinator leaves how many have ended, or tells the client.
 abbrev TellsEnd : Restarting → Out Restarting → Type 0
 TellsEnd c out = (Knows c.phase × (out.state.ended ≡ c.ended)) ⊎ (1 ≤ tally (on (tells_end out.state.ended)) out.sent)
-
-knows_by : (a b : RestartPhase) → a ≡ b → Knows b → Knows a
-knows_by a b is knows = λ at. knows (sym is ∙ at)
 
 same_end : (c : Restarting) (out next : Out Restarting) → out ≡ next → Knows c.phase → next.state.ended ≡ c.ended
     → TellsEnd c out

@@ -16,7 +16,7 @@ use Rattle.tx_trees.specs.ScriptData.{ScriptData}
 use Rattle.world_model.specs.AllApt.{AllApt}
 use Rattle.world_model.specs.Counts.{Each}
 use Rattle.world_model.specs.Keeping.{KeepingNode}
-use Rattle.world_model.specs.Lossy.{is_lossy}
+use Rattle.script_parts.specs.Counts.{is_lossy}
 use Rattle.world_model.specs.Restarting.{AllTold, Restarting, restarting_row}
 use Rattle.world_model.specs.Runs.{IsStepRun, in_flight, restarting_in}
 use Rattle.world_model.specs.declared.restarting.RestartPhase.{RestartPhase}
@@ -30,11 +30,11 @@ use Rattle.phase_laws.proofs.Outcomes.{one_more_is}
 use Rattle.phase_laws.proofs.Progress.{MadeByRestarting, course, restarts}
 use Rattle.epoch_laws.proofs.Aside.{aside}
 use Rattle.epoch_laws.proofs.AtCoordinator.{node_stays}
-use Rattle.epoch_laws.proofs.ExactAside.{IsExact, each_now, exact_aside, heard_now, near_now}
+use Rattle.epoch_laws.proofs.ExactAside.{IsExact, each_now, exact_aside, near_now}
 use Rattle.epoch_laws.proofs.ExactSteps.{AreExact, AreNear, IsExactFor, IsNearIn, IsNoFurther, IsStill, IsStillTold, exact_out}
 use Rattle.epoch_laws.proofs.Few.{IsFew, few}
 use Rattle.epoch_laws.proofs.Forgetting.{all_good}
-use Rattle.epoch_laws.proofs.Good.{AllGood, IsGood, IsRight, turns_in}
+use Rattle.epoch_laws.proofs.Good.{AllGood, IsGood, IsRight, turns_in, heard_now}
 use Rattle.epoch_laws.proofs.RecoverSteps.{Forgot, HasMore, IsWanted, Stays, Waiting, waiting}
 use Rattle.epoch_laws.proofs.RestartCounts.{good_now}
 use Rattle.epoch_laws.proofs.RestartSteps.{HearsMore, OfClient, OfNode, RestartStep, restart_step}

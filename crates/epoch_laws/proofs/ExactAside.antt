@@ -2,8 +2,8 @@
 -- coordinator has forgotten heeds no order before it goes on, and then only those of its phase.
 use Rattle.std.proofs.Common.{◌≡◌, ◌≢◌, ◌⊎◌, inl, inr, ℕ, ◌+◌, ◌<◌, ◌≤◌, Bool, true, false, List, ◌∷◌, refl, sym, ap, subst, ◌∙◌, arith}
 use Rattle.std.proofs.lemmas.Bool.{cases_eq}
-use Rattle.tv_base.specs.Outside.{one_more}
 use Rattle.tv_base.specs.declared.numbers.Version.{Version}
+use Rattle.tv_base.proofs.Chosen.{one_more_most}
 use Rattle.letter_types.specs.declared.bodies.Body.{Body}
 use Rattle.letter_types.specs.declared.bodies.Body.TheVariants.{Go, Order, Numbers}
 use Rattle.letter_types.specs.declared.bodies.What.{What}
@@ -34,7 +34,7 @@ use Rattle.epoch_laws.proofs.Aside.{Answered, Aside, Asks, Bare, Counts, Heeds, 
 use Rattle.epoch_laws.proofs.Away.{restarting_kept}
 use Rattle.epoch_laws.proofs.ExactSteps.{AreExact, IsExactFor, IsNearIn, IsNoFurther, IsStill, IsStillTold}
 use Rattle.epoch_laws.proofs.Few.{IsFew, few}
-use Rattle.epoch_laws.proofs.Good.{IsCurrent, IsGood, IsHeard, IsInPhase, IsOrder, IsRight, IsSteady, epoch_in, turns_in}
+use Rattle.epoch_laws.proofs.Good.{IsCurrent, IsGood, IsInPhase, IsOrder, IsRight, IsSteady, epoch_in, turns_in, heard_now}
 use Rattle.epoch_laws.proofs.GoodOutcomes.{few_ended}
 use Rattle.epoch_laws.proofs.RecoverSteps.{Knows}
 use Rattle.epoch_laws.proofs.Rising.{took_right}
@@ -63,10 +63,6 @@ near_now s past laws few good = λ knows.
       low = λ q lt. omega (arith, (good.within q lt).low_swept, steady.up_to.swept);
       read = λ q lt. omega (arith, (good.within q lt).read_showed, steady.up_to.showed);
     }
-
-pub heard_now : (s : ScriptData) (past : List Entry) → IsGood s past → (restarting_in s past).phase ≡ Recovering
-    → IsHeard s past
-heard_now s past good waits = subst (λ (phase : RestartPhase). IsInPhase s past phase) waits good.phased
 
 -- A node that has heard of the coordinator's epoch reads and keeps what it did, or obeys an order of the present phase.
 pub data Moved (c : Restarting) (old new : Turns) : Type 0 where
@@ -144,9 +140,6 @@ still_moved : (c : Restarting) (old new : Turns) (r l : Version) → c.phase ≡
 still_moved c old new r l waits (Stood read low) was = record { read = read ∙ was.read; low = low ∙ was.low }
 still_moved c old new r l waits (Heeded what v current is) was = absurd (cc (sym waits ∙ current.phase))
 
-one_most : (f : ℕ) → one_more f ≤ f + 1
-one_most f = omega arith
-
 in_present : (c : Restarting) (old new : Turns) (what : What) (v : Version) (phase : RestartPhase) → c.phase ≡ phase
     → IsCurrent c what v
     → (IsNoFurther (Doing what) c.ended old → IsNoFurther (Doing what) c.ended new) → IsNoFurther phase c.ended old
@@ -170,14 +163,14 @@ further_moved c old new phase at (Heeded ToShow v current is) was =
     in_present c old new ToShow v phase at current
     (λ before. record {
       low = omega (arith, low, before.low);
-      read = omega (arith, read, current.version, one_most c.ended);
+      read = omega (arith, read, current.version, one_more_most c.ended);
     }) was
 further_moved c old new phase at (Heeded ToSweep v current is) was =
     let read : new.read.0 ≡ old.read.0 = ap (λ (t : Turns). t.read.0) is in
     let low : new.low.0 ≡ v.0 = ap (λ (t : Turns). t.low.0) is in
     in_present c old new ToSweep v phase at current
     (λ before. record {
-      low = omega (arith, low, current.version, one_most c.ended);
+      low = omega (arith, low, current.version, one_more_most c.ended);
       read = omega (arith, read, before.read);
     }) was
 

@@ -5,6 +5,7 @@ use Rattle.std.specs.Prelude.{if◌then◌else◌, max, nat_lt, not, slice_set}
 use Rattle.std.specs.List.{list_any}
 use Rattle.std.proofs.lemmas.Bool.Decides.{nat_tests}
 use Rattle.std.proofs.lemmas.List.{length-set}
+use Rattle.std.proofs.lemmas.Bool.{eqb-false}
 use Rattle.tv_base.specs.Outside.{one_more}
 use Rattle.tv_base.specs.declared.numbers.Version.{Version}
 use Rattle.letter_types.specs.declared.bodies.Body.{Body}
@@ -128,9 +129,6 @@ none_passes test (o ∷ ts) (suc q) t none has = none_passes test ts q t (either
 not_other : (a f : ℕ) → not (a == f) ≡ false → a ≡ f
 not_other a f is = grind (arith, nat_tests)
 
-is_other : (a v : ℕ) → (a == v) ≡ false → a ≢ v
-is_other a v is = grind (arith, nat_tests)
-
 at_most : (a f v : ℕ) → a ≤ f + 1 → v ≡ f + 1 → a ≢ v → a ≤ f
 at_most a f v le is ne = grind arith
 
@@ -150,7 +148,7 @@ reads_are : (n : ℕ) (ts : AllTold) (at : ℕ → Turns) (f q : ℕ) → HasTol
     → list_any (read_is (one_more f)) ts ≡ false → q < n → (at q).read.0 ≤ f
 reads_are n ts at f q told near none lt =
     let (t, has) = told.all q lt in
-    let other : t.read.0 ≢ one_more f = is_other t.read.0 (one_more f) (none_passes (read_is (one_more f)) ts q t none has) in
+    let other : t.read.0 ≢ one_more f = eqb-false t.read.0 (one_more f) (none_passes (read_is (one_more f)) ts q t none has) in
     let is : (at q).read.0 ≡ t.read.0 = (told.are q t lt has).read in
     at_most (at q).read.0 f (one_more f) (near.read q lt) (one_more_is f (omega (arith, near.small)))
     (λ same. other (sym is ∙ same))

@@ -10,16 +10,15 @@ use Rattle.letter_types.specs.declared.entries.Letter.{Letter}
 use Rattle.letter_types.specs.declared.entries.Outgoing.{Outgoing}
 use Rattle.letter_types.specs.Steps.{Out}
 use Rattle.tx_trees.specs.ScriptData.{ScriptData, client_of}
-use Rattle.tx_trees.specs.Counts.{advances_in, loses_in}
+use Rattle.tx_trees.specs.Counts.{advances_in, loses_in, is_lossy}
 use Rattle.tx_trees.specs.declared.parts.ScriptRow.{ScriptRow}
 use Rattle.tx_trees.specs.declared.parts.ScriptRow.TheVariants.{Tree as TreeRow, Advance as AdvanceRow, Settle as SettleRow, Lose as LoseRow}
-use Rattle.tx_trees.proofs.Rebuilding.{advances_in-append, loses_in-append}
+use Rattle.tx_trees.proofs.Rebuilding.{advances_in-append, loses_in-append, asked_most}
 use Rattle.world_model.specs.Advancing.{to_coordinator}
 use Rattle.world_model.specs.AllApt.{AllApt}
 use Rattle.world_model.specs.Client.{Client, advances_sent, nudge, rows_letters, submit, submitted, wanted, with_answer, with_end}
 use Rattle.world_model.specs.Core.{Core}
 use Rattle.world_model.specs.Counts.{Each, tally}
-use Rattle.world_model.specs.Lossy.{is_lossy}
 use Rattle.world_model.specs.Node.{Node}
 use Rattle.world_model.specs.Restarting.{Restarting, restarting_row}
 use Rattle.world_model.specs.Runs.{IsStepRun, MayFollow, client_in, in_flight, keeping_in, node_in, restarting_in}
@@ -36,7 +35,6 @@ use Rattle.phase_laws.specs.Phases.{count_in_flight}
 use Rattle.phase_laws.proofs.Heeds.{AreWakes, Heed, IsWake, Leaves, Answers, Repeats, Obeys as HeedObeys}
 use Rattle.phase_laws.proofs.Lawful.{IsTreeLawful}
 use Rattle.phase_laws.proofs.Progress.{Asked, Begins, Coordinates, Course, Ends, Hears, Heeds, MadeByRestarting, Obeys, Restarts, Works, are_wakes, course, restarts}
-use Rattle.phase_laws.proofs.Small.{asked_most}
 use Rattle.phase_laws.proofs.Working.{SentIn}
 use Rattle.epoch_laws.proofs.FewRounds.{AreSmall, StaysSmall, is_lose_letter, more_small, stays_small}
 use Rattle.epoch_laws.proofs.RestartSteps.{restart_step}

@@ -5,6 +5,7 @@ use Rattle.std.specs.List.{list_all, list_any}
 use Rattle.std.proofs.Math.Nat.{max-le, min-le_left}
 use Rattle.std.proofs.lemmas.Bool.Decides.{nat_tests}
 use Rattle.tv_base.specs.Outside.{one_more}
+use Rattle.tv_base.proofs.Chosen.{one_more_most}
 use Rattle.phase_out.specs.Counts.{nudged}
 use Rattle.letter_types.specs.declared.bodies.Body.{Body}
 use Rattle.letter_types.specs.declared.bodies.Body.TheVariants.{AdvanceNo, Go, Lose, Wanted}
@@ -79,9 +80,6 @@ pub record StaysSmall (a m n : ℕ) (c : Restarting) (body : Body) (d : Restarti
   pub small : AreSmall a m (n + is_nudge body) d
 
 -- Numbers that stop at their type's end.
-one_more_most : (n : ℕ) → one_more n ≤ n + 1
-one_more_most n = min-le_left (n + 1) (2 ^ 64 - 1)
-
 first_most : (epoch : ℕ) → first_number epoch ≤ epoch * 2 ^ 32
 first_most epoch = min-le_left (epoch * 2 ^ 32) (2 ^ 64 - 1)
 

@@ -3,7 +3,7 @@
 use Rattle.std.proofs.Common.{◌≡◌, ◌≢◌, ◌⊎◌, inl, inr, ℕ, zero, suc, ◌+◌, ◌<◌, ◌≤◌, ◌==◌, Bool, true, List, [], ◌∷◌, length, refl, sym, ap, subst, ◌∙◌, arith, Option, Some, None}
 use Rattle.std.specs.Prelude.{is_some, replicate}
 use Rattle.std.specs.List.{list_all, list_any}
-use Rattle.std.proofs.lemmas.Bool.{or_left, or_right}
+use Rattle.std.proofs.lemmas.Bool.{or_left, or_right, eq-eqb}
 use Rattle.std.proofs.lemmas.Bool.Decides.{nat_tests}
 use Rattle.std.proofs.lemmas.Option.{slice_get_within}
 use Rattle.tv_base.specs.Outside.{one_more}
@@ -16,6 +16,7 @@ use Rattle.letter_types.specs.declared.entries.LetterId.{LetterId}
 use Rattle.letter_types.specs.declared.entries.Outgoing.{Outgoing}
 use Rattle.tx_trees.specs.ScriptData.{ScriptData}
 use Rattle.tx_trees.specs.Valid.{IsValid}
+use Rattle.tx_trees.proofs.Rebuilding.{asked_most}
 use Rattle.world_model.specs.Counts.{Each, one_if}
 use Rattle.world_model.specs.Keeping.{KeepingNode}
 use Rattle.world_model.specs.Node.{Node}
@@ -24,7 +25,6 @@ use Rattle.world_model.specs.Runs.{MayFollow, client_in, in_flight, keeping_in, 
 use Rattle.world_model.specs.declared.restarting.Told.{Told}
 use Rattle.world_model.proofs.Every.{each_map, each_step, each_taken}
 use Rattle.phase_laws.proofs.Outcomes.{one_more_is}
-use Rattle.phase_laws.proofs.Small.{asked_most}
 use Rattle.phase_laws.proofs.Waves.{set_get}
 use Rattle.phase_laws.proofs.Working.{SentIn}
 use Rattle.epoch_laws.proofs.Aside.{Answered, Aside, Asks, Bare, IsBare, IsSentBy, Numbered, OfTree, sends_aside}
@@ -222,9 +222,6 @@ any_told test (o ∷ ts) zero t has is =
     let same : o ≡ Some t = cc has in or_left (test o) (list_any test ts) (ap test same ∙ is)
 any_told test (o ∷ ts) (suc q) t has is = or_right (test o) (list_any test ts) (any_told test ts q t has is)
 
-reads_is : (a v : ℕ) → a ≡ v → (a == v) ≡ true
-reads_is a v is = grind (arith, nat_tests)
-
 -- so it goes on from there: with no fewer advancements ended, and if with as many, then with a version that was shown
 pub record IsRestored (ts : AllTold) (f : ℕ) (shown : Bool) : Type 0 where
   pub low : f ≤ least_low ts
@@ -239,7 +236,7 @@ restored_by ts f shown some is = record {
       let one : one_if shown ≡ 1 = ap one_if yes in
       let next : one_more (least_low ts) ≡ least_low ts + 1 = one_more_is (least_low ts) (omega (arith, is.small, some.fits)) in
       any_told (read_is (one_more (least_low ts))) ts some.node some.told some.has
-      (reads_is some.told.read.0 (one_more (least_low ts))
+      (eq-eqb some.told.read.0 (one_more (least_low ts))
       (omega (arith, is.from.read, is.showed, some.fits, one, next, same)));
 }
 

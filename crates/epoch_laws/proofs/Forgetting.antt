@@ -19,11 +19,12 @@ use Rattle.world_model.specs.AllApt.{AllApt}
 use Rattle.world_model.specs.Counts.{Each}
 use Rattle.world_model.specs.Epochs.{is_core_timely, plain_order}
 use Rattle.world_model.specs.Kept.{kept_in, outstanding}
-use Rattle.world_model.specs.Lossy.{is_lossy}
+use Rattle.script_parts.specs.Counts.{is_lossy}
 use Rattle.world_model.specs.Named.{is_timely}
 use Rattle.world_model.specs.Runs.{IsStepRun, in_flight, keeping_in, node_in}
 use Rattle.world_model.proofs.Every.{each_both, each_map, each_taken}
 use Rattle.world_model.proofs.EachOutstanding.{each_first, each_waits}
+use Rattle.world_model.proofs.Gone.{under_or}
 use Rattle.strict_laws.specs.Meant.{IsLetterMeant, IsMeant}
 use Rattle.strict_laws.proofs.Meant.{letters_are_meant}
 use Rattle.phase_laws.specs.Balance.{HasLeft, IsBalanced, goes_between, out, version_is}
@@ -109,9 +110,6 @@ not_left s past e p v r good run b from is (inr left) =
       goes_itself v r.from.0 p r is refl (brought_to s past e p r b run),
       brought_outstanding s past e p r b run.0 (goes_between v r.from.0 p),
     ))
-
-under_or : (m v : ℕ) → (m ≤ v) ⊎ (v < m)
-under_or m v = grind arith
 
 near_at : (s : ScriptData) (past : List Entry) (e : Entry) (p : ℕ) (r : Letter) → IsValid s → IsGood s past → IsStepRun s (e ∷ past)
     → BringsTo s past e p r → IsNearAt s past p r

@@ -1,5 +1,5 @@
 -- What holds after each entry of a run of a coordinator that forgets.
-use Rattle.std.proofs.Common.{◌≡◌, ℕ, ◌+◌, ◌<◌, ◌≤◌, ◌==◌, ◌&&◌, true, List, [], ◌∷◌, length, Some}
+use Rattle.std.proofs.Common.{◌≡◌, ℕ, ◌+◌, ◌<◌, ◌≤◌, ◌==◌, ◌&&◌, true, List, [], ◌∷◌, length, Some, subst}
 use Rattle.std.specs.Prelude.{slice_get}
 use Rattle.tv_base.specs.declared.numbers.Version.{Version}
 use Rattle.letter_types.specs.declared.bodies.Body.{Body}
@@ -19,7 +19,7 @@ use Rattle.world_model.specs.declared.restarting.RestartPhase.TheVariants.{Idle,
 use Rattle.world_model.specs.declared.restarting.Told.{Told}
 use Rattle.phase_laws.specs.Advances.{asked_for}
 use Rattle.phase_laws.specs.Given.{greatest_given}
-use Rattle.phase_laws.specs.Phases.{Stage, TurnStage, ShowStage, SweepStage}
+use Rattle.phase_laws.specs.Phases.{Stage, TurnStage, ShowStage, SweepStage, stage_of}
 use Rattle.phase_laws.specs.Quiet.{IsSilent}
 use Rattle.phase_laws.proofs.Advancing.{IsWithin}
 use Rattle.phase_laws.proofs.Closing.{tree_version}
@@ -31,11 +31,6 @@ epoch_in s past p = (keeping_in s past p).core.epoch
 
 abbrev pub turns_in : ScriptData → List Entry → ℕ → Turns
 turns_in s past p = (node_in s past p).turns
-
-abbrev pub stage_of : What → Stage
-stage_of ToTurn = TurnStage
-stage_of ToShow = ShowStage
-stage_of ToSweep = SweepStage
 
 -- an order or an answer of epoch e
 abbrev pub token : ℕ → ℕ → ℕ → Body → ℕ
@@ -191,3 +186,8 @@ pub record IsGood (s : ScriptData) (past : List Entry) : Type 0 where
 abbrev pub AllGood : ScriptData → List Entry → Type 0
 AllGood s [] = IsGood s []
 AllGood s (e ∷ past) = IsGood s (e ∷ past) × AllGood s past
+
+-- what it has heard while it recovers
+pub heard_now : (s : ScriptData) (past : List Entry) → IsGood s past → (restarting_in s past).phase ≡ Recovering
+    → IsHeard s past
+heard_now s past good waits = subst (λ (phase : RestartPhase). IsInPhase s past phase) waits good.phased

@@ -18,7 +18,7 @@ use Rattle.script_parts.specs.declared.parts.Form.TheVariants.{One, Two}
 use Rattle.tx_trees.specs.ScriptData.{ScriptData}
 use Rattle.world_model.specs.AllApt.{AllApt}
 use Rattle.world_model.specs.Coordinator.{to_nodes, with_asked}
-use Rattle.world_model.specs.Lossy.{is_lossy}
+use Rattle.script_parts.specs.Counts.{is_lossy}
 use Rattle.world_model.specs.Restarting.{Restarting, after_doing, begin_counting, end_counting, enter, forget, next_advance, recover, restarting_row, target, version_counted, with_wanted}
 use Rattle.world_model.specs.Runs.{IsStepRun, restarting_in}
 use Rattle.world_model.specs.declared.restarting.RestartPhase.{RestartPhase}

@@ -22,10 +22,10 @@ use Rattle.world_model.proofs.Every.{each_both, each_map, each_step}
 use Rattle.strict_laws.specs.Meant.{IsLetterMeant, IsMeant}
 use Rattle.strict_laws.proofs.Meant.{letters_are_meant}
 use Rattle.phase_laws.specs.Given.{greatest_given}
-use Rattle.phase_laws.specs.Phases.{Stage, TurnStage, ShowStage, SweepStage}
+use Rattle.phase_laws.specs.Phases.{Stage, TurnStage, ShowStage, SweepStage, stage_of}
 use Rattle.phase_laws.proofs.Working.{SentIn}
 use Rattle.epoch_laws.proofs.Aside.{Answered, Aside, Asks, Bare, IsBare, IsSentBy, Numbered, OfTree, sends_aside}
-use Rattle.epoch_laws.proofs.Good.{AreNumbers, AreWanted, IsAnswer, IsAsTold, IsCurrent, IsGood, IsLatest, IsOrder, IsRight, epoch_in, stage_of, turns_in}
+use Rattle.epoch_laws.proofs.Good.{AreNumbers, AreWanted, IsAnswer, IsAsTold, IsCurrent, IsGood, IsLatest, IsOrder, IsRight, epoch_in, turns_in}
 use Rattle.epoch_laws.proofs.Rising.{Fares, Rises, took_right}
 
 -- what such an entry leaves: the coordinator, what was given, and of each node what it has come to

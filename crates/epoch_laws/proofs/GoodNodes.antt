@@ -14,11 +14,12 @@ use Rattle.letter_types.specs.declared.entries.Outgoing.{Outgoing}
 use Rattle.node_versions.specs.declared.turns.Turns.{Turns}
 use Rattle.tx_trees.specs.ScriptData.{ScriptData}
 use Rattle.tx_trees.specs.Valid.{IsValid}
+use Rattle.tx_trees.proofs.Rebuilding.{asked_most}
 use Rattle.world_model.specs.AllApt.{AllApt}
 use Rattle.world_model.specs.Core.{Core}
 use Rattle.world_model.specs.Counts.{Each}
 use Rattle.world_model.specs.Kept.{outstanding}
-use Rattle.world_model.specs.Lossy.{is_lossy}
+use Rattle.script_parts.specs.Counts.{is_lossy}
 use Rattle.world_model.specs.Restarting.{Restarting, target}
 use Rattle.world_model.specs.Runs.{IsStepRun, MayFollow, client_in, keeping_in, node_in, restarting_in}
 use Rattle.world_model.specs.declared.restarting.RestartPhase.{RestartPhase}
@@ -34,8 +35,7 @@ use Rattle.phase_laws.proofs.Closing.{done_up_to, in_up_to, tree_version}
 use Rattle.phase_laws.proofs.Heeds.{version_of}
 use Rattle.phase_laws.proofs.Lawful.{IsTreeLawful}
 use Rattle.phase_laws.proofs.Progress.{Course, Work}
-use Rattle.phase_laws.proofs.Silence.{Closed, silent_stays}
-use Rattle.phase_laws.proofs.Small.{asked_most}
+use Rattle.phase_laws.proofs.Silence.{silent_stays}
 use Rattle.phase_laws.proofs.Waves.{going}
 use Rattle.phase_laws.proofs.Working.{SentIn}
 use Rattle.epoch_laws.proofs.Aside.{Answered as AnsweredBy, Aside, Asks, Bare, IsBare, IsSentBy, Numbered, OfTree, aside, sends_aside}
@@ -45,6 +45,7 @@ use Rattle.epoch_laws.proofs.GoodClient.{asked_rises, heard_after}
 use Rattle.epoch_laws.proofs.GoodLetters.{Remains, latest_stays, letters_right, same_epoch, same_phase, told_stays}
 use Rattle.epoch_laws.proofs.Passing.{Answered, Passes, Stay, passes}
 use Rattle.epoch_laws.proofs.Rising.{Fares, Rises, fares}
+use Rattle.epoch_laws.proofs.AfterCoordinator.{closed_below}
 
 -- What nodes come to stays within what was given.
 within_after : (s : ScriptData) (past : List Entry) (e : Entry) (p : ℕ) → IsGood s past → Remains s past e → p < s.nodes
@@ -68,20 +69,12 @@ within_after s past e p good left lt =
     }
 
 -- Below what was swept to no root is born, so all stays silent.
-closed : (s : ScriptData) (past : List Entry) (v : ℕ) → IsGood s past → v < greatest_given SweepStage past → Closed s past v
-closed s past v good less =
-    λ p lt.
-    let within : IsWithin past (turns_in s past p) = good.within p lt in (
-      (λ is. omega (arith, is, less, within.swept_read, within.read_showed, within.showed_update)),
-      (λ is. omega (arith, is, less, within.swept_read)),
-    )
-
 silent_after : (s : ScriptData) (past : List Entry) (e : Entry) (v : ℕ) → IsTreeLawful s → IsStepRun s (e ∷ past)
     → AllApt s (e ∷ past)
     → IsGood s past → Remains s past e → v < greatest_given SweepStage (e ∷ past) → IsSilent s (e ∷ past) v
 silent_after s past e v laws run apt good left lt =
     let less : v < greatest_given SweepStage past = omega (arith, lt, left.given SweepStage) in
-    silent_stays s past e v laws run apt (good.silent v less) (closed s past v good less)
+    silent_stays s past e v laws run apt (good.silent v less) (closed_below s past v good less)
 
 -- Letters of trees.
 bare_version : (m : ℕ) (body : Body) → IsBare body → tree_version body ≤ m

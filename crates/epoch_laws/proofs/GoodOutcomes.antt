@@ -24,6 +24,7 @@ use Rattle.world_model.proofs.Bags.{tally-drop}
 use Rattle.world_model.proofs.Every.{each_append}
 use Rattle.world_model.proofs.Orders.{to_nodes_each}
 use Rattle.world_model.proofs.Restarts.{restarting_nodes}
+use Rattle.world_model.proofs.Gone.{under_or}
 use Rattle.phase_laws.specs.Advances.{asked_for}
 use Rattle.phase_laws.specs.Given.{IsShownAnew, IsSweptAnew, greatest_given}
 use Rattle.phase_laws.specs.Phases.{TurnStage, ShowStage, SweepStage}
@@ -303,12 +304,9 @@ counting_calm : (s : ScriptData) (past : List Entry) (reads : Bool) → (restart
     → IsCurrent (restarting_in s past) what v → ⊥
 counting_calm s past reads at what v is = cc (sym at ∙ is.phase)
 
-steady_counting : (s : ScriptData) (past : List Entry) (reads : Bool) → IsGood s past → (restarting_in s past).phase ≡ Counting reads
+pub steady_counting : (s : ScriptData) (past : List Entry) (reads : Bool) → IsGood s past → (restarting_in s past).phase ≡ Counting reads
     → IsSteady s past (Counting reads)
 steady_counting s past reads good at = subst (λ (phase : RestartPhase). IsInPhase s past phase) at good.phased
-
-given_or_next : (v g : ℕ) → (v ≤ g) ⊎ (g < v)
-given_or_next v g = grind arith
 
 before : (f : ℕ) → f ≡ f + 1 - 1
 before f = omega arith
@@ -317,7 +315,7 @@ before f = omega arith
 shown_anew : (s : ScriptData) (past : List Entry) (f : ℕ) (v : Version) → v.0 ≡ f + 1 → f ≤ greatest_given ShowStage past
     → (greatest_given ShowStage past < f + 1 → IsSilent s past (f + 1)) → ((q : ℕ) → q < s.nodes → f + 1 < (turns_in s past q).update.0)
     → IsShownAnew s past v.0
-shown_anew s past f v is from silent above = subst (IsShownAnew s past) (sym is) (by (given_or_next (f + 1) (greatest_given ShowStage past))) where
+shown_anew s past f v is from silent above = subst (IsShownAnew s past) (sym is) (by (under_or (f + 1) (greatest_given ShowStage past))) where
   by : (f + 1 ≤ greatest_given ShowStage past) ⊎ (greatest_given ShowStage past < f + 1) → IsShownAnew s past (f + 1)
   by (inl old) = inl old
   by (inr new) = inr (omega (arith, new, from), record { silent = silent new; above = above })
@@ -325,7 +323,7 @@ shown_anew s past f v is from silent above = subst (IsShownAnew s past) (sym is)
 swept_anew : (s : ScriptData) (past : List Entry) (f : ℕ) (v : Version) → v.0 ≡ f + 1 → f ≤ greatest_given SweepStage past
     → (greatest_given SweepStage past ≤ f → IsSilent s past f) → ((q : ℕ) → q < s.nodes → f + 1 ≤ (turns_in s past q).read.0)
     → IsSweptAnew s past v.0
-swept_anew s past f v is from silent above = subst (IsSweptAnew s past) (sym is) (by (given_or_next (f + 1) (greatest_given SweepStage past))) where
+swept_anew s past f v is from silent above = subst (IsSweptAnew s past) (sym is) (by (under_or (f + 1) (greatest_given SweepStage past))) where
   by : (f + 1 ≤ greatest_given SweepStage past) ⊎ (greatest_given SweepStage past < f + 1) → IsSweptAnew s past (f + 1)
   by (inl old) = inl old
   by (inr new) = inr (

@@ -25,7 +25,7 @@ use Rattle.phase_laws.specs.Phases.{TurnStage, ShowStage, SweepStage}
 use Rattle.phase_laws.proofs.Waves.{going, set_get}
 use Rattle.epoch_laws.proofs.AfterCoordinator.{given_still}
 use Rattle.epoch_laws.proofs.Few.{IsFew}
-use Rattle.epoch_laws.proofs.Good.{AreNumbers, AreWanted, IsGood, IsHeard, IsHeardOf, IsInPhase, IsRight, IsUpTo, LevelOf, epoch_in, order_to, turns_in}
+use Rattle.epoch_laws.proofs.Good.{AreNumbers, AreWanted, IsGood, IsHeardOf, IsInPhase, IsRight, IsUpTo, LevelOf, epoch_in, order_to, turns_in, heard_now}
 use Rattle.epoch_laws.proofs.GoodOutcomes.{few_low, took_none}
 use Rattle.epoch_laws.proofs.GoodSteps.{AllAsk, IsMove, asks_nothing, good_stays, heard_at, steady_at, up_still}
 use Rattle.epoch_laws.proofs.GoodTells.{AllEnd, IsWell, MayBeTold, ends_nothing, ends_own, ends_right, good_calm, good_tells, well_by}
@@ -41,9 +41,6 @@ pub record HasHeard (s : ScriptData) (past : List Entry) (d : Restarting) : Type
   pub places : length d.told ≡ s.nodes
   pub nodes : (q : ℕ) (t : Told) → q < s.nodes → HasTold d.told q t → IsHeardOf s past q t
   pub client : (k : ℕ) → d.heard ≡ Some k → (greatest_given TurnStage past ≤ k + 1) × (k ≤ asked_for s past)
-
-recovering : (s : ScriptData) (past : List Entry) → IsGood s past → (restarting_in s past).phase ≡ Recovering → IsHeard s past
-recovering s past good at = subst (λ (phase : RestartPhase). IsInPhase s past phase) at good.phased
 
 some_same : (t u : Told) → Some t ≡ Some u → t ≡ u
 some_same t u is = cc is
@@ -64,7 +61,7 @@ pub heard_more : (s : ScriptData) (past : List Entry) (from to : ℕ) (body : Bo
     → HearsMore (restarting_in s past) from body d → HasHeard s past d
 heard_more s past from to body d good few at right asked (OfNode u r l bd lt is) =
     let c = restarting_in s past in
-    let was = recovering s past good at in
+    let was = heard_now s past good at in
     let now : AreNumbers s past from c.epoch u r l = subst (IsRight s past from to) bd right in
     subst (HasHeard s past) (sym is) (record {
       epoch = refl;
@@ -77,7 +74,7 @@ heard_more s past from to body d good few at right asked (OfNode u r l bd lt is)
     })
 heard_more s past from to body d good few at right asked (OfClient k bd who is) =
     let c = restarting_in s past in
-    let was = recovering s past good at in
+    let was = heard_now s past good at in
     let now : AreWanted s past c.epoch k = subst (IsRight s past from to) bd right in
     subst (HasHeard s past) (sym is) (record {
       epoch = refl;

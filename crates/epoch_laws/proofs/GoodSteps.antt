@@ -13,7 +13,7 @@ use Rattle.letter_types.specs.declared.entries.Outgoing.{Outgoing}
 use Rattle.node_versions.specs.declared.turns.Turns.{Turns}
 use Rattle.tx_trees.specs.ScriptData.{ScriptData}
 use Rattle.world_model.specs.AllApt.{AllApt}
-use Rattle.world_model.specs.Counts.{Each, one_if}
+use Rattle.world_model.specs.Counts.{Each}
 use Rattle.world_model.specs.Keeping.{KeepingNode}
 use Rattle.world_model.specs.Restarting.{Restarting, is_answer, same_what, target}
 use Rattle.world_model.specs.Runs.{IsStepRun, MayFollow, restarting_in}
@@ -21,6 +21,7 @@ use Rattle.world_model.specs.declared.restarting.RestartPhase.{RestartPhase}
 use Rattle.world_model.specs.declared.restarting.RestartPhase.TheVariants.{Idle, Recovering, Doing, Counting, Paused}
 use Rattle.world_model.specs.declared.restarting.Told.{Told}
 use Rattle.world_model.proofs.Every.{each_map, each_taken}
+use Rattle.world_model.proofs.Bags.{one_if_other, one_if_same}
 use Rattle.phase_laws.specs.Given.{greatest_given}
 use Rattle.phase_laws.specs.Phases.{TurnStage, ShowStage, SweepStage}
 use Rattle.phase_laws.proofs.Lawful.{IsTreeLawful}
@@ -181,9 +182,6 @@ answer_now d what v c epoch version =
     let two : (v.0 == (target what c.ended).0) ≡ true = grind (arith, nat_tests) in
     rw (one, same_order what, two) refl
 
-apart : (a b : ℕ) → a ≢ b → one_if (a == b) ≡ 0
-apart a b ne = grind (arith, nat_tests)
-
 doing_is : (a b : What) → Doing a ≡ Doing b → a ≡ b
 doing_is a b is = cc is
 
@@ -192,7 +190,7 @@ left_token : (s : ScriptData) (past : List Entry) (from to : ℕ) (body : Body) 
     → IsLeft body (Doing doing) from (restarting_in s past) → TellsAnew body → IsRight s past from to body
     → token (restarting_in s past).epoch from to body ≡ 0
 left_token s past from to (Obeyed d what v) doing at left tells right =
-    apart d (restarting_in s past).epoch (λ is.
+    one_if_other d (restarting_in s past).epoch (λ is.
     let now = right.current is in
     let same : what ≡ doing = doing_is what doing (sym now.phase ∙ at) in
     let answers : is_answer d what v doing (restarting_in s past) ≡ true =
@@ -254,12 +252,9 @@ good_rests s past e m none left =
     (subst (λ (phase : RestartPhase). IsLeft e.took.body phase e.took.from.0 c) at left) m.tells (took_right s past e m.run.0 m.good))
 
 -- 3. One node more has obeyed.
-same_one : (a : ℕ) → one_if (a == a) ≡ 1
-same_one a = grind (arith, nat_tests)
-
 pub answer_token : (c : Restarting) (from to : ℕ) (body : Body) (what : What) → body ≡ Obeyed c.epoch what (target what c.ended)
     → token c.epoch from to body ≡ 1
-answer_token c from to body what is = ap (token c.epoch from to) is ∙ same_one c.epoch
+answer_token c from to body what is = ap (token c.epoch from to) is ∙ one_if_same c.epoch
 
 pub steady_doing : (s : ScriptData) (past : List Entry) (what : What) → IsGood s past → (restarting_in s past).phase ≡ Doing what → IsSteady s past (Doing what)
 steady_doing s past what good at = subst (λ (phase : RestartPhase). IsInPhase s past phase) at good.phased

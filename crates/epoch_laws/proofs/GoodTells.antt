@@ -23,12 +23,12 @@ use Rattle.world_model.proofs.Every.{each_append, each_map}
 use Rattle.world_model.proofs.Orders.{to_nodes_each}
 use Rattle.phase_laws.specs.Advances.{asked_for}
 use Rattle.phase_laws.specs.Given.{IsGivenAnew, greatest_given, greatest_told, version_told}
-use Rattle.phase_laws.specs.Phases.{Stage, TurnStage, ShowStage, SweepStage}
+use Rattle.phase_laws.specs.Phases.{Stage, TurnStage, ShowStage, SweepStage, stage_of}
 use Rattle.phase_laws.proofs.Advancing.{greatest_least, sent_given}
 use Rattle.phase_laws.proofs.Waves.{flow_of, going, leaving}
 use Rattle.epoch_laws.proofs.AfterCoordinator.{IsFit, IsLast, IsNewlySilent, IsOfCoordinator, OrderNothing, OrdersNothing, fits_still, given_still, good_now, letters_told, tokens_none}
 use Rattle.epoch_laws.proofs.AtCoordinator.{held_at, order_sent, orders_tokens}
-use Rattle.epoch_laws.proofs.Good.{IsGood, IsInPhase, IsRight, IsSteady, IsUpTo, LevelOf, epoch_in, order_to, stage_of, token, turns_in}
+use Rattle.epoch_laws.proofs.Good.{IsGood, IsInPhase, IsRight, IsSteady, IsUpTo, LevelOf, epoch_in, order_to, token, turns_in}
 use Rattle.epoch_laws.proofs.GoodSteps.{IsMove, steady_at, told_order}
 use Rattle.epoch_laws.proofs.RightAfter.{IsTelling}
 

@@ -18,7 +18,7 @@ use Rattle.world_model.specs.Core.{Core}
 use Rattle.world_model.specs.Counts.{Each, one_if, tally}
 use Rattle.world_model.specs.Node.{Node}
 use Rattle.world_model.specs.Runs.{MayFollow, keeping_in, node_in, restarting_in}
-use Rattle.world_model.proofs.Bags.{tally-append}
+use Rattle.world_model.proofs.Bags.{tally-append, one_if_other}
 use Rattle.world_model.proofs.Every.{each_map, each_none}
 use Rattle.phase_laws.proofs.Heeds.{Answers, AreWakes, Heed, IsOfEpoch, IsWake, Leaves, Obeys, Repeats, turned_to, version_of}
 use Rattle.phase_laws.proofs.Waves.{flow_of, going, leaving}
@@ -64,9 +64,6 @@ record Weighs (n : ℕ) (f : ℕ → ℕ → Body → ℕ) : Type 0 where
   order : (from to m : ℕ) (what : What) (v : Version) → m ≢ n → f from to (Order m what v) ≡ 0
   answer : (from to m : ℕ) (what : What) (v : Version) → m ≢ n → f from to (Obeyed m what v) ≡ 0
 
-apart : (m n : ℕ) → m ≢ n → one_if (m == n) ≡ 0
-apart m n ne = grind (arith, nat_tests)
-
 apart_and : (m n : ℕ) (test : Bool) → m ≢ n → one_if ((m == n) && test) ≡ 0
 apart_and m n test ne = let no : (m == n) ≡ false = grind (arith, nat_tests) in rw no refl
 
@@ -82,8 +79,8 @@ no_order n q from to _ none = refl
 token_weighs : (n : ℕ) → Weighs n (token n)
 token_weighs n = record {
   none = no_token n;
-  order = λ from to m what v ne. apart m n ne;
-  answer = λ from to m what v ne. apart m n ne;
+  order = λ from to m what v ne. one_if_other m n ne;
+  answer = λ from to m what v ne. one_if_other m n ne;
 }
 
 order_weighs : (n q : ℕ) → Weighs n (order_to n q)

@@ -6,6 +6,7 @@ use Rattle.tv_base.specs.Outside.{one_more}
 use Rattle.tv_base.specs.declared.numbers.Version.{Version}
 use Rattle.phase_out.specs.Counts.{nudged}
 use Rattle.phase_out.specs.Rounds.{NodeRows, all_in}
+use Rattle.phase_out.proofs.With.{none_in}
 use Rattle.letter_types.specs.declared.bodies.Body.{Body}
 use Rattle.letter_types.specs.declared.bodies.Body.TheVariants.{Go, Advance, Advanced, AdvanceNo, Ask, AskAsked, AskDone, AskedRow, DoneRow, Lose, Numbers, Obeyed, Order, Show, Shown, Sweep, Swept, Turn, Turned, Wanted}
 use Rattle.letter_types.specs.declared.bodies.What.{What}
@@ -156,10 +157,6 @@ next_orders n wanted f = by (nat_lt f wanted) where
 pub doing_entered : (n : ℕ) (what : What) → IsEntered n (Doing what)
 doing_entered n what = record { known = λ is. cc is; unasked = λ dones. refl; promised = λ flag. refl }
 
-unasked_new : (n m : ℕ) (reads : Bool) → 1 ≤ m → unasked n (Counting reads) (replicate m None) ≡ 2 * n
-unasked_new n zero reads some = absurd (omega (arith, some))
-unasked_new n (suc m) reads some = refl
-
 unasked_all : (n : ℕ) (phase : RestartPhase) (dones : NodeRows) → all_in dones ≡ true → unasked n phase dones ≡ 0
 unasked_all n (Counting reads) dones all = rw all refl
 unasked_all n Idle dones all = refl
@@ -215,7 +212,7 @@ counts n reads c d from body out some nodes epoch ended was few is =
     spends n c from body out (begin_counting reads d) is was (λ at. cc at) epoch (omega (
       arith,
       all_price d.nodes n (AskDone (version_counted reads d) (one_more d.count.number)) nodes refl,
-      unasked_new n d.nodes reads (omega (arith, some, nodes)),
+      ap (λ (b : Bool). if b then 0 else 2 * n) (none_in d.nodes (omega (arith, some, nodes))),
       same,
       few,
     ))

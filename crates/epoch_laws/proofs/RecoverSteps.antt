@@ -79,8 +79,8 @@ elsewhere : (c : Restarting) (from : ℕ) (body : Body) (out next : Out Restarti
     → out.state.phase ≡ Recovering → Waiting c from body out
 elsewhere c from body out next is knows at = absurd (knows (sym (ap (λ (o : Out Restarting). o.state.phase) is) ∙ at))
 
-apart_from : (a b : RestartPhase) → a ≡ b → Knows b → Knows a
-apart_from a b is knows = λ at. knows (sym is ∙ at)
+pub knows_by : (a b : RestartPhase) → a ≡ b → Knows b → Knows a
+knows_by a b is knows = λ at. knows (sym is ∙ at)
 
 heard_more : (c d : Restarting) (from : ℕ) (body : Body) (out : Out Restarting) → c.phase ≡ Recovering → HearsMore c from body d
     → Recovery d out → out.state.phase ≡ Recovering → Waiting c from body out
@@ -98,16 +98,16 @@ waiting c from body out (Wants i bd busy is) at = IsWanted i (sym (ap (λ (o : O
 waiting c from body out (Goes i bd before is) at = elsewhere c from body out _ is (next_knows (max c.wanted i) c.ended) at
 waiting c from body out (Recovers d before hears is) at = heard_more c d from body out before hears (recovery d out is) at
 waiting c from body out (Acks what before bd more is) at =
-    elsewhere c from body out _ is (apart_from c.phase (Doing what) before (λ now. cc now)) at
+    elsewhere c from body out _ is (knows_by c.phase (Doing what) before (λ now. cc now)) at
 waiting c from body out (Ends what before bd last is) at = elsewhere c from body out _ is (done_knows what c) at
 waiting c from body out (Flags reads before bd is) at =
-    elsewhere c from body out _ is (apart_from c.phase (Counting reads) before (λ now. cc now)) at
+    elsewhere c from body out _ is (knows_by c.phase (Counting reads) before (λ now. cc now)) at
 waiting c from body out (Resumes reads before bd is) at =
     elsewhere c from body out (begin_counting reads c) is (λ now. cc now) at
 waiting c from body out (KeepsDone reads v k row before bd here is) at =
-    elsewhere c from body out _ is (apart_from c.phase (Counting reads) before (λ now. cc now)) at
+    elsewhere c from body out _ is (knows_by c.phase (Counting reads) before (λ now. cc now)) at
 waiting c from body out (KeepsAsked reads v k row takes verdict is) at =
-    elsewhere c from body out _ is (apart_from c.phase (Counting reads) takes.phase (λ now. cc now)) at
+    elsewhere c from body out _ is (knows_by c.phase (Counting reads) takes.phase (λ now. cc now)) at
 waiting c from body out (Agrees reads v k row takes verdict is) at =
     elsewhere c from body out _ is (ends_know reads (asked_kept from row c)) at
 waiting c from body out (Recounts reads v k row takes verdict flag is) at =

@@ -5,6 +5,7 @@ use Rattle.std.specs.Prelude.{is_some, nat_lt, slice_get, slice_set}
 use Rattle.std.specs.List.{list_all}
 use Rattle.std.proofs.lemmas.Bool.{and_from, cases_eq}
 use Rattle.std.proofs.lemmas.Bool.Decides.{nat_tests}
+use Rattle.std.proofs.Math.Bool.{and-false}
 use Rattle.tv_base.specs.Outside.{one_more}
 use Rattle.tv_base.specs.declared.numbers.Version.{Version}
 use Rattle.letter_types.specs.Letters.{letters_of}
@@ -19,12 +20,12 @@ use Rattle.world_model.specs.AllApt.{AllApt}
 use Rattle.world_model.specs.Client.{advances_sent}
 use Rattle.world_model.specs.Coordinator.{to_nodes}
 use Rattle.world_model.specs.Counts.{one_if, tally}
-use Rattle.world_model.specs.Lossy.{is_lossy}
+use Rattle.script_parts.specs.Counts.{is_lossy}
 use Rattle.world_model.specs.Restarting.{AllTold, Restarting, forget, restarting_row, to_client, with_wanted}
 use Rattle.world_model.specs.Runs.{IsStepRun, MayFollow, client_in, in_flight, keeping_in, restarting_in}
 use Rattle.world_model.specs.declared.restarting.RestartPhase.TheVariants.{Recovering}
 use Rattle.world_model.specs.declared.restarting.Told.{Told}
-use Rattle.world_model.proofs.Bags.{one_if_most, sealed_tally, tally-append}
+use Rattle.world_model.proofs.Bags.{one_if_most, sealed_tally, tally-append, one_if_both}
 use Rattle.world_model.proofs.Restarts.{restarting_nodes}
 use Rattle.phase_laws.proofs.Heeds.{Answers, Heed, IsOfEpoch, Leaves, Obeys, Repeats}
 use Rattle.phase_laws.proofs.Lawful.{IsTreeLawful}
@@ -34,9 +35,8 @@ use Rattle.phase_laws.proofs.Working.{IsOfTrees}
 use Rattle.epoch_laws.proofs.Aside.{Aside, Counts, Heeds, IsEpochless, Submits, Tells, Works, aside}
 use Rattle.epoch_laws.proofs.AtCoordinator.{left_of, nodes_sent}
 use Rattle.epoch_laws.proofs.Away.{restarting_kept}
-use Rattle.epoch_laws.proofs.ExactAside.{heard_now}
 use Rattle.epoch_laws.proofs.Forgetting.{good_run}
-use Rattle.epoch_laws.proofs.Good.{IsGood}
+use Rattle.epoch_laws.proofs.Good.{IsGood, heard_now}
 use Rattle.epoch_laws.proofs.RecoverSteps.{Forgot, HasMore, IsWanted, Stays, Waiting, has_all, waiting}
 use Rattle.epoch_laws.proofs.RestartSteps.{HearsMore, IsLeft, OfClient, OfNode, restart_step}
 
@@ -205,9 +205,6 @@ sent_there f s past e =
       sealed_tally (λ (l : Letter). f l.from.0 l.to.0 l.body) (leaving f e.actor.0) e.stamp.0 e.actor.0 0 e.sent (λ i o. refl),
     )
 
-asks_itself : (d q : ℕ) → one_if ((d == d) && (q == q)) ≡ 1
-asks_itself d q = grind (arith, nat_tests)
-
 -- it forgets, and asks all
 asks_all : (client : Bool) (s : ScriptData) (c : Restarting) (a q : ℕ) → c.nodes ≡ s.nodes → IsAsked s client q
     → 1 ≤ tally (leaving (asking client (one_more c.epoch) q) a) (forget c).sent
@@ -227,17 +224,13 @@ asks_all client s c a q nodes asked = by client (split client) asked where
         arith,
         is,
         nodes_sent (asking false d q) c.nodes a (Ask d) q (omega (arith, lt, nodes))
-            (omega (arith, asks_itself d q)),
+            (omega (arith, one_if_both d q)),
       )
   by true is at =
       let here : c.nodes + 1 ≡ q = omega (arith, nodes, at) in
       let one : one_if ((d == d) && (c.nodes + 1 == q)) ≡ 1 =
-      ap (λ (k : ℕ). one_if ((d == d) && (k == q))) here ∙ asks_itself d q in
+      ap (λ (k : ℕ). one_if ((d == d) && (k == q))) here ∙ one_if_both d q in
       omega (arith, is, one)
-
-none_heard : (all : Bool) → (all && false) ≡ false
-none_heard true = refl
-none_heard false = refl
 
 -- it has kept what it hears
 told_there : (ts : AllTold) (from : ℕ) (t : Told) → from < length ts → is_told (slice_get (slice_set ts from (Some t)) from) ≡ 1
@@ -334,7 +327,7 @@ awaits_by s past e out good m tells sent was (Forgot is) =
           let all : tally (leaving f e.actor.0) e.sent ≡ tally (leaving f e.actor.0) (forget c).sent =
           ap (λ (os : List Outgoing). tally (leaving f e.actor.0) os) (sent ∙ ap (λ (o : Out Restarting). o.sent) is) in
           omega (arith, sent_there f s past e, all, asks_all client s c e.actor.0 q (restarting_nodes s past) asked);
-      misses = none_heard (list_all is_some (replicate c.nodes None));
+      misses = and-false (list_all is_some (replicate c.nodes None));
     })
 awaits_by s past e out good m tells sent was (Stays waits left is) =
     let c = restarting_in s past in

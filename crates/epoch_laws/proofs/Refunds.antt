@@ -15,6 +15,7 @@ use Rattle.node_versions.specs.declared.turns.Turns.{Turns}
 use Rattle.tx_trees.specs.Counts.{advances_in}
 use Rattle.tx_trees.specs.ScriptData.{ScriptData}
 use Rattle.tx_trees.specs.Valid.{IsValid}
+use Rattle.tx_trees.proofs.Rebuilding.{asked_most}
 use Rattle.world_model.specs.Coordinator.{to_nodes}
 use Rattle.world_model.specs.Counts.{one_if, tally}
 use Rattle.world_model.specs.Restarting.{AllTold, Restarting, forget, least_low, low_differs, next_advance, phase_by, read_is, target, to_client, update_is}
@@ -26,12 +27,11 @@ use Rattle.world_model.proofs.Every.{each_append, each_map, each_none}
 use Rattle.world_model.proofs.Orders.{of, to_nodes_each}
 use Rattle.world_model.proofs.Sends.{on}
 use Rattle.phase_laws.specs.Given.{greatest_given}
-use Rattle.phase_laws.specs.Phases.{TurnStage}
+use Rattle.phase_laws.specs.Phases.{TurnStage, stage_of}
 use Rattle.phase_laws.proofs.Outcomes.{one_more_is}
-use Rattle.phase_laws.proofs.Small.{asked_most}
 use Rattle.phase_laws.proofs.Waves.{going}
 use Rattle.epoch_laws.proofs.Floors.{AllAskAnew, AsksAnew, IsFrom, IsRestored}
-use Rattle.epoch_laws.proofs.Good.{IsCurrent, IsGood, IsInPhase, IsRight, IsSteady, LevelOf, least_read, least_update, order_to, stage_of, turns_in}
+use Rattle.epoch_laws.proofs.Good.{IsCurrent, IsGood, IsInPhase, IsRight, IsSteady, LevelOf, least_read, least_update, order_to, turns_in}
 use Rattle.epoch_laws.proofs.Prices.{IsEntered, begun, doing_entered, next_entered, next_orders, ordered, price, to_nodes_price}
 
 -- in these phases each node reads the next version already

@@ -17,7 +17,7 @@ use Rattle.letter_types.specs.Steps.{Out, still}
 use Rattle.tx_trees.specs.ScriptData.{ScriptData}
 use Rattle.world_model.specs.AllApt.{AllApt}
 use Rattle.world_model.specs.Coordinator.{to_nodes}
-use Rattle.world_model.specs.Lossy.{is_lossy}
+use Rattle.script_parts.specs.Counts.{is_lossy}
 use Rattle.world_model.specs.Restarting.{Restarting, AllTold, after_doing, begin_counting, end_counting, enter, first_number, forget, in_restart_phase, enter_telling, least_low, low_differs, next_advance, orders, phase_by, read_is, recover, restarting_row, resume_if, target, update_is, version_counted, with_advances, with_told, with_wanted}
 use Rattle.world_model.specs.Runs.{IsStepRun, restarting_in}
 use Rattle.world_model.specs.Tables.{restarting_table}
@@ -36,8 +36,8 @@ use Rattle.phase_laws.proofs.Outcomes.{one_more_is}
 use Rattle.phase_laws.proofs.Progress.{restarts}
 use Rattle.phase_laws.proofs.Sending.{AllPlain, IsPlain}
 use Rattle.epoch_laws.proofs.Few.{IsFew, few}
-use Rattle.epoch_laws.proofs.Good.{AllGood, IsGood, IsInPhase, IsSteady}
-use Rattle.epoch_laws.proofs.GoodOutcomes.{few_ended}
+use Rattle.epoch_laws.proofs.Good.{AllGood, IsGood, IsSteady}
+use Rattle.epoch_laws.proofs.GoodOutcomes.{few_ended, steady_counting}
 use Rattle.epoch_laws.proofs.RestartSteps.{HearsMore, IsLeft, OfClient, OfNode, RestartStep, asked_kept, asks_with, done_kept, restart_step}
 use Rattle.epoch_laws.proofs.RestartSteps.{Acks, Agrees, Ends, Flags, Forgets, Goes, KeepsAsked, KeepsDone, Pauses, Recounts, Recovers, Rests, Resumes, Wants}
 use Rattle.epoch_laws.proofs.RestartSteps.{TakesRequests as TakesAsked}
@@ -374,10 +374,6 @@ pub good_now : (s : ScriptData) (past : List Entry) → AllGood s past → IsGoo
 good_now s [] good = good
 good_now s (e ∷ past) good = good.0
 
-steady_in : (s : ScriptData) (past : List Entry) (reads : Bool) → IsGood s past → (restarting_in s past).phase ≡ Counting reads
-    → IsSteady s past (Counting reads)
-steady_in s past reads good at = subst (λ (phase : RestartPhase). IsInPhase s past phase) at good.phased
-
 open_by : (s : ScriptData) (past : List Entry) (reads : Bool) → IsGood s past → IsSteady s past (Counting reads)
     → (restarting_in s past).ended ≤ 100 → IsNotGiven reads (version_counted reads (restarting_in s past)).0 past
     → Open s past (version_counted reads (restarting_in s past)).0
@@ -406,7 +402,7 @@ open_in : (s : ScriptData) (past : List Entry) (reads : Bool) → IsTreeLawful s
     → Open s past (restarting_in s past).count.current.version.0
 open_in s past reads laws loses run apt at new =
     let good = good_now s past new.0 in
-    let steady = steady_in s past reads good at in
+    let steady = steady_counting s past reads good at in
     let small = few_ended s past (Counting reads) laws.valid.some_nodes good (few s past laws loses run apt) steady in
     let is : (restarting_in s past).count.current.version.0 ≡ (version_counted reads (restarting_in s past)).0 =
     ap (λ (v : Version). v.0) (versioned s past reads at) in

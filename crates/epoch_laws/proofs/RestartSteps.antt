@@ -1,7 +1,7 @@
 -- What a step of a coordinator that forgets can be.
 use Rattle.std.proofs.Common.{◌≡◌, ℕ, ◌+◌, ◌<◌, ◌&&◌, ◌==◌, Bool, true, false, List, [], length, refl, sym, ap, subst, ◌∙◌, Option, Some, None, arith}
 use Rattle.std.specs.Prelude.{if◌then◌else◌, max, nat_lt, not}
-use Rattle.std.proofs.lemmas.Bool.{and_from}
+use Rattle.std.proofs.lemmas.Bool.{and_from, and_parts, eqb-true, ltb-true}
 use Rattle.std.proofs.lemmas.Bool.Decides.{nat_tests}
 use Rattle.tv_base.specs.declared.numbers.Version.{Version}
 use Rattle.tv_base.specs.Outside.{one_more}
@@ -91,18 +91,6 @@ pub data RestartStep (c : Restarting) (from : ℕ) (body : Body) (out : Out Rest
       → verdict_of (with_asked from row c.count.current) ≡ Some false → c.count.flag ≡ false
       → out ≡ still (in_restart_phase (Paused reads) (asked_kept from row c)) → RestartStep c from body out
 
--- Tests.
-same_is : (a b : ℕ) → (a == b) ≡ true → a ≡ b
-same_is a b is = grind (arith, nat_tests)
-
-less_is : (a b : ℕ) → nat_lt a b ≡ true → a < b
-less_is a b is = grind (arith, nat_tests)
-
-both_true : (a b : Bool) → (a && b) ≡ true → (a ≡ true) × (b ≡ true)
-both_true true true is = (refl, refl)
-both_true true false is = absurd (cc is)
-both_true false b is = absurd (cc is)
-
 same_order : (a b : What) → same_what a b ≡ true → a ≡ b
 same_order ToTurn ToTurn is = refl
 same_order ToShow ToShow is = refl
@@ -121,29 +109,29 @@ same_version v w is = ap (λ (n : ℕ). record { 0 = n }) is
 answer_is : (e : ℕ) (what : What) (v : Version) (doing : What) (c : Restarting) → is_answer e what v doing c ≡ true
     → Obeyed e what v ≡ Obeyed c.epoch doing (target doing c.ended)
 answer_is e what v doing c is =
-    let parts = both_true (e == c.epoch) (same_what what doing && (v.0 == (target doing c.ended).0)) is in
-    let rest = both_true (same_what what doing) (v.0 == (target doing c.ended).0) parts.1 in
-    ap (λ (n : ℕ). Obeyed n what v) (same_is e c.epoch parts.0)
+    let parts = and_parts (e == c.epoch) (same_what what doing && (v.0 == (target doing c.ended).0)) is in
+    let rest = and_parts (same_what what doing) (v.0 == (target doing c.ended).0) parts.1 in
+    ap (λ (n : ℕ). Obeyed n what v) (eqb-true e c.epoch parts.0)
     ∙ ap (λ (w : What). Obeyed c.epoch w v) (same_order what doing rest.0)
-    ∙ ap (λ (w : Version). Obeyed c.epoch doing w) (same_version v (target doing c.ended) (same_is v.0 (target doing c.ended).0 rest.1))
+    ∙ ap (λ (w : Version). Obeyed c.epoch doing w) (same_version v (target doing c.ended) (eqb-true v.0 (target doing c.ended).0 rest.1))
 
 -- Steps by their tests.
 numbers_step : (e : ℕ) (u r l : Version) (from : ℕ) (c : Restarting) (test : Bool) → c.phase ≡ Recovering
     → ((e == c.epoch) && nat_lt from (length c.told)) ≡ test
     → RestartStep c from (Numbers e u r l) (if test then recover (with_told from (record { update = u; read = r; low = l }) c) else still c)
 numbers_step e u r l from c true at is =
-    let parts = both_true (e == c.epoch) (nat_lt from (length c.told)) is in
+    let parts = and_parts (e == c.epoch) (nat_lt from (length c.told)) is in
     Recovers (with_told from (record { update = u; read = r; low = l }) c) at
-    (OfNode u r l (ap (λ (n : ℕ). Numbers n u r l) (same_is e c.epoch parts.0)) (less_is from (length c.told) parts.1) refl) refl
+    (OfNode u r l (ap (λ (n : ℕ). Numbers n u r l) (eqb-true e c.epoch parts.0)) (ltb-true from (length c.told) parts.1) refl) refl
 numbers_step e u r l from c false at is =
     Rests (subst (λ (phase : RestartPhase). IsLeft (Numbers e u r l) phase from c) (sym at) is) refl
 
 wanted_step : (e k from : ℕ) (c : Restarting) (test : Bool) → c.phase ≡ Recovering → ((e == c.epoch) && (from == c.nodes + 1)) ≡ test
     → RestartStep c from (Wanted e k) (if test then recover (record c { heard = Some k }) else still c)
 wanted_step e k from c true at is =
-    let parts = both_true (e == c.epoch) (from == c.nodes + 1) is in
+    let parts = and_parts (e == c.epoch) (from == c.nodes + 1) is in
     Recovers (record c { heard = Some k }) at
-    (OfClient k (ap (λ (n : ℕ). Wanted n k) (same_is e c.epoch parts.0)) (same_is from (c.nodes + 1) parts.1) refl) refl
+    (OfClient k (ap (λ (n : ℕ). Wanted n k) (eqb-true e c.epoch parts.0)) (eqb-true from (c.nodes + 1) parts.1) refl) refl
 wanted_step e k from c false at is = Rests (subst (λ (phase : RestartPhase). IsLeft (Wanted e k) phase from c) (sym at) is) refl
 
 last_step : (what : What) (from : ℕ) (body : Body) (c : Restarting) (last : Bool) → c.phase ≡ Doing what
@@ -201,7 +189,7 @@ asked_step : (v : Version) (k : ℕ) (row : List ℕ) (reads : Bool) (from : ℕ
     → (is_of from v k row c.count.current && all_in c.count.current.dones) ≡ test
     → RestartStep c from (AskedRow v k row) (by_count reads (told_asked from v k row c.count) c)
 asked_step v k row reads from c true at is =
-    let parts = both_true (is_of from v k row c.count.current) (all_in c.count.current.dones) is in
+    let parts = and_parts (is_of from v k row c.count.current) (all_in c.count.current.dones) is in
     judged_step v k row reads from c (verdict_of (with_asked from row c.count.current)) c.count.flag
     (record { phase = at; body_is = refl; here = parts.0; after_dones = parts.1 }) refl refl
 asked_step v k row reads from c false at is =

@@ -13,10 +13,10 @@ use Rattle.world_model.specs.Keeping.{KeepingNode}
 use Rattle.world_model.specs.Runs.{restarting_in}
 use Rattle.world_model.specs.declared.restarting.RestartPhase.TheVariants.{Recovering}
 use Rattle.phase_laws.specs.Given.{greatest_given}
-use Rattle.phase_laws.specs.Phases.{Stage, TurnStage, ShowStage, SweepStage}
+use Rattle.phase_laws.specs.Phases.{Stage, TurnStage, ShowStage, SweepStage, stage_of}
 use Rattle.phase_laws.proofs.Advancing.{given_rises}
 use Rattle.epoch_laws.proofs.AtCoordinator.{held_at, node_stays}
-use Rattle.epoch_laws.proofs.Good.{IsAsTold, IsCurrent, IsLatest, IsRight, epoch_in, stage_of, token, turns_in}
+use Rattle.epoch_laws.proofs.Good.{IsAsTold, IsCurrent, IsLatest, IsRight, epoch_in, token, turns_in}
 
 -- the same was given as before
 abbrev pub IsGivenStill : List Entry → Entry → Type 0

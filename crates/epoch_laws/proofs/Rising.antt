@@ -19,14 +19,14 @@ use Rattle.world_model.specs.Runs.{MayFollow, keeping_in, restarting_in}
 use Rattle.world_model.proofs.Every.{each_taken}
 use Rattle.world_model.proofs.Outstanding.{keeping_elsewhere}
 use Rattle.phase_laws.specs.Given.{greatest_given}
-use Rattle.phase_laws.specs.Phases.{TurnStage, ShowStage, SweepStage}
+use Rattle.phase_laws.specs.Phases.{TurnStage, ShowStage, SweepStage, stage_of}
 use Rattle.phase_laws.proofs.Brought.{each_of_brought}
 use Rattle.phase_laws.proofs.Closing.{tree_version}
 use Rattle.phase_laws.proofs.Heeds.{Answers, Heed, Leaves, Obeys, Repeats, turned_to, version_of}
 use Rattle.phase_laws.proofs.Progress.{Work}
 use Rattle.phase_laws.proofs.Working.{IsOfTrees, IsRaiser}
 use Rattle.epoch_laws.proofs.Aside.{Aside, TellsCounts, Counts, Heeds, IsEpochless, Submits, Tells, Works}
-use Rattle.epoch_laws.proofs.Good.{IsGood, IsOrder, IsRight, stage_of}
+use Rattle.epoch_laws.proofs.Good.{IsGood, IsOrder, IsRight}
 use Rattle.epoch_laws.proofs.TreeEpochs.{IsOfNoEpoch, epoch_stays}
 
 -- a node's epoch and versions don't fall

@@ -3,6 +3,7 @@ use Rattle.std.proofs.Common.{◌≡◌, ◌≢◌, ◌⊎◌, inl, inr, ℕ, ze
 use Rattle.std.specs.Prelude.{is_some, min, not, replicate, slice_get}
 use Rattle.std.specs.List.{list_all, list_any}
 use Rattle.std.proofs.lemmas.Bool.Decides.{nat_tests}
+use Rattle.std.proofs.lemmas.Bool.{eqb-true}
 use Rattle.world_model.specs.Restarting.{AllTold, least_low, low_differs, read_is, update_is}
 use Rattle.world_model.specs.declared.restarting.Told.{Told}
 
@@ -81,17 +82,14 @@ some_told test P (Some t ∷ ts) none fits any = by (λ rest. some_told test P t
 differs_is : (a f : ℕ) → not (a == f) ≡ true → a ≢ f
 differs_is a f is = grind (arith, nat_tests)
 
-same_is : (a v : ℕ) → (a == v) ≡ true → a ≡ v
-same_is a v is = grind (arith, nat_tests)
-
 pub some_low : (ts : AllTold) (f : ℕ) → list_any (low_differs f) ts ≡ true → SomeTold ts (λ (t : Told). t.low.0 ≢ f)
 some_low ts f any = some_told (low_differs f) (λ (t : Told). t.low.0 ≢ f) ts refl (λ t is. differs_is t.low.0 f is) any
 
 pub some_read : (ts : AllTold) (v : ℕ) → list_any (read_is v) ts ≡ true → SomeTold ts (λ (t : Told). t.read.0 ≡ v)
-some_read ts v any = some_told (read_is v) (λ (t : Told). t.read.0 ≡ v) ts refl (λ t is. same_is t.read.0 v is) any
+some_read ts v any = some_told (read_is v) (λ (t : Told). t.read.0 ≡ v) ts refl (λ t is. eqb-true t.read.0 v is) any
 
 pub some_update : (ts : AllTold) (v : ℕ) → list_any (update_is v) ts ≡ true → SomeTold ts (λ (t : Told). t.update.0 ≡ v)
-some_update ts v any = some_told (update_is v) (λ (t : Told). t.update.0 ≡ v) ts refl (λ t is. same_is t.update.0 v is) any
+some_update ts v any = some_told (update_is v) (λ (t : Told). t.update.0 ≡ v) ts refl (λ t is. eqb-true t.update.0 v is) any
 
 -- Nothing was told yet.
 pub none_told : (n q : ℕ) (t : Told) → HasTold (replicate n None) q t → ⊥

@@ -14,7 +14,7 @@ use Rattle.letter_types.specs.declared.entries.Letter.{Letter}
 use Rattle.letter_types.specs.declared.entries.LetterId.{LetterId}
 use Rattle.letter_types.specs.declared.entries.Outgoing.{Outgoing}
 use Rattle.letter_types.specs.Steps.{Out}
-use Rattle.tx_trees.specs.Counts.{advances_in}
+use Rattle.tx_trees.specs.Counts.{advances_in, is_lossy}
 use Rattle.tx_trees.specs.ScriptData.{ScriptData}
 use Rattle.tx_trees.specs.declared.parts.ScriptRow.{ScriptRow}
 use Rattle.tx_trees.specs.declared.parts.ScriptRow.TheVariants.{Tree as TreeRow, Advance as AdvanceRow, Settle as SettleRow, Lose as LoseRow}
@@ -22,7 +22,6 @@ use Rattle.tx_trees.proofs.Rebuilding.{advances_in-append}
 use Rattle.world_model.specs.AllApt.{AllApt}
 use Rattle.world_model.specs.Client.{Client, advances_sent, rows_letters, submit, submitted}
 use Rattle.world_model.specs.Counts.{Each, one_if, tally}
-use Rattle.world_model.specs.Lossy.{is_lossy}
 use Rattle.world_model.specs.Node.{Node}
 use Rattle.world_model.specs.Restarting.{Restarting, forget, restarting_row, with_wanted}
 use Rattle.world_model.specs.Runs.{IsStepRun, MayFollow, client_in, in_flight, node_in, restarting_in}
@@ -35,13 +34,14 @@ use Rattle.world_model.proofs.Orders.{of}
 use Rattle.world_model.proofs.Restarts.{OfRestarts, restarting_each}
 use Rattle.world_model.proofs.Sends.{advance_each, on}
 use Rattle.strict_laws.specs.Meant.{IsMeant}
+use Rattle.strict_laws.proofs.Meant.{took_meant}
 use Rattle.phase_laws.specs.Advances.{asked_for}
 use Rattle.phase_laws.specs.Phases.{count_in_flight}
 use Rattle.phase_laws.proofs.Lawful.{IsTreeLawful}
 use Rattle.phase_laws.proofs.Outcomes.{one_more_is}
 use Rattle.phase_laws.proofs.Progress.{MadeByRestarting, course, restarts}
 use Rattle.phase_laws.proofs.Working.{SentIn}
-use Rattle.epoch_laws.proofs.Aside.{Answered, Aside, Asks, Bare, Counts, Heeds, IsBare, IsSentBy, IsTold, Numbered, OfTree, Submits, Tells, Works, aside, sends_aside, took_meant}
+use Rattle.epoch_laws.proofs.Aside.{Answered, Aside, Asks, Bare, Counts, Heeds, IsBare, IsSentBy, IsTold, Numbered, OfTree, Submits, Tells, Works, aside, sends_aside}
 use Rattle.epoch_laws.proofs.AtCoordinator.{asked_stays}
 use Rattle.epoch_laws.proofs.Away.{restarting_kept}
 use Rattle.epoch_laws.proofs.Few.{IsFew, few}

@@ -4,6 +4,7 @@ use Rattle.std.specs.Prelude.{is_some, slice_get}
 use Rattle.std.proofs.lemmas.Bool.{and_from, cases_eq}
 use Rattle.std.proofs.lemmas.Bool.Decides.{nat_tests}
 use Rattle.std.proofs.lemmas.List.{get_or-set_other}
+use Rattle.tx_trees.proofs.SubsOf.{home_below}
 use Rattle.letter_types.specs.declared.entries.Entry.{Entry}
 use Rattle.letter_types.specs.declared.entries.Letter.{Letter}
 use Rattle.tx_trees.specs.ScriptData.{ScriptData, client_of, home_of, node_of, sub_at, subs_at}
@@ -24,7 +25,6 @@ use Rattle.tree_laws.proofs.AptDecided.{applied_when_answered}
 use Rattle.tree_laws.proofs.AptMakes.{node_in_script, node_visited}
 use Rattle.tree_laws.proofs.AptStagesOwn.{sub_of_node}
 use Rattle.tree_laws.proofs.AptStagesRun.{stages_of_trees}
-use Rattle.tree_laws.proofs.AptSteps.{home_node}
 use Rattle.tree_laws.proofs.AptTurns.{births_are_turns}
 use Rattle.tree_laws.proofs.Counted.{all_done_of, births_in, dids_in, was_done_of}
 use Rattle.run_laws.proofs.EveryApt.{all_apt}
@@ -132,7 +132,7 @@ answered_whole s past t valid run lt some =
     let xs : List Place = places_of (reverse past) in
     let apt = all_apt s past valid run in
     let all = turned s past t some (stages_of_trees s past valid apt run t lt) in
-    let root : SubAt s t 0 = sub_of_node s (home_of s t) t 0 refl (home_node s t valid lt) in
+    let root : SubAt s t 0 = sub_of_node s (home_of s t) t 0 refl (home_below s t valid lt) in
     let birth : 1 ≤ tally (of_act (is_born t)) xs =
     omega (
       arith,

@@ -7,12 +7,12 @@ use Rattle.node_versions.specs.declared.turns.Turns.{Turns}
 use Rattle.tx_trees.specs.Counts.{advances_in}
 use Rattle.tx_trees.specs.ScriptData.{ScriptData}
 use Rattle.tx_trees.specs.Valid.{IsValid}
+use Rattle.tx_trees.proofs.Rebuilding.{asked_most}
 use Rattle.board_rules.specs.Histories.{IsWhole, Place, places_of}
 use Rattle.board_rules.specs.Right.{HasFinished, finishes}
 use Rattle.world_model.specs.Client.{all_answered}
 use Rattle.world_model.specs.Runs.{IsStepRun, client_in, node_in}
 use Rattle.phase_laws.proofs.Advancing.{IsAdvancing}
-use Rattle.phase_laws.proofs.Small.{asked_most}
 use Rattle.tree_laws.specs.Ends.{is_finish}
 use Rattle.tree_laws.proofs.Acts.{any_counted, finish_marks, of_act}
 use Rattle.tree_laws.proofs.Finishes.{finishes_of, is_true_of}

@@ -25,11 +25,11 @@ use Rattle.world_model.specs.AllApt.{AllApt}
 use Rattle.world_model.specs.Runs.{IsStepRun, client_in, keeping_in, node_in}
 use Rattle.world_model.proofs.Every.{node_kept}
 use Rattle.world_model.proofs.Cases.{case}
+use Rattle.world_model.proofs.Bags.{one_if_both}
 use Rattle.tree_laws.specs.Dids.{asks, letters_asking}
 use Rattle.tree_laws.specs.Ends.{is_finish}
 use Rattle.tree_laws.proofs.Acts.{any_counted, finish_marks, of_act}
 use Rattle.tree_laws.proofs.AptTurns.{roots_have_turns}
-use Rattle.tree_laws.proofs.Counts.{one_here}
 use Rattle.tree_laws.proofs.Finishes.{finishes_of, is_true_of}
 use Rattle.run_laws.proofs.EveryApt.{all_apt}
 use Rattle.run_laws.proofs.InTime.{advancing_run}
@@ -84,7 +84,7 @@ born s past e p r t valid run b is =
     omega (
       arith,
       ap (asks t.0 0) is,
-      one_here t.0 0,
+      one_if_both t.0 0,
       brought_outstanding s past e p r b run.0 (λ (l : Letter). asks t.0 0 l.body),
     ) in
     let (i, lt, at) = tree_row t.0 next s.rows (omega (arith, some, roots_have_turns s past t.0 valid (all_apt s past valid run.1) run.1)) in

@@ -10,44 +10,19 @@ use Rattle.std.proofs.lemmas.Bool.Decides.{nat_tests}
 use Rattle.tv_base.specs.declared.numbers.Version.{Version}
 use Rattle.letter_types.specs.declared.entries.Entry.{Entry}
 use Rattle.letter_types.specs.declared.entries.Outgoing.{Outgoing}
-use Rattle.tx_trees.specs.Counts.{advances_in}
-use Rattle.tx_trees.specs.ScriptData.{ScriptData, client_of}
+use Rattle.tx_trees.specs.Counts.{advances_in, is_lossy}
+use Rattle.tx_trees.specs.ScriptData.{ScriptData}
 use Rattle.tx_trees.specs.Valid.{IsValid}
 use Rattle.tx_trees.specs.declared.parts.ScriptRow.{ScriptRow}
 use Rattle.tx_trees.specs.declared.parts.ScriptRow.TheVariants.{Tree as TreeRow, Advance as AdvanceRow, Settle as SettleRow, Lose as LoseRow}
 use Rattle.board_rules.specs.Gates.{awaited, before_settle, is_settle_row}
+use Rattle.board_rules.proofs.Settles.{behind_other, behind_settle}
 use Rattle.world_model.specs.Client.{Client, all_answered, have_ended, nudge, submit, submitted, with_answer, with_end}
-use Rattle.world_model.specs.Lossy.{is_lossy}
 use Rattle.world_model.specs.Runs.{IsStepRun, client_in}
 use Rattle.world_model.proofs.Flows.{client_kept}
 use Rattle.world_model.proofs.Nexts.{MadeByClient}
 use Rattle.phase_laws.proofs.ClientSteps.{Aside, Begins, ClientStep, Ends, Hears, Tells, client_step}
 use Rattle.tree_laws.proofs.Client.{answers_grow, end_grows}
-
--- The rows before the last settle row, with one row more after.
-settle_there : (xs : List ScriptRow) → list_any is_settle_row (xs ++ SettleRow ∷ []) ≡ true
-settle_there [] = refl
-settle_there (TreeRow t ∷ xs) = settle_there xs
-settle_there (AdvanceRow ∷ xs) = settle_there xs
-settle_there (SettleRow ∷ xs) = refl
-settle_there (LoseRow ∷ xs) = settle_there xs
-
--- after a settle row they are all before it
-settle_ends : (xs : List ScriptRow) → before_settle (xs ++ SettleRow ∷ []) ≡ xs
-settle_ends [] = refl
-settle_ends (x ∷ xs) = rw (settle_there xs) (ap (λ (rs : List ScriptRow). x ∷ rs) (settle_ends xs))
-
-settles_same : (xs : List ScriptRow) (r : ScriptRow) → is_settle_row r ≡ false → list_any is_settle_row (xs ++ r ∷ []) ≡ list_any is_settle_row xs
-settles_same [] r is = rw is refl
-settles_same (TreeRow t ∷ xs) r is = settles_same xs r is
-settles_same (AdvanceRow ∷ xs) r is = settles_same xs r is
-settles_same (SettleRow ∷ xs) r is = refl
-settles_same (LoseRow ∷ xs) r is = settles_same xs r is
-
--- another row leaves them
-row_ends : (xs : List ScriptRow) (r : ScriptRow) → is_settle_row r ≡ false → before_settle (xs ++ r ∷ []) ≡ before_settle xs
-row_ends [] r is = refl
-row_ends (x ∷ xs) r is = rw (settles_same xs r is, row_ends xs r is) refl
 
 -- How far the client submits: all for which a row waits has ended, from the rows before on.
 abbrev HasPassed : Client → List ScriptRow → Type 0
@@ -65,13 +40,13 @@ passed_at_settle : (c : Client) (before rows : List ScriptRow) (j : ℕ) (test :
     → HasPassed c (before ++ SettleRow ∷ take j rows)
 passed_at_settle c before rows j true is le rest =
     passed_later c before SettleRow (take j rows)
-    (rest (ap (λ (xs : List ScriptRow). have_ended c xs) (settle_ends before) ∙ is) (omega (arith, le)))
+    (rest (ap (λ (xs : List ScriptRow). have_ended c xs) (behind_settle before SettleRow refl) ∙ is) (omega (arith, le)))
 passed_at_settle c before rows j false is le rest = absurd (omega (arith, le))
 
 passed_row : (c : Client) (before rows : List ScriptRow) (r : ScriptRow) (j : ℕ) → is_settle_row r ≡ false → HasPassed c before
     → (HasPassed c (before ++ r ∷ []) → HasPassed c ((before ++ r ∷ []) ++ take j rows)) → HasPassed c (before ++ r ∷ take j rows)
 passed_row c before rows r j is base rest =
-    passed_later c before r (take j rows) (rest (ap (λ (xs : List ScriptRow). have_ended c xs) (row_ends before r is) ∙ base))
+    passed_later c before r (take j rows) (rest (ap (λ (xs : List ScriptRow). have_ended c xs) (behind_other before r is) ∙ base))
 
 passes : (c : Client) (before rows : List ScriptRow) (j : ℕ) → HasPassed c before → j ≤ submitted c before rows
     → HasPassed c (before ++ take j rows)

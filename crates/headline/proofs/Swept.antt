@@ -32,10 +32,10 @@ use Rattle.run_laws.proofs.InTime.{advancing_run}
 use Rattle.phase_laws.proofs.Brought.{BringsTo}
 use Rattle.phase_laws.proofs.Progress.{brings_to}
 use Rattle.tree_laws.proofs.AptItems.{Applies, Changes, Collects, Follows, Raises, Rests, Shows, Touches, core_changes, raised_to}
-use Rattle.tree_laws.proofs.Histories.{places_more}
 use Rattle.tree_laws.proofs.Seen.{raised_low}
 use Rattle.tree_laws.proofs.Counted.{placed}
 use Rattle.board_rules.proofs.Wholes.{any_more}
+use Rattle.board_rules.proofs.Places.{places_more}
 use Rattle.board_laws.proofs.Raised.{ordered_given, sweeps_ahead}
 
 -- What was collected, with more acts.

@@ -21,7 +21,7 @@ use Rattle.tx_trees.specs.declared.parts.Sub.{Sub}
 use Rattle.tx_trees.specs.declared.parts.TreeKind.{TreeKind}
 use Rattle.tx_trees.specs.declared.parts.TreeKind.TheVariants.{Strict}
 use Rattle.board_rules.specs.Histories.{Place, places_at, version_in}
-use Rattle.board_rules.proofs.Places.{version_stays}
+use Rattle.board_rules.proofs.Places.{version_stays, places_more}
 use Rattle.world_model.specs.Asked.{asked_version}
 use Rattle.world_model.specs.Core.{Core}
 use Rattle.world_model.specs.Counts.{one_if, tally}
@@ -30,7 +30,7 @@ use Rattle.world_model.specs.Named.{is_named, is_strict_at, tree_kind_at}
 use Rattle.world_model.specs.Node.{Node}
 use Rattle.world_model.specs.Runs.{IsStepRun, client_in, keeping_in, node_in}
 use Rattle.world_model.specs.Strict.{core_by_kind, core_row}
-use Rattle.world_model.proofs.Cases.{Case, Coordinates, Does, NodeDoes, NodeKeeps, Submits, case}
+use Rattle.world_model.proofs.Cases.{Case, Coordinates, Does, NodeDoes, NodeKeeps, Submits, case, apt_named}
 use Rattle.world_model.proofs.Every.{node_kept}
 use Rattle.world_model.proofs.Scripts.{get_below}
 use Rattle.phase_laws.proofs.Brought.{brought_outstanding, each_of_brought}
@@ -48,10 +48,8 @@ use Rattle.tree_laws.proofs.AptItems.{Applies, Changes, Collects, Follows, Raise
 use Rattle.tree_laws.proofs.AptMakes.{decision_waits}
 use Rattle.tree_laws.proofs.AptRulings.{client_acts, keeping_acts}
 use Rattle.tree_laws.proofs.AptStagesRun.{stages_of_trees}
-use Rattle.tree_laws.proofs.AptSteps.{apt_named}
 use Rattle.tree_laws.proofs.AptTurns.{core_turns}
 use Rattle.tree_laws.proofs.AptVersions.{DoneIn, before, is_version, version_is}
-use Rattle.tree_laws.proofs.Histories.{places_more}
 use Rattle.tree_laws.proofs.NodeLoads.{strict_there}
 use Rattle.tree_laws.proofs.Turns.{kind_version, work_version}
 use Rattle.run_laws.proofs.EveryApt.{all_apt}

@@ -5,11 +5,8 @@ use Rattle.std.proofs.lemmas.Bool.{and_parts}
 use Rattle.std.proofs.lemmas.Bool.Decides.{nat_tests}
 use Rattle.std.proofs.lemmas.List.{reverse-reverse}
 use Rattle.tv_base.proofs.Truths.{at_most, same_test}
-use Rattle.tv_base.specs.declared.numbers.Version.{Version}
-use Rattle.item_versions.specs.Item.{Held}
-use Rattle.item_versions.specs.Table.{Table}
-use Rattle.item_versions.specs.Collecting.{may_collect, may_collect_all}
-use Rattle.item_versions.specs.Window.{IsWindowed, IsWindowedTable}
+use Rattle.item_versions.specs.Window.{IsWindowedTable}
+use Rattle.item_versions.proofs.Window.{may_collect_all-windowed}
 use Rattle.letter_types.specs.declared.bodies.Body.{Body}
 use Rattle.letter_types.specs.declared.bodies.Body.TheVariants.{Go, Order, Sweep}
 use Rattle.letter_types.specs.declared.entries.Entry.{Entry}
@@ -37,18 +34,10 @@ use Rattle.run_laws.proofs.EveryApt.{all_apt}
 use Rattle.run_laws.proofs.Taken.{apt_here}
 
 -- An apt letter is widely apt.
-may_at : (low : ℕ) (f : Version) (h : Held) → IsWindowed low h → low ≤ f.0 → may_collect f h ≡ true
-may_at low f [] near le = absurd (omega (arith, near.least.0))
-may_at low f (x ∷ xs) near le = let first : x.0.0 ≤ f.0 = omega (arith, near.least.1, le) in grind (arith, nat_tests)
-
-may_all : (low : ℕ) (f : Version) (t : Table) → low ≤ f.0 → IsWindowedTable low t → may_collect_all f t ≡ true
-may_all low f [] le near = refl
-may_all low f (e ∷ es) le near = rw (may_at low f e.1 near.0 le) (may_all low f es le near.1)
-
 widely_timely : (s : ScriptData) (st : Node) (b : Body) → IsWindowedTable st.turns.low.0 st.items → is_timely s st b ≡ true
     → is_widely_timely s st b ≡ true
 widely_timely s st (Sweep v) near timely =
-    may_all st.turns.low.0 v st.items
+    may_collect_all-windowed st.turns.low.0 v st.items
     (at_most st.turns.low.0 v.0 (nat_le v.0 st.turns.read.0 && nat_le v.0 st.turns.update.0) timely) near
 widely_timely s st Go near timely = refl
 widely_timely s st _ near timely = refl

@@ -1,9 +1,8 @@
 -- What a run is once no letter is left.
 use Rattle.std.specs.Prelude.{◌+◌, ◌*◌, ◌≡◌, ◌≤◌, false, List, [], length, reverse}
 use Rattle.letter_types.specs.declared.entries.Entry.{Entry}
-use Rattle.tx_trees.specs.Counts.{advances_in, has_strict}
+use Rattle.tx_trees.specs.Counts.{advances_in, has_strict, is_lossy}
 use Rattle.tx_trees.specs.ScriptData.{ScriptData}
-use Rattle.world_model.specs.Lossy.{is_lossy}
 use Rattle.world_model.specs.Runs.{in_flight}
 use Rattle.tree_laws.specs.Entries.{entries_most, entries_of, rounds_in}
 use Rattle.headline.specs.Headline.{HasHeadline}

@@ -5,7 +5,7 @@ use Rattle.letter_types.specs.declared.entries.Entry.{Entry}
 use Rattle.tx_trees.specs.ScriptData.{ScriptData}
 use Rattle.board_rules.specs.Histories.{places_of}
 use Rattle.board_rules.specs.Judging.{Breaks, IsAccepted}
-use Rattle.board_rules.specs.Right.{HasFinished, has_finished}
+use Rattle.board_rules.specs.Right.{has_finished}
 use Rattle.board_judge.specs.Judged.{HasJudged, IsRefusal, JudgeData}
 use Rattle.board_judge.specs.declared.judge.Refused.{Refused}
 use Rattle.board_judge.specs.declared.judge.Refused.TheVariants as refused

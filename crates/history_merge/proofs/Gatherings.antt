@@ -4,27 +4,25 @@ use Rattle.std.specs.Prelude.{if◌then◌else◌, slice_get, sum_by}
 use Rattle.std.proofs.lemmas.Bool.Decides.{nat_tests}
 use Rattle.std.proofs.lemmas.List.{length-map, map-append}
 use Rattle.std.proofs.lemmas.Option.{same_Some}
-use Rattle.tv_base.proofs.ByPlace.{slice_get_split}
+use Rattle.tv_base.proofs.ByPlace.{slice_get_split, get_map, get_some}
 use Rattle.letter_types.specs.declared.entries.Entry.{Entry}
 use Rattle.letter_types.specs.declared.entries.Letter.{Letter}
 use Rattle.letter_types.specs.declared.entries.Posting.{Posting}
 use Rattle.letter_types.specs.Letters.{find_id, go}
 use Rattle.letter_types.specs.Postal.{IsMessageRun, letters_sent, delivery_of}
 use Rattle.letter_types.specs.Steps.{Out}
+use Rattle.letter_types.proofs.Ids.{id_stamp}
+use Rattle.letter_types.proofs.Postings.{entry_at}
 use Rattle.stamp_post.specs.declared.rule.JoinedReceipt.{JoinedReceipt}
 use Rattle.stamp_post.specs.declared.rule.JoinedSeat.{JoinedSeat}
 use Rattle.stamp_post.specs.Logs.{own_postings}
 use Rattle.stamp_post.specs.Shown.{Gathers, PostId, ReceiptData, SeatData, joined_seat, receipt_joined, seat_data, seat_joined}
-use Rattle.stamp_post.proofs.Claims.{id_stamp}
 use Rattle.tx_trees.specs.ScriptData.{ScriptData, client_of}
 use Rattle.world_model.specs.Runs.{IsRunOf, IsWorldRun, after}
 use Rattle.world_model.specs.Tables.{actor_row, start_actor}
-use Rattle.world_model.proofs.Actors.{entry_at}
-use Rattle.world_model.proofs.Scripts.{get_some}
 use Rattle.history_merge.specs.Histories.{HasReceiptEntry, last_acts}
 use Rattle.history_merge.specs.Merging.{AllRun, IsLogOf, IsMerged, IsWholeLog, joined_from}
 use Rattle.history_merge.proofs.OneMore.{acts_more}
-use Rattle.history_merge.proofs.Merges.{at_map}
 use Rattle.history_merge.proofs.Parts.{rows_together, sum_rows}
 
 joined_at : (n : ℕ) (rows : List (List Entry)) (a : ℕ) (es : List Entry) → slice_get rows a ≡ Some es
@@ -155,12 +153,12 @@ pub told : (s : ScriptData) (actors : ℕ) (rows : List (List Entry)) (receipts 
     (g : Gathers actors (joined_from 0 rows) (map receipt_joined receipts)) → AllRun s rows → length rows ≡ actors → 0 < actors → IsMerged g.log rows h
     → (k : ℕ) (r : ReceiptData) → slice_get receipts k ≡ Some r → HasReceiptEntry s h r
 told s actors rows receipts h g runs long some_there merged k r at =
-    let joined = at_map receipt_joined receipts k r at in
+    let joined = get_map receipt_joined receipts k r at in
     let stands = g.stands k (receipt_joined r) joined in
     let place = stands.0 in
     let there = entry_at h place r.posting (subst (λ (ps : List Posting). slice_get ps place ≡ Some r.posting) (sym merged.postings) stands.1) in
     let log_at : (j : ℕ) (e : Entry) → slice_get h j ≡ Some e → slice_get g.log j ≡ Some (delivery_of e) =
-    λ j e here. subst (λ (ps : List Posting). slice_get ps j ≡ Some (delivery_of e)) merged.postings (at_map delivery_of h j e here) in
+    λ j e here. subst (λ (ps : List Posting). slice_get ps j ≡ Some (delivery_of e)) merged.postings (get_map delivery_of h j e here) in
     let once : (j : ℕ) (e : Entry) → slice_get h j ≡ Some e → e.stamp.0 ≡ place + 1 → j ≡ place =
     λ j e here is. omega (arith, g.postal.stamps j (delivery_of e) (log_at j e here)) in
     record {

@@ -7,13 +7,12 @@ use Rattle.std.proofs.lemmas.List.{append-nil, length-set, map-append, take_all}
 use Rattle.std.proofs.Math.ListN.{drop_of_length-le}
 use Rattle.std.proofs.lemmas.List.Elements.{filter-append}
 use Rattle.std.proofs.lemmas.Option.{same_Some, slice_get-map, slice_get_within}
-use Rattle.tv_base.proofs.ByPlace.{get_set_other, get_set_same}
+use Rattle.tv_base.proofs.ByPlace.{get_set_other, get_set_same, get_some}
 use Rattle.letter_types.specs.declared.entries.Entry.{Entry}
 use Rattle.letter_types.specs.declared.entries.Posting.{Posting}
 use Rattle.letter_types.specs.Letters.{own}
 use Rattle.letter_types.specs.Postal.{delivery_of}
 use Rattle.stamp_post.specs.Logs.{own_postings}
-use Rattle.world_model.proofs.Scripts.{get_some}
 use Rattle.history_merge.specs.Merging.{IsLogOf, IsMerged, IsWholeLog}
 use Rattle.history_merge.specs.inside.Taking.{FirstHas, NoneHas, Taken}
 
@@ -215,9 +214,6 @@ ends log k all first rows long m = record {
       let same : r.begun ≡ es = same_Some r.begun es (sym r.was ∙ at) in
       sym (append-nil (own a all)) ∙ ap (λ (xs : List Entry). own a all ++ xs) (sym none) ∙ sym r.whole ∙ same;
 }
-
-pub at_map : {X Y : Type 0} (f : X → Y) (xs : List X) (i : ℕ) (x : X) → slice_get xs i ≡ Some x → slice_get (map f xs) i ≡ Some (f x)
-at_map f xs i x at = slice_get-map f xs i ∙ ap (option_map f) at
 
 -- the first of a list
 pub first_of : (es : List Entry) (e : Entry) (left : List Entry) (stamp : ℕ) → es ≡ e ∷ left → FirstHas stamp es → e.stamp.0 ≡ stamp

@@ -16,7 +16,6 @@ use Rattle.letter_types.specs.declared.votes.Vote.TheVariants as votes
 use Rattle.tx_trees.specs.ScriptData.{ScriptData, is_strict}
 use Rattle.tx_trees.specs.Valid.{IsValid}
 use Rattle.tx_trees.specs.declared.parts.Tree.{Tree}
-use Rattle.tx_trees.specs.declared.parts.TreeKind.{TreeKind}
 use Rattle.history_text.specs.Printable.{AreGot, HasStrictness, IsCause, IsAnswer, IsNotice, IsRow, IsTreeOf, IsVote}
 use Rattle.history_words.specs.Exact.{IsReadBack}
 use Rattle.history_words.specs.Words.{HasTree, cause_words, got_words, name_of_tree}

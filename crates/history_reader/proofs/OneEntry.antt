@@ -2,7 +2,6 @@
 use Rattle.std.proofs.Common.{◌≡◌, ◌∙◌, ◌++◌, List, ℕ, drop, refl, sym, ap, arith}
 use Rattle.std.specs.Prelude.{codes, decimal}
 use Rattle.std.specs.List.{AllByRecursion}
-use Rattle.tv_base.specs.declared.numbers.Stamp.{Stamp}
 use Rattle.letter_types.specs.declared.acts.Act.{Act}
 use Rattle.letter_types.specs.declared.entries.Entry.{Entry}
 use Rattle.letter_types.specs.declared.entries.LetterId.{LetterId}
@@ -16,7 +15,6 @@ use Rattle.history_words.proofs.Cuts.{one_cut}
 use Rattle.history_words.proofs.Lacking.{decimal_lacks}
 use Rattle.history_reader.specs.OneEntry.{TellTheSame}
 use Rattle.history_reader.specs.inside.Heads.{IsId, act_line_words, head_words, id_word, sent_words}
-use Rattle.history_reader.specs.inside.Lines.{begins}
 use Rattle.history_reader.proofs.LineLists.{same_lines, same_rest}
 use Rattle.history_reader.proofs.OneAct.{act_one}
 use Rattle.history_reader.proofs.OneBody.{body_one}

@@ -7,7 +7,6 @@ use Rattle.std.proofs.lemmas.Bool.{eq-eqb, eqb-true}
 use Rattle.std.proofs.lemmas.List.{append_cancel_left}
 use Rattle.tv_base.specs.declared.numbers.ActorNo.{ActorNo}
 use Rattle.tv_base.specs.declared.numbers.ItemNo.{ItemNo}
-use Rattle.tv_base.specs.declared.numbers.SubNo.{SubNo}
 use Rattle.tv_base.specs.declared.numbers.TreeNo.{TreeNo}
 use Rattle.tv_base.specs.declared.numbers.Version.{Version}
 use Rattle.commute_ops.specs.declared.kinds.Kind.{Kind}
@@ -42,7 +41,7 @@ use Rattle.history_words.proofs.Gots.{cut_got, item_lacks, of_item}
 use Rattle.history_words.proofs.OneToOne.{item_one, signed_one, tree_one}
 use Rattle.history_words.specs.Numbers.{is_plain_number}
 use Rattle.history_reader.specs.inside.BodyWords.{AreLineWords, answer_words, commit_word_of, notice_words, number_words, order_word, vote_words, whole_words}
-use Rattle.history_reader.proofs.ListsRead.{strictness_one, whole_plain, whole_strict}
+use Rattle.history_reader.proofs.ListsRead.{strictness_one, whole_strict}
 
 -- numbers that differ
 pub apart : (m n : ℕ) → (m == n) ≡ false → m ≡ n → ⊥

@@ -17,7 +17,7 @@ use Rattle.history_reader.specs.inside.Lines.{begins}
 use Rattle.history_reader.proofs.Forms.{act_tail, body_tail}
 use Rattle.history_reader.proofs.LineLists.{ArePrinted, IsPrinted, bad_line, good_line, no_line}
 use Rattle.history_reader.proofs.Solid.{actor_solid}
-use Rattle.history_reader.proofs.Spelling.{IsSolid, both, line, word}
+use Rattle.history_reader.proofs.Spelling.{both, line, word}
 
 -- a letter's line without its end
 abbrev pub sent_text : ScriptData → Outgoing → List ℕ

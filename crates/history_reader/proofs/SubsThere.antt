@@ -11,7 +11,6 @@ use Rattle.tx_trees.specs.declared.parts.Sub.{Sub}
 use Rattle.tx_trees.specs.declared.parts.Tree.{Tree}
 use Rattle.tx_trees.proofs.Lists.{lt_not}
 use Rattle.tx_trees.proofs.SubsOf.{few_subs, found_subs}
-use Rattle.report_text.specs.Names.{tree_text}
 use Rattle.history_text.specs.Printable.{IsHalfWord, IsSubOf}
 use Rattle.history_words.specs.Words.{HasTree, name_of_tree}
 use Rattle.history_words.proofs.Digits.{decimal_one}

@@ -16,7 +16,6 @@ use Rattle.history_text.specs.Names.{actor_text}
 use Rattle.history_text.specs.Printable.{Begins, EndsEntry, IsAct, IsPrintable, IsSent}
 use Rattle.history_words.specs.Parts.{lacks, parts_at}
 use Rattle.history_words.proofs.Cuts.{one_cut}
-use Rattle.history_words.proofs.Lacking.{decimal_lacks}
 use Rattle.history_reader.specs.declared.heads.Head.{Head}
 use Rattle.history_reader.specs.inside.Heads.{IsHead, IsId, act_line_words, head_words, id_word, sent_words}
 use Rattle.history_reader.specs.inside.Lines.{begins, ends_so}

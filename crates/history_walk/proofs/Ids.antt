@@ -10,7 +10,7 @@ use Rattle.letter_types.specs.declared.entries.Letter.{Letter}
 use Rattle.letter_types.specs.declared.entries.LetterId.{LetterId}
 use Rattle.letter_types.specs.declared.entries.Outgoing.{Outgoing}
 use Rattle.letter_types.specs.Letters.{find_id, same_id, sealed}
-use Rattle.letter_types.proofs.Ids.{same_id-self}
+use Rattle.letter_types.proofs.Ids.{same_id-self, id_is}
 use Rattle.history_walk.specs.Walks.{id_at, was_taken}
 
 -- ids that differ in a part
@@ -19,14 +19,6 @@ other_stamp id stamp place ne = ap (λ b. b && eqb id.place place) (ne_eqb id.st
 
 pub other_place : (id : LetterId) (stamp place : ℕ) → id.place ≢ place → same_id id (id_at stamp place) ≡ false
 other_place id stamp place ne = ap (λ b. eqb id.stamp.0 stamp && b) (ne_eqb id.place place ne) ∙ and-false (eqb id.stamp.0 stamp)
-
--- and those that don't
-pub id_is : (a b : LetterId) → same_id a b ≡ true → a ≡ b
-id_is a b is =
-    let both = and_parts (eqb a.stamp.0 b.stamp.0) (eqb a.place b.place) is in
-    let stamps : a.stamp.0 ≡ b.stamp.0 = grind (arith, nat_tests, both.0) in
-    let places : a.place ≡ b.place = grind (arith, nat_tests, both.1) in
-    λ i. record { stamp = record { 0 = stamps i }; place = places i }
 
 -- the letter that an actor sends at a stamp and a place
 abbrev pub sent_as : ℕ → ℕ → ℕ → Outgoing → Letter
@@ -52,22 +44,6 @@ find_place stamp actor first (suc d) place (o ∷ os) at =
 pub find_sent : (stamp actor place : ℕ) (os : List Outgoing)
     → find_id (id_at stamp place) (sealed stamp actor 0 os) ≡ option_map (sent_as stamp actor place) (slice_get os place)
 find_sent stamp actor place os = find_place stamp actor 0 place place os (omega arith)
-
--- and nothing is found of another stamp
-stamp_if : (b : Bool) (id : LetterId) (stamp place : ℕ) (x : Letter) (rest : Option Letter) (l : Letter)
-    → same_id id (id_at stamp place) ≡ b → (rest ≡ Some l → id.stamp.0 ≡ stamp) → (if b then Some x else rest) ≡ Some l
-    → id.stamp.0 ≡ stamp
-stamp_if true id stamp place x rest l same on is =
-    let both = and_parts (eqb id.stamp.0 stamp) (eqb id.place place) same in
-    grind (arith, nat_tests, both.0)
-stamp_if false id stamp place x rest l same on is = on is
-
-pub found_stamp : (id : LetterId) (stamp actor place : ℕ) (os : List Outgoing) (l : Letter)
-    → find_id id (sealed stamp actor place os) ≡ Some l → id.stamp.0 ≡ stamp
-found_stamp id stamp actor place [] l is = absurd (cc is)
-found_stamp id stamp actor place (o ∷ os) l is =
-    stamp_if (same_id id (id_at stamp place)) id stamp place (sent_as stamp actor place o)
-    (find_id id (sealed stamp actor (place + 1) os)) l refl (found_stamp id stamp actor (place + 1) os l) is
 
 -- an id is taken, or no entry took it
 pub never_taken : (id : LetterId) (h : List Entry) → ((k : ℕ) (e : Entry) → slice_get h k ≡ Some e → e.took.id ≢ id)

@@ -11,10 +11,6 @@ use Rattle.history_walk.specs.inside.Finding.{entry_with, left_without, letter_f
 use Rattle.history_walk.proofs.OneMore.{found_for_id}
 use Rattle.history_walk.proofs.Walked.{begins_alike, none_goes_on, walked_more, with_sent}
 
--- all that is behind a place
-pub rest_whole : (n : ℕ) (xs : List ℕ) → take (length xs - n) (drop n xs) ≡ drop n xs
-rest_whole n xs = take_all (length xs - n) (drop n xs) (omega (arith, length-drop n xs))
-
 -- the letters that are left behind an entry, by what is added to those without the one that it took
 pub letters_added : (e : Entry) (all left without_one : LettersLeft) → left ≡ without_one → all.begun ≡ left.begun
     → all.senders ≡ left.senders ++ record { from = e.actor; sent = e.sent } ∷ [] → all ≡ with_sent e without_one

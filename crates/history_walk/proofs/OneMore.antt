@@ -14,6 +14,8 @@ use Rattle.letter_types.specs.declared.entries.Letter.{Letter}
 use Rattle.letter_types.specs.declared.entries.LetterId.{LetterId}
 use Rattle.letter_types.specs.declared.entries.Posting.{Posting}
 use Rattle.letter_types.specs.Postal.{IsMessageRun, delivery_of}
+use Rattle.letter_types.proofs.Ids.{id_stamp}
+use Rattle.letter_types.proofs.Postings.{entry_at, posting_at}
 use Rattle.tx_trees.specs.ScriptData.{ScriptData, client_of}
 use Rattle.history_text.specs.Printable.{IsPrintable}
 use Rattle.history_reader.specs.OneEntry.{TellTheSame}
@@ -21,7 +23,7 @@ use Rattle.history_walk.specs.Walks.{IsPostal, LettersLeft, id_at, letters_left,
 use Rattle.history_walk.specs.inside.Finding.{addressed, entry_with, left_without, letter_for, letter_of}
 use Rattle.history_walk.proofs.Ids.{never_taken, taken_never}
 use Rattle.history_walk.proofs.Left.{begun_more, senders_count, senders_left}
-use Rattle.history_walk.proofs.Postings.{CameFrom, came, entry_at, postal_more, posting_at, stamp_of, took_stamp}
+use Rattle.history_walk.proofs.Postings.{CameFrom, came, postal_more, took_stamp}
 use Rattle.history_walk.proofs.SentTaken.{IsFound, finds, found, found_id}
 
 -- what a letter that is found for an entry says of the entry
@@ -75,7 +77,7 @@ go_place s h e post zero_is = by (came (client_of s) (map delivery_of h) (delive
   where
     by : CameFrom (client_of s) (map delivery_of h) e.took → e.took.id.place ≡ 0
     by (inl is) = ap (λ (x : Letter). x.id.place) is
-    by (inr (j, f, at, stamp, sent)) = absurd (omega (arith, zero_is, stamp, stamp_of f e.took sent))
+    by (inr (j, f, at, stamp, sent)) = absurd (omega (arith, zero_is, stamp, id_stamp f e.took sent))
 
 -- an entry for which a letter is found comes next with that letter
 module _ (s : ScriptData) (h : List Entry) (postal : IsPostal s h) (e : Entry) (may : IsPrintable s e) (l : Letter)

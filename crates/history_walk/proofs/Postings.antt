@@ -4,35 +4,16 @@ use Rattle.std.specs.Prelude.{map, slice_get}
 use Rattle.std.specs.Option.{option_map}
 use Rattle.std.proofs.lemmas.Option.{slice_get-map, slice_get_within}
 use Rattle.tv_base.proofs.ByPlace.{slice_get_last, slice_get_left, slice_get_split}
-use Rattle.letter_types.specs.declared.entries.Entry.{Entry}
 use Rattle.letter_types.specs.declared.entries.Letter.{Letter}
 use Rattle.letter_types.specs.declared.entries.Posting.{Posting}
 use Rattle.letter_types.specs.Letters.{find_id, go}
-use Rattle.letter_types.specs.Postal.{IsMessageRun, delivery_of, letters_sent}
-use Rattle.history_walk.proofs.Ids.{found_stamp}
-
--- an entry and its posting are at the same place
-pub posting_at : (h : List Entry) (k : ℕ) (e : Entry) → slice_get h k ≡ Some e
-    → slice_get (map delivery_of h) k ≡ Some (delivery_of e)
-posting_at h k e at = slice_get-map delivery_of h k ∙ ap (option_map delivery_of) at
-
-pub entry_at : (h : List Entry) (k : ℕ) (p : Posting) → slice_get (map delivery_of h) k ≡ Some p
-    → (e : Entry) × (slice_get h k ≡ Some e) × (delivery_of e ≡ p)
-entry_at h k p at = by (slice_get h k) refl (sym (slice_get-map delivery_of h k) ∙ at)
-  where
-    by : (x : Option Entry) → slice_get h k ≡ x → option_map delivery_of x ≡ Some p
-        → (e : Entry) × (slice_get h k ≡ Some e) × (delivery_of e ≡ p)
-    by None there is = absurd (cc is)
-    by (Some e) there is = (e, there, cc is)
+use Rattle.letter_types.specs.Postal.{IsMessageRun, letters_sent}
+use Rattle.letter_types.proofs.Ids.{id_stamp}
 
 -- Go, or what a posting of the log sent under its id
 abbrev pub CameFrom : ℕ → List Posting → Letter → Type 0
 CameFrom client log l = (l ≡ go client)
     ⊎ ((j : ℕ) × (f : Posting) × (slice_get log j ≡ Some f) × (f.stamp.0 ≡ j + 1) × (find_id l.id (letters_sent f) ≡ Some l))
-
--- the stamp of a letter's id is that of the posting that sent it
-pub stamp_of : (f : Posting) (l : Letter) → find_id l.id (letters_sent f) ≡ Some l → l.id.stamp.0 ≡ f.stamp.0
-stamp_of f l is = found_stamp l.id f.stamp.0 f.actor.0 0 f.sent l is
 
 -- what the last posting took came from those before it
 came_by : (client : ℕ) (log : List Posting) (p : Posting) → IsMessageRun client (log ++ p ∷ [])
@@ -58,7 +39,7 @@ took_stamp client log k p post at = by (post.sent k p at)
     by (inl is) =
         let first : p.took.id.stamp.0 ≡ 0 = ap (λ (x : Letter). x.id.stamp.0) is in
         omega (arith, first)
-    by (inr (j, f, lt, there, found)) = omega (arith, lt, stamp_of f p.took found, post.stamps j f there)
+    by (inr (j, f, lt, there, found)) = omega (arith, lt, id_stamp f p.took found, post.stamps j f there)
 
 -- a log with one posting more
 module _ (client : ℕ) (log : List Posting) (p : Posting) (old : IsMessageRun client log)

@@ -11,17 +11,18 @@ use Rattle.letter_types.specs.declared.entries.LetterId.{LetterId}
 use Rattle.letter_types.specs.declared.entries.Posting.{Posting}
 use Rattle.letter_types.specs.Letters.{find_id, go}
 use Rattle.letter_types.specs.Postal.{IsMessageRun, delivery_of, letters_sent}
+use Rattle.letter_types.proofs.Ids.{id_stamp}
 use Rattle.tx_trees.specs.ScriptData.{ScriptData, client_of}
 use Rattle.history_reader.specs.OneEntry.{TellTheSame}
 use Rattle.history_walk.specs.Walks.{IsPostal}
-use Rattle.history_walk.proofs.Postings.{CameFrom, came, stamp_of}
+use Rattle.history_walk.proofs.Postings.{CameFrom, came}
 
 -- Go and what was sent have different ids, and under an id one letter was sent at most
 go_apart : (client : ℕ) (l m : Letter) (j : ℕ) (f : Posting) → l ≡ go client → f.stamp.0 ≡ j + 1
     → find_id m.id (letters_sent f) ≡ Some m → l.id.stamp.0 ≡ m.id.stamp.0 → ⊥
 go_apart client l m j f is stamp found same =
     let first : l.id.stamp.0 ≡ 0 = ap (λ (x : Letter). x.id.stamp.0) is in
-    omega (arith, first, stamp, stamp_of f m found, same)
+    omega (arith, first, stamp, id_stamp f m found, same)
 
 one_letter : (client : ℕ) (log : List Posting) (l m : Letter) → CameFrom client log l → CameFrom client log m → l.id ≡ m.id → l ≡ m
 one_letter client log l m (inl is) (inl so) same = is ∙ sym so
@@ -31,7 +32,7 @@ one_letter client log l m (inr (j, f, at, stamp, found)) (inl is) same =
     absurd (go_apart client m l j f is stamp found (ap (λ (i : LetterId). i.stamp.0) (sym same)))
 one_letter client log l m (inr (j, f, at, stamp, found)) (inr (k, g, here, so, known)) same =
     let stamps : l.id.stamp.0 ≡ m.id.stamp.0 = ap (λ (i : LetterId). i.stamp.0) same in
-    let place : j ≡ k = omega (arith, stamp_of f l found, stamp_of g m known, stamps, stamp, so) in
+    let place : j ≡ k = omega (arith, id_stamp f l found, id_stamp g m known, stamps, stamp, so) in
     let there : Some f ≡ Some g = sym at ∙ ap (slice_get log) place ∙ here in
     let sender : f ≡ g = cc there in
     let two : Some l ≡ Some m =

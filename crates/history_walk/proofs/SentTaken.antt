@@ -5,6 +5,7 @@ use Rattle.std.specs.Option.{option_map}
 use Rattle.std.specs.List.{AllByRecursion}
 use Rattle.std.proofs.lemmas.Bool.Decides.{nat_tests}
 use Rattle.tv_base.specs.declared.numbers.ActorNo.{ActorNo}
+use Rattle.tx_trees.proofs.SubsOf.{all_at}
 use Rattle.letter_types.specs.declared.bodies.Body.{Body}
 use Rattle.letter_types.specs.declared.bodies.Body.TheVariants.{Go}
 use Rattle.letter_types.specs.declared.entries.Entry.{Entry}
@@ -14,6 +15,8 @@ use Rattle.letter_types.specs.declared.entries.Outgoing.{Outgoing}
 use Rattle.letter_types.specs.declared.entries.Posting.{Posting}
 use Rattle.letter_types.specs.Letters.{find_id, go}
 use Rattle.letter_types.specs.Postal.{delivery_of, letters_sent}
+use Rattle.letter_types.proofs.Ids.{id_stamp}
+use Rattle.letter_types.proofs.Postings.{entry_at, posting_at}
 use Rattle.tx_trees.specs.ScriptData.{ScriptData}
 use Rattle.history_text.specs.Printable.{IsBody, IsPrintable, IsSent}
 use Rattle.history_walk.specs.declared.in_flight.Sender.{Sender}
@@ -21,7 +24,7 @@ use Rattle.history_walk.specs.Walks.{LettersLeft, id_at, letter_left, letters_le
 use Rattle.history_walk.specs.inside.Finding.{go_left, is_spent, letter_at, letter_by, letter_of}
 use Rattle.history_walk.proofs.Ids.{find_sent, sent_as}
 use Rattle.history_walk.proofs.Left.{left_place, sender_of, sender_place}
-use Rattle.history_walk.proofs.Postings.{CameFrom, entry_at, posting_at, stamp_of}
+use Rattle.history_walk.proofs.Postings.{CameFrom}
 
 -- entries have their stamps
 abbrev pub AreStamped : List Entry → Type 0
@@ -158,11 +161,6 @@ not_go : (s : ScriptData) (body : Body) → IsBody s body → is_spent body ≡ 
 not_go s Go may = absurd may
 not_go s _ may = refl
 
-all_at : {A : Type 0} (P : A → Type 0) (xs : List A) (k : ℕ) (x : A) → AllByRecursion P xs → slice_get xs k ≡ Some x → P x
-all_at P [] k x all at = absurd (cc at)
-all_at P (y ∷ xs) zero x all at = let one : y ≡ x = cc at in subst P one all.0
-all_at P (y ∷ xs) (suc k) x all at = all_at P xs k x all.1 at
-
 finds_left : (id : LetterId) (from : ActorNo) (b : Bool) (o : Outgoing) → b ≡ false → is_spent o.body ≡ false
     → letter_at id from (Some (record { to = o.to; body = (if b then Go else o.body) }))
     ≡ Some (record { id = id; from = from; to = o.to; body = o.body })
@@ -194,7 +192,7 @@ module _ (s : ScriptData) (client : ℕ) (h : List Entry) (may : AllByRecursion 
   finds_by : (k : ℕ) (e : Entry) → slice_get h k ≡ Some e → e.stamp.0 ≡ k + 1
       → find_id l.id (letters_sent (delivery_of e)) ≡ Some l → letter_of client (letters_left h) l.id ≡ Some l
   finds_by k e there stamp found =
-      let same : l.id.stamp.0 ≡ e.stamp.0 = stamp_of (delivery_of e) l found in
+      let same : l.id.stamp.0 ≡ e.stamp.0 = id_stamp (delivery_of e) l found in
       let own : id_at e.stamp.0 l.id.place ≡ l.id = λ i. record { stamp = record { 0 = sym same i }; place = l.id.place } in
       finds_there k e (slice_get e.sent l.id.place) there stamp (same ∙ stamp) refl
       (sym (find_sent e.stamp.0 e.actor.0 l.id.place e.sent) ∙ ap (λ (i : LetterId). find_id i (letters_sent (delivery_of e))) own ∙ found)

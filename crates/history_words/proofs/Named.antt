@@ -10,6 +10,7 @@ use Rattle.std.proofs.lemmas.Slice.Eq.{bytes_eq-Decides}
 use Rattle.tv_base.specs.declared.numbers.ItemNo.{ItemNo}
 use Rattle.tv_base.specs.declared.numbers.TreeNo.{TreeNo}
 use Rattle.tv_base.proofs.Truths.{left_true, right_true}
+use Rattle.tv_base.proofs.ByPlace.{get_some}
 use Rattle.tx_trees.specs.Adding.{place_of}
 use Rattle.tx_trees.specs.Names.{has_name_len, is_name}
 use Rattle.tx_trees.specs.ScriptData.{ScriptData}
@@ -21,12 +22,6 @@ use Rattle.tx_trees.specs.Found.{tree_place}
 use Rattle.report_text.specs.Names.{item_text, tree_text}
 use Rattle.history_words.specs.Exact.{IsReadBack}
 use Rattle.history_words.specs.Words.{HasItem, HasTree, name_of_item, name_of_tree}
-
--- what is at a place that is there
-pub at_place : {X : Type 0} (xs : List X) (k : ℕ) → k < length xs → (x : X) × (slice_get xs k ≡ Some x)
-at_place [] k h = absurd (omega arith)
-at_place (x ∷ xs) zero h = (x, refl)
-at_place (x ∷ xs) (suc k) h = at_place xs k (omega arith)
 
 -- what passes a test is behind the first that does, or is it
 comes_by : {X : Type 0} (p : X → Bool) (xs : List X) (k : ℕ) (x : X) → slice_get xs k ≡ Some x → p x ≡ true → position_or_len p xs < length xs
@@ -64,12 +59,12 @@ name_len name h =
 -- the tree at a place that is there
 pub tree_there : (s : ScriptData) (t : ℕ) → IsValid s → t < length s.trees → (tree : Tree) × (slice_get s.trees t ≡ Some tree) × (tree_text s t ≡ tree.name) × IsTrue (is_name tree.name)
 tree_there s t valid h =
-    let (tree, is) = at_place s.trees t h in
+    let (tree, is) = get_some s.trees t h in
     (tree, is, rw (is, tree_text) refl, (all_at (IsTree s.nodes s.items) s.trees t tree valid.trees is).name)
 
 pub item_there : (s : ScriptData) (x : ℕ) → IsValid s → x < length s.items → (row : ItemRow) × (slice_get s.items x ≡ Some row) × (item_text s x ≡ row.name) × IsTrue (is_name row.name)
 item_there s x valid h =
-    let (row, is) = at_place s.items x h in
+    let (row, is) = get_some s.items x h in
     (row, is, rw (is, item_text) refl, (all_at (IsItem s.nodes) s.items x row valid.items is).name)
 
 same_bytes : (xs ys : List ℕ) → xs ≡ ys → bytes_eq xs ys ≡ true

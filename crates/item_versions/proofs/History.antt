@@ -63,7 +63,7 @@ pub stays_held : StaysHeld
 stays_held w steps = stays_held_from steps (new_held w) tt
 
 -- the versions held
-holds-append : (n : Version) (xs ys : Held) → holds n (xs ++ ys) ≡ (holds n xs || holds n ys)
+pub holds-append : (n : Version) (xs ys : Held) → holds n (xs ++ ys) ≡ (holds n xs || holds n ys)
 holds-append n [] ys = refl
 holds-append n (x ∷ xs) ys = let rest = holds-append n xs ys in grind (arith, nat_tests)
 
@@ -71,7 +71,7 @@ holds-applied : (n : Version) (op : Op) (xs : Held) → holds n (applied_to_all 
 holds-applied n op [] = refl
 holds-applied n op (x ∷ xs) = ap (λ b. x.0.0 == n.0 || b) (holds-applied n op xs)
 
-holds-below : (n v : Version) (xs : Held) → holds n (below v xs) ≡ (ltb n.0 v.0 && holds n xs)
+pub holds-below : (n v : Version) (xs : Held) → holds n (below v xs) ≡ (ltb n.0 v.0 && holds n xs)
 holds-below n v [] = grind (arith, nat_tests)
 holds-below n v (x ∷ xs) = let rest = holds-below n v xs in grind (arith, nat_tests)
 

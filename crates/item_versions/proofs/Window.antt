@@ -16,6 +16,7 @@ use Rattle.item_versions.proofs.Order.{below-nil}
 use Rattle.item_versions.proofs.Staging.{touch-there}
 use Rattle.item_versions.proofs.Holding.{IsHeld-item_in}
 use Rattle.item_versions.proofs.Tables.{each-replaced, each-pending, each-append, each-item}
+use Rattle.item_versions.specs.Collecting.{may_collect, may_collect_all}
 
 -- what the test says
 pub in_window-low : (low v : ℕ) → in_window low v ≡ true → low ≤ v
@@ -192,3 +193,14 @@ pub has_room_in-may_touch : (low : ℕ) (v : Version) (n : ItemNo) (op : Op) (t 
     → IsHeldTable t → IsWindowedTable low t → in_window low v.0 ≡ true → has_room_in v n t ≡ true
 has_room_in-may_touch low v n op t may held all within =
     let (h, is, can) = touch-there v op n t may in has_room_in-windowed low v n h t is held all within
+
+-- a windowed item may be collected to its low version, and to any later one
+pub may-windowed : (low : ℕ) (f : Version) (h : Held) → IsWindowed low h → low ≤ f.0 → may_collect f h ≡ true
+may-windowed low f [] win le = absurd (omega (arith, win.least.0))
+may-windowed low f (x ∷ xs) win le = let first = win.least.1 in grind (arith, nat_tests)
+
+pub may_collect_all-windowed : (low : ℕ) (f : Version) (t : Table) → low ≤ f.0 → IsWindowedTable low t
+    → may_collect_all f t ≡ true
+may_collect_all-windowed low f [] le win = refl
+may_collect_all-windowed low f (e ∷ es) le win =
+    rw (may-windowed low f e.1 win.0 le) (may_collect_all-windowed low f es le win.1)

@@ -212,13 +212,6 @@ wakes_none (Shows v) is why = let no : Some Show ≡ nothing = is in cc
 wakes_none (Decides t v c) is why = let no : Some (Holder t) ≡ nothing = is in cc
 wakes_none _ is why = refl
 
-pub none_woken : (test : Why → Bool) (xs : List KeptLetter) → ((why : Why) → test why ≡ false) → wakes test xs ≡ []
-none_woken test [] none = refl
-none_woken test (x ∷ xs) none =
-    ap (λ (b : Bool). cond b (record { to = x.letter.to; body = Wake x.tree x.sub } ∷ wakes test xs) (wakes test xs))
-    (none x.why)
-    ∙ none_woken test xs none
-
 pub none_called : (test : Why → Bool) (xs : List KeptLetter) → ((why : Why) → test why ≡ false)
     → with_called test xs ≡ xs
 none_called test [] none = refl

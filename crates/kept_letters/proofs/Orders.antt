@@ -7,6 +7,7 @@ use Rattle.std.specs.Ordering.{nat_cmp, ordering_then, is_eq}
 use Rattle.std.proofs.lemmas.Bool.Decides.{nat_tests}
 use Rattle.std.proofs.lemmas.Cmp.{nat_cmp_total, tied_itself}
 use Rattle.std.proofs.lemmas.Map.Lookups.{CmpEqualImpliesEq, exact_unsigned}
+use Rattle.tv_base.proofs.Orderings.{is_eq-then, is_eq-true, then_first, then_second}
 use Rattle.kept_letters.specs.declared.places.Key.{Key}
 use Rattle.kept_letters.specs.declared.places.Key.TheVariants.{Sub, Show, Holder}
 use Rattle.kept_letters.specs.declared.places.Place.{Place}
@@ -19,26 +20,6 @@ key_total = key.total-law
 
 pub place_total : IsTotalOrder place_order
 place_total = place.total-law
-
-pub is_eq-then : (p q : Ordering) → is_eq (ordering_then p q) ≡ (is_eq p && is_eq q)
-is_eq-then Less q = refl
-is_eq-then Equal q = refl
-is_eq-then Greater q = refl
-
-then_first : (p q : Ordering) → ordering_then p q ≡ Equal → p ≡ Equal
-then_first Less q e = e
-then_first Equal q e = refl
-then_first Greater q e = e
-
-then_second : (p q : Ordering) → ordering_then p q ≡ Equal → q ≡ Equal
-then_second Less q e = let no : Less ≡ Equal = e in cc
-then_second Equal q e = e
-then_second Greater q e = let no : Greater ≡ Equal = e in cc
-
-pub is_eq-true : (r : Ordering) → is_eq r ≡ true → r ≡ Equal
-is_eq-true Less e = let no : false ≡ true = e in cc
-is_eq-true Equal e = refl
-is_eq-true Greater e = let no : false ≡ true = e in cc
 
 pub key_exact : CmpEqualImpliesEq key_order
 key_exact (Sub t k) (Sub u l) e =
@@ -79,9 +60,3 @@ key_itself a = tied_itself key_total a
 pub is_eq-place : (a b : Place)
     → is_eq (place_order a b) ≡ (is_eq (key_order a.key b.key) && is_eq (nat_cmp a.arrival b.arrival))
 is_eq-place a b = is_eq-then (key_order a.key b.key) (nat_cmp a.arrival b.arrival)
-
-pub is_eq-number : (a b : ℕ) → is_eq (nat_cmp a b) ≡ eqb b a
-is_eq-number a b = grind (arith, nat_tests)
-
-pub is_eq-back : (a b : ℕ) → is_eq (nat_cmp a b) ≡ eqb a b
-is_eq-back a b = grind (arith, nat_tests)

@@ -4,6 +4,7 @@ use Rattle.std.specs.List.{AllByRecursion}
 use Rattle.std.specs.Ordering.{is_eq, nat_cmp}
 use Rattle.tv_base.specs.declared.numbers.SubNo.{SubNo}
 use Rattle.tv_base.specs.declared.numbers.TreeNo.{TreeNo}
+use Rattle.tv_base.proofs.Orderings.{is_eq-back, is_eq-then}
 use Rattle.letter_types.specs.declared.kept.KeptLetter.{KeptLetter}
 use Rattle.letter_types.specs.declared.kept.Why.{Why}
 use Rattle.letter_types.specs.declared.kept.Why.TheVariants.{ForShow, ForHolder, Called}
@@ -12,7 +13,6 @@ use Rattle.kept_letters.specs.declared.places.Key.TheVariants.{Sub}
 use Rattle.kept_letters.specs.declared.places.Place.{Place}
 use Rattle.kept_letters.specs.inside.Arrivals.{ArePlaced, Arrived, called_at, called_in, came, is_called_now, is_found}
 use Rattle.kept_letters.specs.inside.Places.{finds, is_why, key_order, place_by}
-use Rattle.kept_letters.proofs.Orders.{is_eq-back, is_eq-then}
 use Rattle.kept_letters.proofs.Finding.{each_came, part_is, part_of, places_of}
 
 -- by its subtransaction a letter is found whatever it is kept for

@@ -30,7 +30,7 @@ pub enum Answer {
     Aborted(Boxed<Cause>),
 }
 
-/// What a coordinator that has forgotten its state has a node do with a version.
+/// What a coordinator has a node do with a version.
 #[derive(Clone, Copy, Debug, PartialEq, Eq)]
 pub enum What {
     /// Raise the update version to it.
@@ -119,7 +119,7 @@ pub enum Body {
         round: u64,
         row: Row,
     },
-    /// An advancement has ended.
+    /// An advancement has ended. Where the coordinator may forget: so many have ended, `version`.
     Advanced {
         version: Version,
     },

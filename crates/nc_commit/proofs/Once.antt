@@ -10,7 +10,6 @@ use Rattle.tx_trees.specs.declared.parts.Sub.{Sub}
 use Rattle.tx_trees.specs.declared.parts.SubOp.{SubOp}
 use Rattle.tx_trees.specs.declared.parts.Tree.{Tree}
 use Rattle.tx_trees.specs.declared.parts.TreeKind.{TreeKind}
-use Rattle.tx_trees.specs.declared.parts.TreeKind.TheVariants.{Update, Read, Strict}
 use Rattle.tx_trees.proofs.SubsOf.{all_at}
 use Rattle.world_model.specs.Named.{is_strict_at}
 use Rattle.nc_commit.specs.Decisions.{ops_at}

@@ -6,6 +6,7 @@ use Rattle.std.proofs.lemmas.Bool.{and_from, and_parts}
 use Rattle.std.proofs.lemmas.Bool.Decides.{nat_tests}
 use Rattle.tv_base.specs.declared.numbers.ItemNo.{ItemNo}
 use Rattle.tv_base.specs.declared.numbers.TreeNo.{TreeNo}
+use Rattle.tv_base.proofs.Orderings.{is_eq-back, is_eq-number, is_eq-then}
 use Rattle.nc_locks.specs.declared.modes.Lock.{Lock}
 use Rattle.nc_locks.specs.declared.modes.Mode.{Mode}
 use Rattle.nc_locks.specs.Laws.{FreedAscend, FreedAreGone, TakenStand, ListsAreTheirLocks, MetIsFirst, ModesAreLocks, NoneInWay, TakenAscend}
@@ -14,7 +15,6 @@ use Rattle.nc_locks.specs.Modes.{mode_rank}
 use Rattle.nc_locks.specs.inside.Found.{IsFirst}
 use Rattle.nc_locks.proofs.Firsts.{first-found}
 use Rattle.nc_locks.proofs.Members.{has-with_each, has-without, same_locks, sorted-with_each, sorted-without}
-use Rattle.nc_locks.proofs.Orders.{is_eq-then}
 
 pub taken_stand : TakenStand
 taken_stand l t ws ls = has-with_each l (wanted_locks t ws) ls
@@ -30,12 +30,6 @@ freed_ascend t ls up = sorted-without t ls up
 
 pub lists_are_their_locks : ListsAreTheirLocks
 lists_are_their_locks ls ms up up' same = same_locks ls ms up up' same
-
-is_eq-number : (x y : ℕ) → is_eq (nat_cmp x y) ≡ eqb y x
-is_eq-number x y = grind (arith, nat_tests)
-
-is_eq-mode : (x y : ℕ) → is_eq (nat_cmp x y) ≡ eqb x y
-is_eq-mode x y = grind (arith, nat_tests)
 
 regrouped : (a b c : Bool) → (a && (b && c)) ≡ ((a && c) && b)
 regrouped true true true = refl
@@ -54,7 +48,7 @@ is_eq-parts l a =
     ∙ ap (λ (b : Bool). is_eq (nat_cmp l.item.0 a.item.0) && b)
     (is_eq-then (nat_cmp (mode_rank l.mode) (mode_rank a.mode)) (nat_cmp l.tree.0 a.tree.0))
     ∙ (λ i. is_eq-number l.item.0 a.item.0 i
-    && (is_eq-mode (mode_rank l.mode) (mode_rank a.mode) i && is_eq-number l.tree.0 a.tree.0 i))
+    && (is_eq-back (mode_rank l.mode) (mode_rank a.mode) i && is_eq-number l.tree.0 a.tree.0 i))
     ∙ regrouped (eqb a.item.0 l.item.0) (eqb (mode_rank l.mode) (mode_rank a.mode)) (eqb a.tree.0 l.tree.0)
 
 abbrev is_mode : Lock → Mode → Bool

@@ -6,6 +6,7 @@ use Rattle.std.specs.Cmp.{IsTotalOrder}
 use Rattle.std.specs.Ordering.{nat_cmp, ordering_then, is_eq}
 use Rattle.std.proofs.lemmas.Cmp.{nat_cmp_total, on_total, then_total, tied_itself}
 use Rattle.std.proofs.lemmas.Map.Lookups.{CmpEqualImpliesEq, exact_unsigned}
+use Rattle.tv_base.proofs.Orderings.{is_eq-then, is_eq-true, then_first, then_second}
 use Rattle.nc_locks.specs.declared.modes.Lock.{Lock}
 use Rattle.nc_locks.specs.declared.modes.Mode.{Mode}
 use Rattle.nc_locks.specs.declared.modes.Mode.TheVariants.{Mark, Look, Hold}
@@ -37,16 +38,6 @@ rank_exact Look Hold e = absurd (omega (arith, e))
 rank_exact Hold Mark e = absurd (omega (arith, e))
 rank_exact Hold Look e = absurd (omega (arith, e))
 
-then_first : (p q : Ordering) → ordering_then p q ≡ Equal → p ≡ Equal
-then_first Less q e = e
-then_first Equal q e = refl
-then_first Greater q e = e
-
-then_second : (p q : Ordering) → ordering_then p q ≡ Equal → q ≡ Equal
-then_second Less q e = let no : Less ≡ Equal = e in cc
-then_second Equal q e = e
-then_second Greater q e = let no : Greater ≡ Equal = e in cc
-
 -- three numbers, of which the second is a mode's, make a lock
 pub same_parts : (a b : Lock) → a.item.0 ≡ b.item.0 → mode_rank a.mode ≡ mode_rank b.mode → a.tree.0 ≡ b.tree.0 → a ≡ b
 same_parts a b x m t =
@@ -63,21 +54,11 @@ lock_exact a b e =
     same_parts a b (exact_unsigned _ _ (then_first items (ordering_then modes trees) e))
     (exact_unsigned _ _ (then_first modes trees rest)) (exact_unsigned _ _ (then_second modes trees rest))
 
-is_eq-true : (r : Ordering) → is_eq r ≡ true → r ≡ Equal
-is_eq-true Less e = let no : false ≡ true = e in cc
-is_eq-true Equal e = refl
-is_eq-true Greater e = let no : false ≡ true = e in cc
-
 pub same_lock : (a b : Lock) → is_eq (lock_order a b) ≡ true → a ≡ b
 same_lock a b e = lock_exact a b (is_eq-true (lock_order a b) e)
 
 pub itself : (a : Lock) → is_eq (lock_order a a) ≡ true
 itself a = ap is_eq (tied_itself lock_total a)
-
-pub is_eq-then : (p q : Ordering) → is_eq (ordering_then p q) ≡ (is_eq p && is_eq q)
-is_eq-then Less q = refl
-is_eq-then Equal q = refl
-is_eq-then Greater q = refl
 
 and_turned : (a b c : Bool) → (c && (a && b)) ≡ (a && (b && c))
 and_turned true true true = refl

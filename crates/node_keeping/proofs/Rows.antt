@@ -2,6 +2,7 @@
 use Rattle.std.proofs.Common.{◌≡◌, ℕ, ◌==◌, ◌&&◌, Bool, true, false, List, [], ◌∷◌, ◌++◌, refl, sym, ap, ◌∙◌, subst, arith, Option, Some, None}
 use Rattle.std.specs.Prelude.{if◌then◌else◌, IsSome}
 use Rattle.std.proofs.lemmas.Bool.Decides.{nat_tests}
+use Rattle.std.proofs.lemmas.Bool.{eq-eqb}
 use Rattle.tv_base.specs.declared.numbers.SubNo.{SubNo}
 use Rattle.tv_base.specs.declared.numbers.TreeNo.{TreeNo}
 use Rattle.tv_base.specs.declared.numbers.Version.{Version}
@@ -122,16 +123,13 @@ may_keep l r t k why kept at is asks = may_by l.to.0 l r t k why kept l.body at 
 abbrev row_by : ScriptData → ℕ → Letter → Letter → KeepingNode → Bool → Option CoreKeeping → Out KeepingNode
 row_by s p l r n test kept = if test then kept_row s p l r n kept else still n
 
-same_number : (a b : ℕ) → a ≡ b → (a == b) ≡ true
-same_number a b is = grind (arith, nat_tests)
-
 apt_by : (test : Bool) (s : ScriptData) (p : ℕ) (n : KeepingNode) (l r : Letter) → brought n.kept l l.body ≡ Some r
     → r.to.0 ≡ p → is_core_apt s r.to.0 n.core r ≡ test
     → row_by s p l r n test (core_keeping s n.core r.body) ≡ keeping_row s p n l
 apt_by test s p n l r is to apt =
     let here : is_core_apt s p n.core r ≡ test = ap (λ (q : ℕ). is_core_apt s q n.core r) (sym to) ∙ apt in
     let there : ((r.to.0 == p) && is_core_apt s p n.core r) ≡ test =
-    ap (λ (b : Bool). b && is_core_apt s p n.core r) (same_number r.to.0 p to) ∙ here in
+    ap (λ (b : Bool). b && is_core_apt s p n.core r) (eq-eqb r.to.0 p to) ∙ here in
     sym (ap (λ (b : Bool). row_by s p l r n b (core_keeping s n.core r.body)) there)
     ∙ sym (ap (λ (o : Option Letter). brought_row (is_core_apt s p) s p l n o) is)
 

@@ -184,8 +184,8 @@ fn plain_order(what: What, version: Version) -> Body
     }
 }
 
-/// A letter that wakes what an order of a coordinator that forgets does: the one for which the order stands, if it takes
-/// effect, and else the order, which as a letter wakes none.
+/// A letter that wakes just what an order of a coordinator that forgets wakes: the order for which it stands, if it takes
+/// effect; else the order itself, which wakes nothing.
 fn waking_order(core: &NodeCore, epoch: u64, what: What, version: Version) -> Body
     ensures { result ≡ waking_order epoch what version (core_of core.now) }
 {

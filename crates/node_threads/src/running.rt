@@ -94,7 +94,7 @@ fn run_named<K: ClusterName + Send + Sync, R: Threads + Wait + Sync, G: Gate + S
 
 /// Runs a script by so many workers, each in a thread of its own where one is found. Actors are held at the gate. The
 /// history is a run of the script to its end, in the order in which the entries were stamped: the client has finished,
-/// and every letter was taken. A `lose` row of the script is passed over: nothing forgets here.
+/// and every letter was taken.
 ///
 /// The answer is `NoMemory` too where the run stopped for another cause of `RunStop`, which no run comes to.
 pub fn run<R: Threads + Wait + Sync, G: Gate + Sync>(

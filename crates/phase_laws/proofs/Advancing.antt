@@ -56,7 +56,7 @@ IsAhead turns _ = Unit {0}
 
 -- how far advancements are: nodes are within what was given, that isn't more than the client has asked for, and of what it
 -- has heard that it has ended, it has; what is in flight and what is kept is of versions that were given, and orders in flight
--- have still to be obeyed
+-- of a coordinator that remembers have still to be obeyed
 pub record IsAdvancing (s : ScriptData) (past : List Entry) : Type 0 where
   pub within : (p : ℕ) → p < s.nodes → IsWithin past (node_in s past p).turns
   pub asked : greatest_given TurnStage past ≤ asked_for s past + 1

@@ -3,16 +3,15 @@ use Rattle.std.proofs.Common.{◌≡◌, ℕ, ◌<◌, ◌≤◌, true, List, []
 use Rattle.std.proofs.lemmas.List.Elements.{recursion_from_All}
 use Rattle.tv_base.specs.declared.numbers.SubNo.{SubNo}
 use Rattle.tv_base.specs.declared.numbers.TreeNo.{TreeNo}
+use Rattle.tx_trees.proofs.SubsOf.{home_below}
 use Rattle.letter_types.specs.declared.bodies.Body.{Body}
 use Rattle.letter_types.specs.declared.bodies.Body.TheVariants.{Go, Root, Sub as SubLetter, Done, Decide, Decided}
 use Rattle.letter_types.specs.declared.entries.Entry.{Entry}
 use Rattle.letter_types.specs.declared.entries.Letter.{Letter}
 use Rattle.letter_types.specs.declared.kept.KeptLetter.{KeptLetter}
 use Rattle.letter_types.specs.Kept.{brought}
-use Rattle.tx_trees.proofs.SubsOf.{all_at, sub_nodes}
-use Rattle.tx_trees.specs.ScriptData.{ScriptData, home_of, node_of, sub_at, subs_at}
+use Rattle.tx_trees.specs.ScriptData.{ScriptData}
 use Rattle.tx_trees.specs.Valid.{IsValid}
-use Rattle.tx_trees.specs.declared.parts.Sub.{Sub}
 use Rattle.world_model.specs.Counts.{Each, tally}
 use Rattle.world_model.specs.Keeping.{AreKeptAt, AsksFor}
 use Rattle.world_model.specs.Kept.{kept_in, outstanding}
@@ -20,10 +19,9 @@ use Rattle.world_model.specs.Runs.{IsStepRun, MayFollow}
 use Rattle.world_model.proofs.EachOutstanding.{EachKept, each_brought, each_kept, each_took, kept_here}
 use Rattle.world_model.proofs.KeptThere.{kept_in_past}
 use Rattle.world_model.proofs.Outstanding.{IsOutstanding}
-use Rattle.world_model.proofs.Scripts.{get_some}
 use Rattle.strict_laws.specs.Meant.{IsLetterMeant, IsMeant}
 use Rattle.strict_laws.proofs.Meant.{letters_are_meant}
-use Rattle.strict_laws.proofs.MeantRows.{root_below, strict_below}
+use Rattle.strict_laws.proofs.MeantRows.{strict_below}
 use Rattle.phase_laws.specs.Balance.{version_is}
 
 -- an entry of node p brings letter r to it
@@ -81,17 +79,6 @@ each_asks p (x ∷ xs) all = (asks_for x.tree x.sub x.letter.body all.0.asks, ea
 
 pub kept_ask : (s : ScriptData) (past : List Entry) (p : ℕ) → EachKept (λ (l : Letter). IsAsking l.body) (kept_in s past p)
 kept_ask s past p = each_asks p (kept_in s past p) (kept_in_past s past p)
-
--- Nodes of subtransactions.
-pub sub_node_below : (s : ScriptData) (t k : ℕ) → IsValid s → k < length (subs_at s t) → node_of s t k < s.nodes
-sub_node_below s t k valid lt =
-    let there = get_some (subs_at s t) k lt in
-    rw (there.1, sub_at, node_of)
-    (all_at (λ (x : Sub). x.node.0 < s.nodes) (subs_at s t) k there.0
-    (recursion_from_All (λ (x : Sub). x.node.0 < s.nodes) (subs_at s t) (sub_nodes s t valid)) there.1)
-
-pub home_below : (s : ScriptData) (t : ℕ) → IsValid s → t < length s.trees → home_of s t < s.nodes
-home_below s t valid lt = sub_node_below s t 0 valid (root_below s t valid lt)
 
 -- a counted letter comes from a node
 pub sender_below : (s : ScriptData) (from to v : ℕ) (body : Body) → IsValid s → IsMeant s from to body → version_is v body ≡ true

@@ -17,11 +17,7 @@ use Rattle.world_model.specs.Node.{Node}
 use Rattle.world_model.specs.Notices.{answer_noted, values_of}
 use Rattle.world_model.specs.Strict.{decides_near, is_near_answer}
 use Rattle.tx_trees.specs.ScriptData.{ScriptData, reads}
-use Rattle.tx_trees.specs.declared.parts.ScriptRow.{ScriptRow}
-use Rattle.tx_trees.specs.declared.parts.ScriptRow.TheVariants.{Tree as TreeRow, Advance as AdvanceRow, Settle as SettleRow, Lose as LoseRow}
 use Rattle.world_model.specs.Coordinator.{coordinator_row}
-use Rattle.world_model.specs.declared.phase.Phase.{Phase}
-use Rattle.world_model.specs.declared.phase.Phase.TheVariants.{Idle, Turning, Counting, Paused, Showing, Sweeping}
 use Rattle.world_model.specs.Client.{Client, rows_letters, submit, submitted, with_answer, with_end, nudge, advances_sent}
 use Rattle.world_model.specs.Counts.{Each}
 use Rattle.world_model.specs.Runs.{client_in, coordinator_in, node_in, MayFollow, IsStepRun}
@@ -34,14 +30,14 @@ use Rattle.phase_laws.proofs.Brought.{BringsTo, IsAsking, brought_meant, brought
 use Rattle.phase_laws.proofs.Heeds.{IsWake}
 use Rattle.phase_laws.proofs.Progress.{Begins, Coordinates, Ends, Hears, Obeys, Progress, WakesFor, Works, are_wakes, coordinates, itself, progress}
 use Rattle.phase_laws.proofs.Working.{SentIn, done_version}
-use Rattle.phase_laws.proofs.Levels.{IsOrder, Levels, levels, most_read, order_timely}
+use Rattle.phase_laws.proofs.Levels.{IsOrder, Levels, levels, order_timely}
 use Rattle.phase_laws.proofs.Outcomes.{update_next}
 use Rattle.phase_laws.proofs.Small.{outcome_in}
 use Rattle.phase_laws.specs.Balance.{version_is, goes_between}
 use Rattle.phase_laws.proofs.Below.{left_silent}
 use Rattle.phase_laws.proofs.Sending.{Sending, SendsApart, SendsDone, SendsAsked, SendsOrders, sending}
 use Rattle.phase_laws.proofs.Silence.{goes_itself}
-use Rattle.phase_laws.proofs.LevelLetters.{most_update_most}
+use Rattle.phase_laws.proofs.LevelLetters.{most_update_most, most_read_most}
 use Rattle.world_model.proofs.Gone.{under_or}
 use Rattle.world_model.proofs.EachOutstanding.{each_first, each_outstanding}
 use Rattle.world_model.specs.Kept.{kept_in, outstanding}
@@ -91,20 +87,10 @@ order_up_to m s st body out (TellsDone v k bd is) =
 order_up_to m s st body out (TellsAsked v k bd is) =
     subst (λ (o : Out Node). SentUpTo m o.sent) (sym is) ((λ i. omega arith), tt)
 
-pub most_read_is : (phase : Phase) (u : ℕ) → most_read phase u ≤ u
-most_read_is (Counting true) u = omega arith
-most_read_is (Counting false) u = omega arith
-most_read_is (Paused true) u = omega arith
-most_read_is (Paused false) u = omega arith
-most_read_is Sweeping u = omega arith
-most_read_is Showing u = omega arith
-most_read_is Idle u = omega arith
-most_read_is Turning u = omega arith
-
 read_up_to : (s : ScriptData) (past : List Entry) (p : ℕ) → Levels s past → p < s.nodes
     → (node_in s past p).turns.read.0 ≤ (coordinator_in s past).update + 1
 read_up_to s past p all lt =
-    let c = coordinator_in s past in omega (arith, (all.node p lt).read_to, most_read_is c.phase c.update)
+    let c = coordinator_in s past in omega (arith, (all.node p lt).read_to, most_read_most c.phase c.update)
 
 update_up_to : (s : ScriptData) (past : List Entry) (p : ℕ) → Levels s past → p < s.nodes
     → (node_in s past p).turns.update.0 ≤ (coordinator_in s past).update + 1

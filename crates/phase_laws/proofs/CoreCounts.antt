@@ -16,9 +16,8 @@ use Rattle.letter_types.specs.Steps.{Out}
 use Rattle.pair_counters.specs.Numbers.{Numbers, asked_all, asked_one, done_one}
 use Rattle.tree_home.specs.declared.homes.Answered.{Answered}
 use Rattle.tree_home.specs.HeldAnswers.{answer_when_acked}
-use Rattle.tx_trees.specs.ScriptData.{ScriptData, client_of, home_of, node_of, sub_at, subs_at, visited_by}
+use Rattle.tx_trees.specs.ScriptData.{ScriptData, client_of, home_of, node_of, subs_at, visited_by}
 use Rattle.tx_trees.specs.Valid.{IsValid}
-use Rattle.tx_trees.specs.declared.parts.Tree.{Tree}
 use Rattle.tx_trees.specs.declared.parts.TreeKind.{TreeKind}
 use Rattle.tx_trees.specs.declared.parts.TreeKind.TheVariants.{Update, Read, Strict}
 use Rattle.tx_trees.proofs.SubsOf.{few_subs}
@@ -43,6 +42,7 @@ use Rattle.phase_laws.proofs.Counters.{AreOf, at_pair, children_few, children_of
 use Rattle.phase_laws.proofs.Moves.{RowCounts, cut_at, cut_most, quiet_row}
 use Rattle.world_model.proofs.Epochs.{order_each, ask_each}
 use Rattle.world_model.specs.Advancing.{sweep_row}
+use Rattle.world_model.proofs.Scripts.{no_node}
 use Rattle.letter_types.specs.declared.acts.Act.{Act}
 
 -- numbers that a row makes of others: whether it counts one of version v with itself, and what it counts besides, of which
@@ -285,10 +285,6 @@ acked_adds s h v from t w c =
     (done_adds h v from MOST_COUNTED w.0 (Decided t w) c.node.counts refl)
 
 -- a subtransaction that a node is asked for is there, so its tree has a kind
-no_node : (s : ScriptData) (t k : ℕ) (found : Option Tree) → slice_get s.trees t ≡ found → tree_kind_at s t ≡ None → node_of s t k ≡ s.nodes
-no_node s t k None is none = rw (is, subs_at, sub_at, node_of) refl
-no_node s t k (Some tree) is none = let some : Some tree.kind ≡ None = rw (is, tree_kind_at) at none in absurd (cc some)
-
 has_kind : (s : ScriptData) (h v from : ℕ) (t : TreeNo) (k : SubNo) (w : Version) → h < s.nodes
     → is_named s h from (SubLetter t k w) ≡ true → tree_kind_at s t.0 ≡ None → version_is v (SubLetter t k w) ≡ false
 has_kind s h v from t k w lt named none =

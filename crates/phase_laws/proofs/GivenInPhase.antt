@@ -39,7 +39,8 @@ use Rattle.phase_laws.proofs.Sending.{IsApart, Sending, SendsApart, SendsAsked, 
 use Rattle.phase_laws.proofs.Shows.{given_in_quiet}
 use Rattle.phase_laws.proofs.Small.{IsSmall, outcome_in, small}
 use Rattle.phase_laws.proofs.Tokens.{showing_phase, sweeping_phase, told, turning_phase}
-use Rattle.world_model.specs.Lossy.{is_lossy}
+use Rattle.phase_laws.proofs.LevelLetters.{most_read_most}
+use Rattle.tx_trees.specs.Counts.{is_lossy}
 
 -- the greatest version that a stage may have been given in a phase of an advancement from version u
 abbrev most_given : Stage → Phase → ℕ → ℕ
@@ -400,12 +401,6 @@ turned_body : (s : ScriptData) (past : List Entry) (body : Body) → IsLawful s 
 turned_body s past (SubLetter t k v) laws run apt level = λ writes. omega (arith, level writes, given_is TurnStage s past laws run apt)
 turned_body s past Go laws run apt level = tt
 turned_body s past _ laws run apt level = tt
-
-most_read_most : (phase : Phase) (u : ℕ) → most_read phase u ≤ u
-most_read_most (Counting true) u = omega arith
-most_read_most (Paused true) u = omega arith
-most_read_most Showing u = omega arith
-most_read_most _ u = omega arith
 
 most_low_most : (phase : Phase) (u : ℕ) → most_low phase u ≤ u
 most_low_most Sweeping u = omega arith

@@ -14,7 +14,7 @@ use Rattle.world_model.specs.Core.{Core}
 use Rattle.world_model.specs.Counts.{Each}
 use Rattle.world_model.specs.Epochs.{is_core_timely}
 use Rattle.world_model.specs.Kept.{kept_in}
-use Rattle.world_model.specs.Lossy.{is_lossy}
+use Rattle.tx_trees.specs.Counts.{is_lossy}
 use Rattle.world_model.specs.Named.{is_timely}
 use Rattle.world_model.specs.Runs.{IsStepRun, keeping_in, node_in}
 use Rattle.world_model.specs.Strict.{decides_near}

@@ -2,6 +2,7 @@
 use Rattle.std.proofs.Common.{◌≡◌, ℕ, ◌<◌, ◌≤◌, Bool, true, false, not, List, [], ◌∷◌, ◌++◌, refl, sym, ap, subst, ◌∙◌, arith}
 use Rattle.std.specs.Prelude.{if◌then◌else◌, nat_lt, ◌&&◌}
 use Rattle.std.proofs.lemmas.Bool.Decides.{nat_tests}
+use Rattle.std.proofs.lemmas.Bool.{ltb-false}
 use Rattle.tv_base.specs.declared.numbers.Version.{Version}
 use Rattle.letter_types.specs.declared.bodies.Body.{Body}
 use Rattle.letter_types.specs.declared.bodies.Body.TheVariants.{Wake, Ask, Numbers, Obeyed, Order}
@@ -11,7 +12,7 @@ use Rattle.letter_types.specs.declared.entries.Outgoing.{Outgoing}
 use Rattle.letter_types.specs.declared.kept.KeptLetter.{KeptLetter}
 use Rattle.letter_types.specs.declared.kept.Why.{Why}
 use Rattle.letter_types.specs.Kept.{wakes, wakes_by}
-use Rattle.letter_types.specs.Steps.{Out, still}
+use Rattle.letter_types.proofs.Ids.{none_woken}
 use Rattle.node_versions.specs.declared.turns.Turns.{Turns}
 use Rattle.tx_trees.specs.ScriptData.{ScriptData}
 use Rattle.world_model.specs.Advancing.{to_coordinator}
@@ -28,10 +29,6 @@ IsWake _ = ⊥
 
 abbrev pub AreWakes : List Outgoing → Type 0
 AreWakes os = Each (λ (o : Outgoing). IsWake o.body) os
-
-pub none_woken : (test : Why → Bool) (kept : List KeptLetter) → ((y : Why) → test y ≡ false) → wakes test kept ≡ []
-none_woken test [] none = refl
-none_woken test (x ∷ xs) none = rw (none x.why) (none_woken test xs none)
 
 wake_more : (b : Bool) (o : Outgoing) (os : List Outgoing) → IsWake o.body → AreWakes os → AreWakes (if b then o ∷ os else os)
 wake_more true o os one rest = (one, rest)
@@ -99,9 +96,6 @@ new_version whats.Turn v c is = grind (arith, nat_tests)
 new_version whats.Show v c is = grind (arith, nat_tests)
 new_version whats.Sweep v c is = grind (arith, nat_tests)
 
-in_time : (n e : ℕ) → nat_lt n e ≡ false → e ≤ n
-in_time n e is = grind (arith, nat_tests)
-
 turned_now : (v : Version) (t : Turns) → nat_lt t.update.0 v.0 ≡ true → (if nat_lt t.update.0 v.0 then record t { update = v } else t) ≡ record t { update = v }
 turned_now v t is = rw is refl
 
@@ -109,13 +103,13 @@ order_obeyed : (s : ScriptData) (p from n : ℕ) (what : What) (v : Version) (c 
     → was_obeyed what v c.node ≡ false → HeedsRow s p from c kept (Order n what v)
 order_obeyed s p from n whats.Turn v c kept new first =
     let less : nat_lt c.node.turns.update.0 v.0 ≡ true = let lt = new_version whats.Turn v c first in grind (arith, nat_tests) in
-    rw (new, first) (Obeys n whats.Turn v (wakes (woken_by c (Order n whats.Turn v)) kept) refl (in_time n c.epoch new)
+    rw (new, first) (Obeys n whats.Turn v (wakes (woken_by c (Order n whats.Turn v)) kept) refl (ltb-false n c.epoch new)
     (new_version whats.Turn v c first) refl (rw less refl) refl (wakes_are (woken_by c (Order n whats.Turn v)) kept))
 order_obeyed s p from n whats.Show v c kept new first =
-    rw (new, first) (Obeys n whats.Show v (wakes (woken_by c (Order n whats.Show v)) kept) refl (in_time n c.epoch new)
+    rw (new, first) (Obeys n whats.Show v (wakes (woken_by c (Order n whats.Show v)) kept) refl (ltb-false n c.epoch new)
     (new_version whats.Show v c first) refl refl refl (wakes_are (woken_by c (Order n whats.Show v)) kept))
 order_obeyed s p from n whats.Sweep v c kept new first =
-    rw (new, first) (Obeys n whats.Sweep v (wakes (woken_by c (Order n whats.Sweep v)) kept) refl (in_time n c.epoch new)
+    rw (new, first) (Obeys n whats.Sweep v (wakes (woken_by c (Order n whats.Sweep v)) kept) refl (ltb-false n c.epoch new)
     (new_version whats.Sweep v c first) refl refl refl (wakes_are (woken_by c (Order n whats.Sweep v)) kept))
 
 pub order_heeded : (s : ScriptData) (p from n : ℕ) (what : What) (v : Version) (c : Core) (kept : List KeptLetter) → HeedsRow s p from c kept (Order n what v)
@@ -127,7 +121,7 @@ order_heeded s p from n what v c kept = by (nat_lt n c.epoch) (was_obeyed what v
       rw is (Leaves n refl less refl none)
   by false true is was =
       let none = unwoken c n what v kept (before_none (nat_lt n c.epoch) (was_obeyed what v c.node) was) in
-      rw (is, was) (Repeats n what v refl (in_time n c.epoch is) (was_version what v c was) refl (ap (λ (os : List Outgoing). to_coordinator s (Obeyed n what v) ++ os) none))
+      rw (is, was) (Repeats n what v refl (ltb-false n c.epoch is) (was_version what v c was) refl (ap (λ (os : List Outgoing). to_coordinator s (Obeyed n what v) ++ os) none))
   by false false is was = order_obeyed s p from n what v c kept is was
 
 pub ask_heeded : (s : ScriptData) (p from n : ℕ) (c : Core) (kept : List KeptLetter) → HeedsRow s p from c kept (Ask n)
@@ -140,5 +134,5 @@ ask_heeded s p from n c kept = by (nat_lt n c.epoch) refl where
       let less : n < c.epoch = grind (arith, nat_tests) in
       rw is (Leaves n refl less refl none)
   by false is =
-      rw is (Answers n refl (in_time n c.epoch is) refl
+      rw is (Answers n refl (ltb-false n c.epoch is) refl
       (ap (λ (os : List Outgoing). to_coordinator s (Numbers n c.node.turns.update c.node.turns.read c.node.turns.low) ++ os) none))

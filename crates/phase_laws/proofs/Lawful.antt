@@ -11,7 +11,7 @@ use Rattle.tree_home.specs.declared.homes.Answered.{Answered}
 use Rattle.tx_trees.specs.ScriptData.{ScriptData}
 use Rattle.tx_trees.specs.Valid.{IsValid}
 use Rattle.world_model.specs.AllApt.{AllApt}
-use Rattle.world_model.specs.Lossy.{is_lossy}
+use Rattle.tx_trees.specs.Counts.{is_lossy}
 use Rattle.world_model.specs.Notices.{answer_noted, values_of}
 use Rattle.world_model.specs.Runs.{IsStepRun, node_in}
 use Rattle.world_model.proofs.Lawful.{nudged}

@@ -88,10 +88,6 @@ orders_no_trees SweepStage = record {
   release = λ t. refl;
 }
 
-pub tally_most : {X : Type 0} (f g : X → ℕ) (xs : List X) → ((x : X) → f x ≤ g x) → tally f xs ≤ tally g xs
-tally_most f g [] le = omega arith
-tally_most f g (x ∷ xs) le = omega (arith, le x, tally_most f g xs le)
-
 -- how many of them are in flight
 abbrev pub tells : ScriptData → List Entry → Stage → ℕ → ℕ
 tells s past g p = tally (λ (l : Letter). tell g p l.to.0 l.body) (in_flight s past)

@@ -12,28 +12,26 @@ use Rattle.letter_types.specs.declared.entries.Outgoing.{Outgoing}
 use Rattle.letter_types.specs.Letters.{drop_id}
 use Rattle.letter_types.specs.Steps.{Out}
 use Rattle.tx_trees.specs.ScriptData.{ScriptData, reads}
-use Rattle.tx_trees.specs.declared.parts.ScriptRow.{ScriptRow}
-use Rattle.tx_trees.specs.declared.parts.ScriptRow.TheVariants.{Tree as TreeRow, Advance as AdvanceRow, Settle as SettleRow, Lose as LoseRow}
 use Rattle.world_model.specs.Node.{Node}
 use Rattle.world_model.specs.Coordinator.{Coordinator, version, to_nodes, counted_version, end_count, coordinator_row}
 use Rattle.world_model.specs.declared.phase.Phase.{Phase}
-use Rattle.world_model.specs.declared.phase.Phase.TheVariants.{Idle, Turning, Counting, Showing, Sweeping}
+use Rattle.world_model.specs.declared.phase.Phase.TheVariants.{Idle, Turning, Counting, Showing, Sweeping, Paused}
 use Rattle.world_model.specs.Client.{Client, rows_letters, submit, submitted, with_answer, with_end, nudge, advances_sent}
 use Rattle.world_model.specs.Counts.{Each}
 use Rattle.world_model.specs.Runs.{IsStepRun, client_in, coordinator_in, node_in, in_flight, MayFollow}
 use Rattle.world_model.specs.AllApt.{AllApt}
-use Rattle.world_model.proofs.Bags.{tally-drop}
+use Rattle.world_model.proofs.Bags.{tally-drop, tally_most}
 use Rattle.world_model.proofs.Every.{coordinator_kept, each_append, each_both, each_map, each_zero}
 use Rattle.phase_laws.proofs.Lawful.{IsLawful}
 use Rattle.world_model.proofs.Nexts.{Order, Turns as TurnsTo, Shows as ShowsTo, Sweeps as SweepsTo, TellsDone, TellsAsked}
 use Rattle.world_model.proofs.Orders.{coordinator_nodes, of, to_nodes_each}
 use Rattle.world_model.proofs.EachOutstanding.{each_outstanding}
 use Rattle.world_model.specs.Kept.{outstanding}
-use Rattle.phase_laws.specs.Phases.{Stage, Told, TurnStage, ShowStage, SweepStage, token, count_in_flight, within, most_update}
+use Rattle.phase_laws.specs.Phases.{Stage, Told, TurnStage, ShowStage, SweepStage, token, count_in_flight, within, most_update, most_read}
 use Rattle.phase_laws.proofs.Outcomes.{Outcome, Rests, Queues, Flags, Turns, Acks, LastTurned, LastShown, Finishes, GoesOn, Resumes, KeepsDone, KeepsAsked, Agrees, Recounts, Pauses, asked_kept, finished, gone_on, round_begun}
 use Rattle.phase_laws.proofs.Small.{outcome_in}
 use Rattle.phase_laws.proofs.Tokens.{told}
-use Rattle.phase_laws.proofs.LevelAt.{LevelBody, Levels, order, orders_no_trees, tally_most}
+use Rattle.phase_laws.proofs.LevelAt.{LevelBody, Levels, order, orders_no_trees, tells}
 use Rattle.phase_laws.proofs.Brought.{each_of_brought}
 use Rattle.phase_laws.proofs.Letters.{waits_in_flight}
 use Rattle.phase_laws.proofs.Heeds.{IsWake}
@@ -383,3 +381,9 @@ letters_next s past e laws run apt was (Obeys p out more at lt order state sent 
     let c = coordinator_in s past in
     letters_kept s past e (out.sent ++ more) run.0 (omega (arith, at, lt)) was.letters sent
     (obeyed_level s c.phase c.update (node_in s past p) e.took.body out more order woken)
+
+pub most_read_most : (phase : Phase) (u : ℕ) → most_read phase u ≤ u
+most_read_most (Counting true) u = omega arith
+most_read_most (Paused true) u = omega arith
+most_read_most Showing u = omega arith
+most_read_most _ u = omega arith

@@ -22,7 +22,7 @@ use Rattle.world_model.specs.Client.{Client, submit, with_answer, with_end, nudg
 use Rattle.world_model.specs.Counts.{one_if, tally}
 use Rattle.world_model.specs.Runs.{MayFollow, IsStepRun, client_in, coordinator_in, node_in, in_flight}
 use Rattle.world_model.specs.AllApt.{AllApt}
-use Rattle.world_model.proofs.Bags.{one_if_most, one_if_same, sealed_tally, tally-append, tally_step}
+use Rattle.world_model.proofs.Bags.{one_if_most, one_if_same, sealed_tally, tally-append, tally_step, tally_most}
 use Rattle.world_model.proofs.Every.{coordinator_kept, node_kept}
 use Rattle.world_model.proofs.Flows.{submit_none}
 use Rattle.phase_laws.proofs.Lawful.{IsLawful}
@@ -38,7 +38,7 @@ use Rattle.phase_laws.proofs.Working.{IsRaiser}
 use Rattle.phase_laws.proofs.Outcomes.{Outcome, Rests, Queues, Flags, Turns, Acks, LastTurned, LastShown, Finishes, GoesOn, Resumes, KeepsDone, KeepsAsked, Agrees, Recounts, Pauses, asked_kept, finished, gone_on, round_begun}
 use Rattle.phase_laws.proofs.Small.{outcome_in}
 use Rattle.phase_laws.proofs.Tokens.{IsCalm, PhaseFor, phase_for, token_passes, told, calm_within, turn_fills, show_fills, sweep_fills, ask_fills, token_rows, nudge_apart, ask_apart, ask_done_apart}
-use Rattle.phase_laws.proofs.LevelAt.{Level, LevelAt, LevelBody, Levels, order, orders_no_trees, tally_most, tell, tells}
+use Rattle.phase_laws.proofs.LevelAt.{Level, LevelAt, LevelBody, Levels, order, orders_no_trees, tell, tells}
 
 -- What is sent to a node.
 abbrev sent_to : Stage → ℕ → Outgoing → ℕ

@@ -12,7 +12,6 @@ pub mod LevelAt
 pub mod LevelSteps
 pub mod LevelLetters
 pub mod Levels
-pub mod Current
 pub mod Counters
 pub mod Moves
 pub mod CoreCounts

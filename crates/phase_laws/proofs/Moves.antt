@@ -3,6 +3,7 @@ use Rattle.std.proofs.Common.{if◌then◌else◌, ◌≡◌, ◌≢◌, ℕ, �
 use Rattle.std.specs.Prelude.{nat_lt}
 use Rattle.std.proofs.lemmas.Bool.{cases_eq}
 use Rattle.std.proofs.lemmas.Bool.Decides.{nat_tests}
+use Rattle.tv_base.proofs.Chosen.{unless_most}
 use Rattle.letter_types.specs.declared.bodies.Body.{Body}
 use Rattle.letter_types.specs.declared.entries.Entry.{Entry}
 use Rattle.letter_types.specs.declared.entries.Letter.{Letter}
@@ -14,7 +15,7 @@ use Rattle.tx_trees.specs.ScriptData.{ScriptData}
 use Rattle.world_model.specs.Counts.{tally, one_if}
 use Rattle.world_model.specs.Kept.{of_done}
 use Rattle.world_model.specs.Runs.{node_in}
-use Rattle.world_model.proofs.Bags.{tally_same, tally_none, one_if_most}
+use Rattle.world_model.proofs.Bags.{tally_same, tally_none, one_if_most, one_if_and}
 use Rattle.world_model.proofs.Every.{node_kept}
 use Rattle.world_model.proofs.Outstanding.{done_apart}
 use Rattle.phase_laws.specs.Balance.{MOST_COUNTED, version_is, goes_between}
@@ -124,12 +125,8 @@ quiet_row h v from body st row none asked done less_asked less_done sent = recor
 pub cut_at : (w v q : ℕ) (f : ℕ → ℕ → ℕ) → w ≤ v → from_version w f v q ≡ f v q
 cut_at w v q f le = let kept : nat_lt v w ≡ false = grind (arith, nat_tests) in rw kept refl
 
-cut_most_by : (b : Bool) (n : ℕ) → (if b then 0 else n) ≤ n
-cut_most_by true n = omega arith
-cut_most_by false n = omega arith
-
 pub cut_most : (w v q : ℕ) (f : ℕ → ℕ → ℕ) → from_version w f v q ≤ f v q
-cut_most w v q f = cut_most_by (nat_lt v w) (f v q)
+cut_most w v q f = unless_most (nat_lt v w) (f v q)
 
 -- an entry does letter r, which came to its actor
 pub record DoesLetter (s : ScriptData) (past : List Entry) (e : Entry) (r : Letter) : Type 0 where
@@ -244,17 +241,13 @@ done_most_by s past e r h v p q row made at does counts (inr ne) =
     rw (node_kept s past e q (λ is. ne (sym at ∙ is)))
     (omega (arith, own_not_to counts.own h p q ne, does.is (goes_between v p q), took_elsewhere v p q r (λ is. ne (sym (does.to ∙ at) ∙ is))))
 
-and_most : (b c : Bool) → one_if (b && c) ≤ one_if b
-and_most true c = one_if_most c
-and_most false c = omega arith
-
 -- no more are counted than an entry counts at most
 few_by : (s : ScriptData) (past : List Entry) (e : Entry) (h v p q : ℕ) (row : Out Node) (own c : Bool)
     → Made s past e h row
     → one_if own + tally (counted v q) row.sent ≤ MOST_COUNTED → (e.actor.0 ≡ p) ⊎ (e.actor.0 ≢ p)
     → one_if (own && c) + tally (sent_on e.actor.0 v p q) e.sent ≤ MOST_COUNTED
 few_by s past e h v p q row own c made few (inl eq) =
-    omega (arith, and_most own c, sent_by s past e h v p q row made eq)
+    omega (arith, one_if_and own c, sent_by s past e h v p q row made eq)
 few_by s past e h v p q row own c made few (inr ne) =
     omega (arith, one_if_most (own && c), sent_elsewhere e.actor.0 v p q e.sent ne)
 

@@ -4,6 +4,7 @@ use Rattle.std.specs.Prelude.{if◌then◌else◌, nat_lt}
 use Rattle.std.proofs.lemmas.Bool.Decides.{nat_tests}
 use Rattle.tv_base.specs.declared.numbers.TreeNo.{TreeNo}
 use Rattle.tv_base.specs.declared.numbers.Version.{Version}
+use Rattle.tx_trees.proofs.SubsOf.{home_below, sub_node_below}
 use Rattle.letter_types.specs.declared.bodies.Answer.{Answer}
 use Rattle.letter_types.specs.declared.bodies.Body.{Body}
 use Rattle.letter_types.specs.declared.bodies.Body.TheVariants.{Go, Root, Sub as SubLetter, Done, Reply, Nudge, Advance, Turn, Show, Sweep, Turned, Shown, Swept, AskDone, AskAsked, DoneRow, AskedRow, Advanced, Decide, Decided, Release, Wake, Lose, AdvanceNo, Wanted, Ask, Order as OrderLetter, Numbers, Obeyed}
@@ -11,21 +12,20 @@ use Rattle.letter_types.specs.declared.entries.Entry.{Entry}
 use Rattle.letter_types.specs.declared.entries.Letter.{Letter}
 use Rattle.letter_types.specs.declared.entries.Outgoing.{Outgoing}
 use Rattle.letter_types.specs.declared.kept.KeptLetter.{KeptLetter}
-use Rattle.letter_types.specs.declared.kept.Why.{Why}
-use Rattle.letter_types.specs.Kept.{brought, kept_without, wakes, wakes_by}
+use Rattle.letter_types.specs.Kept.{brought, kept_without, wakes}
 use Rattle.letter_types.specs.Steps.{Out}
+use Rattle.letter_types.proofs.Ids.{none_woken}
 use Rattle.tx_trees.specs.ScriptData.{ScriptData, client_of}
 use Rattle.tx_trees.specs.Valid.{IsValid}
 use Rattle.world_model.specs.Advancing.{asked_row, done_row, show_row, sweep_row, turn_row}
 use Rattle.world_model.specs.AllApt.{AllApt}
-use Rattle.world_model.specs.Client.{Client, client_row, nudge, submit, wanted, with_answer, with_end}
+use Rattle.world_model.specs.Client.{nudge, submit, wanted, with_answer, with_end}
 use Rattle.world_model.specs.Core.{Core, in_core}
-use Rattle.world_model.specs.Counts.{Each}
 use Rattle.world_model.specs.Kept.{kept_in}
 use Rattle.world_model.specs.Node.{Node}
 use Rattle.world_model.specs.Runs.{AtClient, AtCoordinator, AtNode, IsStepRun, MayFollow, Moves, Says, client_in, coordinator_in, keeping_in, node_in, restarting_in, AtRestarting}
 use Rattle.world_model.specs.Strict.{CoreKeeping, core_keeping, core_row}
-use Rattle.world_model.specs.Tables.{client_table, coordinator_table, restarting_table}
+use Rattle.world_model.specs.Tables.{coordinator_table, restarting_table}
 use Rattle.world_model.proofs.Cases.{Brings, Case, Coordinates as ByCoordinator, Does, Keeps, NodeDoes, NodeKeeps, Submits, case}
 use Rattle.world_model.proofs.EachOutstanding.{each_brought, each_took}
 use Rattle.world_model.proofs.Every.{each_append, each_map}
@@ -37,13 +37,13 @@ use Rattle.world_model.proofs.Restarts.{restart_plain}
 use Rattle.strict_laws.specs.Meant.{IsLetterMeant, IsMeant}
 use Rattle.strict_laws.proofs.Meant.{letters_are_meant}
 use Rattle.strict_laws.proofs.MeantRows.{strict_below}
-use Rattle.phase_laws.proofs.Brought.{BringsTo, IsAsking, brought_meant, brought_outstanding, home_below, kept_ask, sub_node_below}
+use Rattle.phase_laws.proofs.Brought.{BringsTo, IsAsking, brought_meant, brought_outstanding, kept_ask}
 use Rattle.phase_laws.proofs.ClientSteps.{ClientStep, client_step}
 use Rattle.phase_laws.proofs.ClientSteps.{Begins as ClientBegins, Hears as ClientHears, Ends as ClientEnds, Tells as ClientTells, Aside as ClientAside}
-use Rattle.phase_laws.proofs.Heeds.{AreWakes, Heed, HeedsRow, IsWake, ask_heeded, none_woken, order_heeded, wakes_are}
+use Rattle.phase_laws.proofs.Heeds.{AreWakes, Heed, HeedsRow, ask_heeded, order_heeded, wakes_are}
 use Rattle.phase_laws.proofs.Lawful.{IsLawful, IsTreeLawful}
 use Rattle.phase_laws.proofs.Working.{AnswersAt, AreSentIn, IsOfTrees, RaisesBy, SentIn, WorksOn, core_works, keeps_turns, wakes_sent}
-use Rattle.world_model.specs.Lossy.{is_lossy}
+use Rattle.tx_trees.specs.Counts.{is_lossy}
 use Rattle.world_model.specs.Keeping.{woken_by}
 
 -- what an order wakes: a Show wakes letters that are kept, and no other order does

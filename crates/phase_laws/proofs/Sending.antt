@@ -10,8 +10,6 @@ use Rattle.tv_base.specs.declared.numbers.Version.{Version}
 use Rattle.pair_counters.specs.Numbers.{numbers_of}
 use Rattle.world_model.specs.Node.{Node}
 use Rattle.tx_trees.specs.ScriptData.{ScriptData}
-use Rattle.tx_trees.specs.declared.parts.ScriptRow.{ScriptRow}
-use Rattle.tx_trees.specs.declared.parts.ScriptRow.TheVariants.{Tree as TreeRow, Advance as AdvanceRow, Settle as SettleRow, Lose as LoseRow}
 use Rattle.world_model.specs.Advancing.{to_coordinator}
 use Rattle.world_model.specs.Client.{Client, rows_letters, submit, submitted, with_answer, with_end, nudge, advances_sent}
 use Rattle.world_model.specs.Counts.{Each, tally}
@@ -22,7 +20,7 @@ use Rattle.phase_laws.proofs.Lawful.{IsTreeLawful}
 use Rattle.world_model.proofs.Nexts.{MadeByCoordinator, Order, Turns, Shows, Sweeps, TellsDone, TellsAsked}
 use Rattle.world_model.proofs.Orders.{coordinator_each}
 use Rattle.phase_laws.proofs.Heeds.{IsWake, AreWakes, Heed, Leaves, Answers, Repeats, Obeys as HeedObeys, IsOfEpoch}
-use Rattle.phase_laws.proofs.Progress.{Begins, Coordinates, Ends, Hears, Obeys, Progress, WakesFor, Works, are_wakes, progress, Asked, Course, Forgetting, Heeds, Restarts, course, MadeByRestarting}
+use Rattle.phase_laws.proofs.Progress.{Begins, Coordinates, Ends, Hears, Obeys, Progress, WakesFor, Works, are_wakes, Asked, Course, Forgetting, Heeds, Restarts, course, MadeByRestarting}
 use Rattle.phase_laws.proofs.Working.{IsOfTrees, SentIn}
 use Rattle.world_model.proofs.Sends.{OfRows, rows_each}
 use Rattle.world_model.proofs.Restarts.{restarting_each}

@@ -2,7 +2,7 @@
 use Rattle.std.proofs.Common.{if◌then◌else◌, ◌≡◌, ◌≢◌, ◌⊎◌, inl, inr, ℕ, zero, suc, ◌<◌, ◌≤◌, ◌==◌, Bool, true, false, List, [], ◌∷◌, ◌++◌, refl, sym, ap, subst, ◌∙◌, arith, take, drop}
 use Rattle.std.proofs.lemmas.Bool.Decides.{nat_tests}
 use Rattle.letter_types.specs.declared.bodies.Body.{Body}
-use Rattle.letter_types.specs.declared.bodies.Body.TheVariants.{Root, Sub as SubLetter, Done, Reply, Decide, Decided, Release, Wake, Obeyed, Ask}
+use Rattle.letter_types.specs.declared.bodies.Body.TheVariants.{Root, Sub as SubLetter, Done, Reply, Decide, Decided, Release, Wake, Obeyed}
 use Rattle.letter_types.specs.declared.entries.Entry.{Entry}
 use Rattle.letter_types.specs.declared.entries.Letter.{Letter}
 use Rattle.letter_types.specs.declared.entries.Outgoing.{Outgoing}
@@ -11,8 +11,6 @@ use Rattle.tv_base.specs.declared.numbers.Version.{Version}
 use Rattle.world_model.specs.Node.{Node}
 use Rattle.tx_trees.specs.ScriptData.{ScriptData, reads}
 use Rattle.tx_trees.specs.Valid.{IsValid}
-use Rattle.tx_trees.specs.declared.parts.ScriptRow.{ScriptRow}
-use Rattle.tx_trees.specs.declared.parts.ScriptRow.TheVariants.{Tree as TreeRow, Advance as AdvanceRow, Settle as SettleRow, Lose as LoseRow}
 use Rattle.world_model.specs.Client.{Client, rows_letters, submit, submitted, with_answer, with_end, nudge, advances_sent}
 use Rattle.world_model.specs.Counts.{Each, tally}
 use Rattle.world_model.specs.Runs.{client_in, coordinator_in, node_in, IsStepRun, keeping_in, restarting_in}
@@ -27,8 +25,8 @@ use Rattle.phase_laws.specs.Quiet.{IsSilent}
 use Rattle.phase_laws.proofs.Balance.{apt_counts, flow}
 use Rattle.phase_laws.proofs.Brought.{brought_meant, brought_outstanding, brought_to, sender_below}
 use Rattle.phase_laws.proofs.Moves.{sent_on}
-use Rattle.phase_laws.proofs.Heeds.{IsWake, AreWakes, Heed, Leaves, Answers, Repeats, Obeys as HeedObeys, IsOfEpoch}
-use Rattle.phase_laws.proofs.Progress.{Begins, Coordinates, Ends, Hears, Obeys, Progress, WakesFor, Works, are_wakes, progress, Asked, Course, Forgetting, Heeds, Restarts, course, MadeByRestarting}
+use Rattle.phase_laws.proofs.Heeds.{IsWake, AreWakes, Heed, Leaves, Answers, Repeats, Obeys as HeedObeys}
+use Rattle.phase_laws.proofs.Progress.{Begins, Coordinates, Ends, Hears, Obeys, Progress, WakesFor, Works, are_wakes, Asked, Course, Heeds, Restarts, course}
 use Rattle.phase_laws.proofs.Working.{SentIn, done_version}
 use Rattle.world_model.proofs.Sends.{OfRows, rows_each}
 use Rattle.world_model.proofs.Restarts.{restarting_each}

@@ -9,10 +9,10 @@ use Rattle.letter_types.specs.declared.entries.Entry.{Entry}
 use Rattle.letter_types.specs.declared.entries.Outgoing.{Outgoing}
 use Rattle.letter_types.specs.Steps.{Out, still}
 use Rattle.tx_trees.specs.ScriptData.{ScriptData, client_of}
-use Rattle.tx_trees.specs.Counts.{advances_in}
+use Rattle.tx_trees.specs.Counts.{advances_in, is_lossy}
 use Rattle.tx_trees.specs.declared.parts.ScriptRow.{ScriptRow}
 use Rattle.tx_trees.specs.declared.parts.ScriptRow.TheVariants.{Tree as TreeRow, Advance as AdvanceRow, Settle as SettleRow, Lose as LoseRow}
-use Rattle.tx_trees.proofs.Rebuilding.{advances_in-append}
+use Rattle.tx_trees.proofs.Rebuilding.{advances_in-append, asked_most}
 use Rattle.tx_trees.proofs.SubsOf.{few_nodes}
 use Rattle.world_model.specs.Coordinator.{Coordinator, version, in_phase, begin_phase, counted_version, end_count, coordinator_row}
 use Rattle.world_model.specs.declared.phase.Phase.{Phase}
@@ -33,7 +33,6 @@ pub use Rattle.phase_laws.specs.Advances.{AdvancesAreKept, RoundsAreFew, asked_f
 use Rattle.phase_laws.proofs.Letters.{NoTrees, Passes, keep_done_none, node_keeps, to_nodes_none}
 use Rattle.phase_laws.proofs.Progress.{Begins, Coordinates, Ends, Hears, Obeys, Progress, Works, progress}
 use Rattle.phase_laws.proofs.Outcomes.{HasRoom, Ignored, IsAnswer, IsRunning, Outcome, Rests, Queues, Flags, Turns, Acks, LastTurned, LastShown, Finishes, GoesOn, Resumes, KeepsDone, KeepsAsked, Agrees, Recounts, Pauses, asked_kept, one_more_is, outcome, round_begun}
-use Rattle.world_model.specs.Lossy.{is_lossy}
 use Rattle.tv_base.specs.Outside.{one_more}
 use Rattle.tv_base.specs.declared.numbers.Version.{Version}
 
@@ -75,12 +74,6 @@ rounds_running (Paused true) = omega arith
 rounds_running (Paused false) = omega arith
 rounds_running Showing = omega arith
 rounds_running Sweeping = omega arith
-
--- no more is asked for than the script has
-pub asked_most : (n : ℕ) (rows : List ScriptRow) → advances_in (take n rows) ≤ advances_in rows
-asked_most n rows =
-    let all : advances_in (take n rows ++ drop n rows) ≡ advances_in rows = ap advances_in (take-append-drop n rows) in
-    omega (arith, all, advances_in-append (take n rows) (drop n rows))
 
 -- then the numbers can still grow
 pub has_room : (s : ScriptData) (past : List Entry) → IsLawful s → IsStepRun s past → AllApt s past → IsSmall s past

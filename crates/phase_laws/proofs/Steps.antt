@@ -267,7 +267,3 @@ none_later s count G view [] run apt = record { letters = (omega arith, tt) }
 none_later s count G view (e ∷ past) run apt =
     fresh_next s count G view past e run apt.1 (none_later s count G view past run.1 apt.1)
     (sending s past e view.lawful run apt)
-
--- so of the coordinator
-pub fresh : (s : ScriptData) (past : List Entry) → IsLawful s → IsStepRun s past → AllApt s past → Fresh s past (count_in s past)
-fresh s past laws run apt = none_later s (count_in s) Always (coordinator_counts s laws) past run apt

@@ -2,6 +2,8 @@
 use Rattle.std.specs.Prelude.{ℕ, ◌+◌, ◌-◌, ◌<◌, ◌≤◌, ◌≡◌, true, List}
 use Rattle.letter_types.specs.declared.bodies.Body.{Body}
 use Rattle.letter_types.specs.declared.bodies.Body.TheVariants.{Turn, Show, Sweep, Turned, Shown, Swept}
+use Rattle.letter_types.specs.declared.bodies.What.{What}
+use Rattle.letter_types.specs.declared.bodies.What.TheVariants as whats
 use Rattle.letter_types.specs.declared.entries.Entry.{Entry}
 use Rattle.letter_types.specs.declared.entries.Letter.{Letter}
 use Rattle.node_versions.specs.declared.turns.Turns.{Turns}
@@ -20,6 +22,12 @@ pub data Stage : Type 0 where
   TurnStage : Stage
   ShowStage : Stage
   SweepStage : Stage
+
+-- the stage of which it tells
+abbrev pub stage_of : What → Stage
+stage_of whats.Turn = TurnStage
+stage_of whats.Show = ShowStage
+stage_of whats.Sweep = SweepStage
 
 -- an order of the stage, or an answer to one
 abbrev pub token : Stage → Body → ℕ

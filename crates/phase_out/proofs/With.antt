@@ -1,5 +1,5 @@
 -- What a round would be with one row more.
-use Rattle.std.proofs.Common.{◌≡◌, ℕ, zero, suc, ◌+◌, ◌-◌, ◌<◌, ◌&&◌, List, [], ◌∷◌, take, drop, length, refl, ap, arith, Some, None}
+use Rattle.std.proofs.Common.{◌≡◌, ℕ, zero, suc, ◌+◌, ◌-◌, ◌<◌, ◌&&◌, List, [], ◌∷◌, take, drop, length, refl, ap, arith, Some, None, ◌≤◌, false, replicate}
 use Rattle.std.specs.Prelude.{slice_get, slice_set}
 use Rattle.std.proofs.lemmas.List.{take_rest}
 use Rattle.std.proofs.Math.Numerals.{add-one}
@@ -27,3 +27,8 @@ first-kept (k ∷ ks) row is = cc
 pub own-verdict : (r : RoundData) (row : List ℕ) → slice_get r.askeds 0 ≡ Some (Some row)
     → verdict_of (record r { askeds = slice_set r.askeds 0 (Some row) }) ≡ verdict_of r
 own-verdict r row is = ap (λ (ks : NodeRows). verdict_of (record r { askeds = ks })) (first-kept r.askeds row is)
+
+-- of rows none of which has come, not all are there
+pub none_in : (n : ℕ) → 1 ≤ n → all_in (replicate n None) ≡ false
+none_in zero some = absurd (omega (arith, some))
+none_in (suc n) some = refl

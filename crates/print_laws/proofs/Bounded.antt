@@ -1,6 +1,7 @@
 -- In every run the items of a node keep to the greatest magnitude: each subtransaction takes effect at most once, and all
 -- that a valid script has on an item adds up to no more.
 use Rattle.std.proofs.Common.{ℕ, ◌≡◌, ◌≤◌, ◌<◌, Bool, true, false, List, length, refl, subst, arith}
+use Rattle.tv_base.proofs.ByPlace.{get_some}
 use Rattle.commute_ops.specs.declared.kinds.TheConstants.{MOST_AMOUNT}
 use Rattle.letter_types.specs.declared.entries.Entry.{Entry}
 use Rattle.script_parts.proofs.SubsOf.{small_load}
@@ -9,7 +10,7 @@ use Rattle.script_parts.specs.Valid.{IsValid}
 use Rattle.world_model.specs.AllApt.{AllApt}
 use Rattle.world_model.specs.Named.{is_strict_at}
 use Rattle.world_model.specs.Runs.{IsStepRun, node_in}
-use Rattle.world_model.proofs.Scripts.{SubAt, get_below, get_some, tree_below}
+use Rattle.world_model.proofs.Scripts.{SubAt, get_below, tree_below}
 use Rattle.tree_laws.specs.Effects.{effects}
 use Rattle.tree_laws.proofs.AptApplied.{applied_where_decided}
 use Rattle.tree_laws.proofs.AptBounds.{effect_bound, tables_keep}

@@ -26,6 +26,7 @@ use Rattle.script_parts.specs.Valid.{IsOp, IsValid}
 use Rattle.script_parts.specs.declared.parts.ScriptRow.{ScriptRow}
 use Rattle.script_parts.specs.declared.parts.TreeKind.{TreeKind}
 use Rattle.script_parts.specs.declared.parts.TreeKind.TheVariants.{Update, Read, Strict}
+use Rattle.script_parts.proofs.SubsOf.{has_root}
 use Rattle.board_rules.proofs.Wholes.{updates_there}
 use Rattle.board_rules.specs.Histories.{places_of}
 use Rattle.world_model.specs.AllApt.{AllApt}
@@ -50,7 +51,7 @@ use Rattle.world_model.proofs.Sends.{asked_each, rows_each}
 use Rattle.strict_laws.specs.Meant.{IsMeant}
 use Rattle.strict_laws.proofs.AtHome.{all_append}
 use Rattle.strict_laws.proofs.DoneOrParked.{meets_way}
-use Rattle.strict_laws.proofs.MeantRows.{root_below, strict_below}
+use Rattle.strict_laws.proofs.MeantRows.{strict_below}
 use Rattle.strict_laws.proofs.Parkings.{kind_updates_by}
 use Rattle.phase_laws.proofs.Brought.{brought_meant, each_of_brought}
 use Rattle.phase_laws.proofs.Progress.{brings_to}
@@ -111,7 +112,7 @@ asked s past p t k g sub node =
 needed : (s : ScriptData) (past : List Entry) (p from : ℕ) (body : Body) → Runs s past p → IsMeant s from p body
     → (body ≡ Go) ⊎ Carries s body → Needs s p (keeping_in s past p).core body
 needed s past p from (Root t) g meant carried =
-    asked s past p t (record { 0 = 0 }) g (sub_there s t.0 0 meant.tree (root_below s t.0 g.valid meant.tree)) (sym meant.home)
+    asked s past p t (record { 0 = 0 }) g (sub_there s t.0 0 meant.tree (has_root s t.0 g.valid meant.tree)) (sym meant.home)
 needed s past p from (SubLetter t k v) g meant carried =
     asked s past p t k g (sub_there s t.0 k.0 meant.tree meant.sub) (sym meant.node)
 needed s past p from (Done t k v notice) g meant (inl is) = absurd (cc is)

@@ -43,8 +43,8 @@ use Rattle.world_model.specs.declared.refusal.Refusal.{Refusal}
 use Rattle.world_model.proofs.Epochs.{ask_each, order_each}
 use Rattle.world_model.proofs.Every.{each_append}
 use Rattle.world_model.proofs.Scripts.{SubAt, sub_here, tree_below}
+use Rattle.world_model.proofs.Notices.{answer_noted_tree}
 use Rattle.strict_laws.proofs.AtHome.{all_append}
-use Rattle.strict_laws.proofs.RowSends.{answer_tree}
 use Rattle.history_text.specs.Printable.{AreGot, HasStrictness, IsSubOf, IsTreeOf}
 use Rattle.print_laws.specs.OfScript.{IsActOf, IsCauseOf, IsNoticeOf, IsVoteOf}
 use Rattle.print_laws.proofs.Gathering.{AreHeldAnswers, AreOpen, AreRefusals, HasGot, IsRefusal, acked_got, answer_got, held_acked, notice_got, notice_refused, one_held, open_begun, open_noted, refusal_gone}
@@ -113,7 +113,7 @@ due_by s t (Some a) there its got = (got, subst (λ (u : TreeNo). IsTreeOf s u.0
 due_noted : (s : ScriptData) (t : TreeNo) (k : SubNo) (vs : Gets) (hs : OpenTrees) → IsTreeOf s t.0 → AreGot s vs → AreOpen s hs
     → IfSome (answer_noted t k vs hs) (IsDue s)
 due_noted s t k vs hs there got all =
-    due_by s t (answer_noted t k vs hs) there (λ a is. answer_tree t k vs hs a is) (answer_got s t k vs hs got all)
+    due_by s t (answer_noted t k vs hs) there (λ a is. answer_noted_tree t k vs hs a is) (answer_got s t k vs hs got all)
 
 replies_carried : (s : ScriptData) (found : Option Answered) → IfSome found (IsDue s) → AreCarried s (reply_letters (client_of s) found)
 replies_carried s None due = tt

@@ -13,12 +13,7 @@ use Rattle.item_versions.specs.Table.{Table, pending, replaced}
 use Rattle.node_versions.specs.declared.turns.Turns.{Turns}
 use Rattle.pair_counters.specs.Rows.{CounterRows}
 use Rattle.tree_home.specs.Homes.{HomesData}
-use Rattle.tree_step.specs.Changes.{IsNodeStepOf, IsReplied, IsTreePartOf}
-use Rattle.tree_step.specs.declared.change.Prepared.{Prepared}
-use Rattle.tree_step.specs.declared.change.TreePrepared.{TreePrepared}
 use Rattle.tree_step.specs.declared.node.NodeParts.{NodeParts}
-use Rattle.tree_step.proofs.Replied.{replied_step}
-use Rattle.world_model.proofs.Plain.{replied_part}
 use Rattle.tx_trees.specs.ScriptData.{ScriptData}
 use Rattle.tx_trees.specs.declared.parts.SubOp.{SubOp}
 use Rattle.tree_step.specs.Node.{Effect, Node, data_of, state_of}
@@ -45,20 +40,6 @@ part_read s p from body st v ops e out at asked got done =
     ∙ ap (λ (x : Effect). tree_part s p from v false x body st) got
     ∙ ap (λ (os : List SubOp). tree_part s p from v false (getting v os st.items) body st) asked
     ∙ ap (λ (w : Version). tree_part s p from w false (getting w (asked_ops s body) st.items) body st) at
-
--- with the answer it is the row
-pub read_made : (s : ScriptData) (p from : ℕ) (body : Body) (n : NodeParts) (part : TreePrepared) (prepared : Prepared)
-    → true ≡ can_read s (data_of n) body → IsTreePartOf (read_part s p (data_of n) from body) n part
-    → IsReplied s part prepared → IsNodeStepOf (read_if_made s p (data_of n) from body) n prepared
-read_made s p from body n part prepared can is with_answer =
-    let may : can_read s (data_of n) body ≡ true = sym can in
-    let st = data_of n in
-    let v = asked_version st.turns.read body in
-    let step = replied_step s (read_part s p st from body) n part prepared is with_answer in
-    record {
-      row = rw may (step.row ∙ replied_part s p from v false (getting v (asked_ops s body) st.items) body st);
-      may = step.may;
-    }
 
 -- the row, by the version, the operations and their effect
 pub was_read : (s : ScriptData) (p from : ℕ) (body : Body) (st : Node) (v : Version) (ops : List SubOp) (e : Effect)

@@ -5,4 +5,4 @@ mod faces;
 mod steps;
 
 pub use faces::run_read;
-pub use steps::{prepare_read, read_part};
+pub use steps::read_part;

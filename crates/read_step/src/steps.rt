@@ -1,17 +1,16 @@
 ghost use Rattle.std.specs.Prelude.{◌≡◌, [], is_some, IfOk, IfSome, IsTrue};
 ghost use Rattle.std.specs.Option.{option_copied};
-ghost use Rattle.tree_step.specs.Changes.{IsNodeStepOf, IsTreePartOf};
+ghost use Rattle.tree_step.specs.Changes.{IsTreePartOf};
 ghost use Rattle.tree_step.specs.Due.{is_due};
 ghost use Rattle.tree_step.specs.Node.{data_of, effect_on, IsReady};
-ghost use Rattle.read_step.specs.Rows.{can_get, can_read, getting, got_by_deed, read_if_made, read_part};
+ghost use Rattle.read_step.specs.Rows.{can_get, can_read, getting, got_by_deed, read_part};
 
 use commute_ops::{Value, Values};
 use item_versions::{ItemTable, Staged};
 use letter_types::{Letter, Notice};
 use std::alloc::Global;
 use tree_step::{
-    Effect, InVersion, NodeParts, Prepared, TreePrepared, asked_ops, asked_version, prepare_tree,
-    reply,
+    Effect, InVersion, NodeParts, TreePrepared, asked_ops, asked_version, prepare_tree,
 };
 use tv_base::{NoMemory, Version};
 use tx_trees::{Deed, Script, SubOp};
@@ -78,24 +77,4 @@ pub fn read_part(
     };
     let part = prepare_tree(alloc, node, letter, script, within, effect)?;
     Ok(Some(part))
-}
-
-/// The same, where the client is answered if the tree is. A letter whose operations may not be made changes and sends
-/// nothing.
-pub fn prepare_read(
-    alloc: Global,
-    node: &NodeParts,
-    letter: &Letter,
-    script: &Script,
-) -> Result<Prepared, NoMemory>
-    requires ready { IsReady script.now letter.now.to.0 node.now }
-    requires due { IsTrue (is_due script.now letter.now.to.0 (data_of node.now) letter.now.from.0 letter.now.body) }
-    ensures { IfOk result (IsNodeStepOf
-        (read_if_made script.now letter.now.to.0 (data_of node.now) letter.now.from.0 letter.now.body) node.now) }
-{
-    let Some(part) = read_part(alloc, node, letter, script)? else {
-        return Ok(Prepared::still(alloc));
-    };
-    let prepared = reply(script, part)?;
-    Ok(prepared)
 }

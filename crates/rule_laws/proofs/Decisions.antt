@@ -27,6 +27,7 @@ use Rattle.world_model.specs.Notices.{act_of}
 use Rattle.world_model.specs.Runs.{IsStepRun, client_in, keeping_in}
 use Rattle.world_model.specs.Strict.{core_row, none_refuses, notice_by}
 use Rattle.world_model.proofs.Cases.{Case, Coordinates, NodeDoes, NodeKeeps, Submits, case}
+use Rattle.world_model.proofs.Bags.{one_if_and, one_if_both}
 use Rattle.board_rules.specs.Histories.{Place, applies, places_at}
 use Rattle.board_rules.specs.Moves.{AllVoted, IsApplying, IsDecision, decides_as}
 use Rattle.board_rules.specs.Stands.{votes, votes_yes, voted_yes, was_voted}
@@ -39,7 +40,7 @@ use Rattle.tree_laws.specs.Dids.{is_did_act}
 use Rattle.tree_laws.specs.Stages.{AllTurned, Answered as IsDone, Gathers, Holds, StageAt, Unborn}
 use Rattle.tree_laws.specs.Turns.{has_turn, turns}
 use Rattle.tree_laws.proofs.Acts.{acts_more, any_counted, counted_any, of_act}
-use Rattle.tree_laws.proofs.AptApplied.{applied_decides, applied_where_decided, decides_of, less_and}
+use Rattle.tree_laws.proofs.AptApplied.{applied_decides, applied_where_decided, decides_of}
 use Rattle.tree_laws.proofs.AptDecided.{Once, decided_any, once_in_run}
 use Rattle.tree_laws.proofs.AptRulings.{RowRules, Rules, client_acts, core_rules, keeping_acts, ruled_acts, rulings_no_keeping}
 use Rattle.tree_laws.proofs.AptStagesOwn.{Doing, note_at, root_home}
@@ -47,7 +48,6 @@ use Rattle.tree_laws.proofs.AptStagesRun.{stages_of_trees}
 use Rattle.tree_laws.proofs.AptSteps.{enters}
 use Rattle.tree_laws.proofs.AptVersions.{before}
 use Rattle.tree_laws.proofs.AptVotes.{decided_by_votes}
-use Rattle.tree_laws.proofs.Counts.{one_here}
 use Rattle.value_laws.proofs.RowActs.{is_lasting, lasting}
 use Rattle.run_laws.proofs.EveryApt.{all_apt}
 use Rattle.run_laws.proofs.EveryDid.{is_vote_of}
@@ -129,7 +129,7 @@ vote_is t k _ = refl
 
 no_counts : (t k : ℕ) (a : Act) → is_no_of t k a ≤ votes_no t a
 no_counts t k (acts.Voted u j (Yes values)) = omega arith
-no_counts t k (acts.Voted u j (No cause)) = less_and (u.0 == t) (j.0 == k)
+no_counts t k (acts.Voted u j (No cause)) = one_if_and (u.0 == t) (j.0 == k)
 no_counts t k acts.Finished = omega arith
 no_counts t k _ = omega arith
 
@@ -408,7 +408,7 @@ commits_if s past e j t false valid run at b all =
     let below : n.sub < length (subs_at s t) = no_place s now n.place n.node t n.sub (No n.cause) valid run (in_entry now n.place _ n.is) in
     let yes_one : 1 ≤ tally (of_act (is_yes_of t n.sub)) (front past e j) =
     any_counted (of_act (is_yes_of t n.sub)) (λ (x : Place). votes_yes t n.sub x.act) (front past e j) (λ x. refl) (all n.sub below) in
-    let own : is_no_of t n.sub (acts.Voted (record { 0 = t }) (record { 0 = n.sub }) (No n.cause)) ≡ 1 = one_here t n.sub in
+    let own : is_no_of t n.sub (acts.Voted (record { 0 = t }) (record { 0 = n.sub }) (No n.cause)) ≡ 1 = one_if_both t n.sub in
     let lt : turns now t n.sub ≡ 1 = sym (turns_before past e j t n.sub b.decides.last) ∙ b.turned n.sub below in
     absurd (omega (
       arith,
@@ -471,7 +471,7 @@ applied_marks : (t q : ℕ) (x : Place) → one_if ((x.node == q) && applies t x
 applied_marks t q x = omega arith
 
 own_applied : (t q : ℕ) (commit : Bool) → applies_here t q (placed q (acts.Applied (record { 0 = t }) commit)) ≡ 1
-own_applied t q commit = one_here q t
+own_applied t q commit = one_if_both q t
 
 applied_here : (t : ℕ) (commit : Bool) → applies_as t commit (acts.Applied (record { 0 = t }) commit) ≡ 1
 applied_here t true = let same : (t == t) ≡ true = grind (arith, nat_tests) in rw same refl

@@ -21,6 +21,7 @@ use Rattle.world_model.specs.Named.{tree_kind_at}
 use Rattle.world_model.specs.Runs.{keeping_in}
 use Rattle.world_model.specs.Strict.{core_keeping, kept_by_kind, meets}
 use Rattle.world_model.specs.Votes.{conflict_by}
+use Rattle.world_model.proofs.Bags.{one_if_both}
 use Rattle.board_rules.specs.Histories.{Place}
 use Rattle.board_rules.specs.Stands.{conflict_of}
 use Rattle.board_rules.specs.Rules.{IsFreeDeed}
@@ -31,7 +32,6 @@ use Rattle.tree_laws.specs.Dids.{is_did_act}
 use Rattle.tree_laws.proofs.Acts.{of_act}
 use Rattle.tree_laws.proofs.AptStagesOwn.{Doing}
 use Rattle.tree_laws.proofs.AptVersions.{before}
-use Rattle.tree_laws.proofs.Counts.{one_here}
 use Rattle.run_laws.proofs.AtOnce.{no_votes}
 use Rattle.run_laws.proofs.EveryDid.{is_vote_of, turn_is}
 use Rattle.tree_laws.specs.Turns.{has_turn}
@@ -85,7 +85,7 @@ pub did_by_rule : (s : ScriptData) (past : List Entry) (e : Entry) (j : ℕ) (p 
     → IsFreeDeed s (front past e j) e.actor.0 t.0 k.0
 did_by_rule s past e j p r t k kind values g asks of at updates_only none =
     let there = is_there s past e p r t k g asks in
-    let own : has_turn t.0 k.0 (acts.Did t k values) ≡ 1 = one_here t.0 k.0 in
+    let own : has_turn t.0 k.0 (acts.Did t k values) ≡ 1 = one_if_both t.0 k.0 in
     record {
       born = born_before s past e j (acts.Did t k values) p r t k kind g asks of at refl;
       there = there.below;

@@ -6,16 +6,16 @@ use Rattle.std.specs.Option.{option_or}
 use Rattle.std.proofs.lemmas.Bool.Decides.{nat_tests}
 use Rattle.std.proofs.lemmas.List.{take-map}
 use Rattle.tv_base.specs.declared.numbers.Version.{Version}
+use Rattle.tv_base.proofs.ByPlace.{get_map}
 use Rattle.letter_types.specs.declared.acts.Act.{Act}
 use Rattle.letter_types.specs.declared.acts.Act.TheVariants.{Born}
 use Rattle.letter_types.specs.declared.entries.Entry.{Entry}
 use Rattle.board_rules.specs.Histories.{Place, places_at, version_in}
 use Rattle.board_rules.specs.Moves.{OneByOne}
-use Rattle.board_rules.proofs.Places.{version_in-append}
+use Rattle.board_rules.proofs.Places.{version_in-append, places_more}
 use Rattle.world_model.specs.Counts.{one_if, tally}
 use Rattle.world_model.proofs.Bags.{tally-append}
 use Rattle.tree_laws.proofs.AptVersions.{before}
-use Rattle.tree_laws.proofs.Histories.{places_more}
 use Rattle.value_laws.proofs.RowActs.{is_lasting, lasting}
 
 abbrev pub front : List Entry → Entry → ℕ → List Place
@@ -24,11 +24,6 @@ front past e j = before past ++ take j (places_at e)
 -- an act of an entry at its place
 abbrev pub placed : ℕ → Act → Place
 placed node a = record { node = node; act = a }
-
-get_map : {X Y : Type 0} (f : X → Y) (xs : List X) (j : ℕ) (x : X) → slice_get xs j ≡ Some x → slice_get (map f xs) j ≡ Some (f x)
-get_map f [] j x is = absurd (cc is)
-get_map f (y ∷ xs) zero x is = let same : y ≡ x = cc is in ap (λ z. Some (f z)) same
-get_map f (y ∷ xs) (suc j) x is = get_map f xs j x is
 
 pub place_of : (e : Entry) (j : ℕ) (a : Act) → slice_get e.acts j ≡ Some a → slice_get (places_at e) j ≡ Some (placed e.actor.0 a)
 place_of e j a is = get_map (placed e.actor.0) e.acts j a is

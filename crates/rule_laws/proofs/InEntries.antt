@@ -8,8 +8,8 @@ use Rattle.letter_types.specs.declared.entries.Entry.{Entry}
 use Rattle.script_parts.specs.ScriptData.{ScriptData}
 use Rattle.world_model.specs.Runs.{IsStepRun}
 use Rattle.board_rules.specs.Histories.{Place, places_at}
+use Rattle.board_rules.proofs.Places.{places_more}
 use Rattle.tree_laws.proofs.AptVersions.{before}
-use Rattle.tree_laws.proofs.Histories.{places_more}
 use Rattle.run_laws.proofs.Closed.{run_before}
 
 -- the second of two lists, from a place in both

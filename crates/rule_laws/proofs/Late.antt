@@ -13,12 +13,12 @@ use Rattle.script_parts.specs.Valid.{IsValid}
 use Rattle.script_parts.specs.declared.parts.Tree.{Tree}
 use Rattle.script_parts.specs.declared.parts.TreeKind.{TreeKind}
 use Rattle.script_parts.specs.declared.parts.TreeKind.TheVariants.{Update, Read, Strict}
+use Rattle.script_parts.proofs.SubsOf.{has_root}
 use Rattle.board_rules.specs.Histories.{Place, born_as, is_strict_tree, is_whole_in, places_at, version_in}
 use Rattle.board_rules.specs.Rules.{AreBornLate, is_writer}
 use Rattle.board_rules.proofs.Wholes.{strict_there, updates_there, whole_more}
+use Rattle.board_rules.proofs.Places.{places_more}
 use Rattle.world_model.specs.Counts.{one_if, tally}
-use Rattle.world_model.specs.declared.phase.Phase.{Phase}
-use Rattle.world_model.specs.declared.phase.Phase.TheVariants.{Idle, Turning, Counting, Paused, Showing, Sweeping}
 use Rattle.world_model.specs.Runs.{IsStepRun, node_in}
 use Rattle.world_model.proofs.Bags.{tally-append}
 use Rattle.world_model.proofs.Scripts.{sub_there}
@@ -26,9 +26,7 @@ use Rattle.tree_laws.specs.Dids.{is_born}
 use Rattle.tree_laws.proofs.Acts.{of_act}
 use Rattle.tree_laws.proofs.AptTurns.{births_are_turns, turns_at_most_once}
 use Rattle.tree_laws.proofs.AptVersions.{before}
-use Rattle.tree_laws.proofs.Histories.{places_more}
 use Rattle.tree_laws.proofs.Counted.{births_in}
-use Rattle.strict_laws.proofs.MeantRows.{root_below}
 use Rattle.run_laws.proofs.Closed.{none_came}
 use Rattle.run_laws.proofs.EveryApt.{all_apt}
 use Rattle.run_laws.proofs.EveryBirth.{IsBornAt, birth_at}
@@ -84,7 +82,7 @@ births_once s past t valid run lt =
       arith,
       births_in past t,
       births_are_turns s past t valid apt run,
-      turns_at_most_once s past t 0 (sub_there s t 0 lt (root_below s t valid lt)) valid apt run,
+      turns_at_most_once s past t 0 (sub_there s t 0 lt (has_root s t valid lt)) valid apt run,
     )
 
 -- what an entry bears, it bears with the version of its Born

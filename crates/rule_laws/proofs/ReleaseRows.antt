@@ -6,6 +6,7 @@ use Rattle.std.proofs.lemmas.Bool.Decides.{nat_tests}
 use Rattle.tv_base.specs.declared.numbers.SubNo.{SubNo}
 use Rattle.tv_base.specs.declared.numbers.TreeNo.{TreeNo}
 use Rattle.tv_base.specs.declared.numbers.Version.{Version}
+use Rattle.tv_base.proofs.Chosen.{if_most, if_zero}
 use Rattle.letter_types.specs.declared.acts.Act.{Act}
 use Rattle.letter_types.specs.declared.acts.Act.TheVariants as acts
 use Rattle.letter_types.specs.declared.bodies.Body.{Body}
@@ -41,7 +42,6 @@ use Rattle.world_model.proofs.Epochs.{ask_each, order_each}
 use Rattle.world_model.proofs.Sends.{on, subs_none}
 use Rattle.tree_laws.specs.Dids.{replies_to}
 use Rattle.tree_laws.proofs.Turns.{answers_none, each_told, replies_none}
-use Rattle.tree_laws.proofs.AptApplied.{if_less, if_zero}
 use Rattle.value_laws.proofs.RowActs.{asked_acts, is_lasting, lasting_acts, row_lasts, tally_lasting}
 
 -- a letter that releases tree t, and one to node q
@@ -97,7 +97,7 @@ row_frees s p from t body c =
 -- What a row sends.
 pub to_less : (t q : ℕ) (os : List Outgoing) → tally (released_to t q) os ≤ tally (on (releases_of t)) os
 to_less t q [] = omega arith
-to_less t q (o ∷ os) = omega (arith, if_less (o.to.0 == q) (releases_of t o.body), to_less t q os)
+to_less t q (o ∷ os) = omega (arith, if_most (o.to.0 == q) (releases_of t o.body), to_less t q os)
 
 pub none_to : (t q : ℕ) (os : List Outgoing) → tally (on (releases_of t)) os ≡ 0 → tally (released_to t q) os ≡ 0
 none_to t q os none = omega (arith, none, to_less t q os)

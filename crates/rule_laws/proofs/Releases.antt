@@ -6,6 +6,7 @@ use Rattle.std.proofs.lemmas.Bool.{and_from}
 use Rattle.std.proofs.lemmas.Bool.Decides.{nat_tests}
 use Rattle.tv_base.specs.declared.numbers.TreeNo.{TreeNo}
 use Rattle.tv_base.specs.declared.numbers.Version.{Version}
+use Rattle.tv_base.proofs.Chosen.{if_zero}
 use Rattle.letter_types.specs.Kept.{kept_without, wakes}
 use Rattle.letter_types.specs.declared.acts.Act.{Act}
 use Rattle.letter_types.specs.declared.acts.Act.TheVariants as acts
@@ -17,10 +18,12 @@ use Rattle.letter_types.specs.declared.entries.Outgoing.{Outgoing}
 use Rattle.letter_types.specs.Steps.{Out}
 use Rattle.script_parts.specs.ScriptData.{ScriptData, client_of, subs_at, updates, visits}
 use Rattle.script_parts.specs.Valid.{IsValid}
+use Rattle.script_parts.proofs.SubsOf.{has_root}
 use Rattle.board_rules.specs.Histories.{Place, all_applied, all_done, born_as, is_complete, is_strict_tree, is_whole_in, places_at, version_in, was_born}
 use Rattle.board_rules.specs.Moves.{IsFreeing}
 use Rattle.board_rules.specs.Stands.{frees}
 use Rattle.board_rules.proofs.Wholes.{update_not_strict, updates_there, whole_more}
+use Rattle.board_rules.proofs.Places.{places_more}
 use Rattle.world_model.specs.Core.{Core}
 use Rattle.world_model.specs.Counts.{one_if, tally}
 use Rattle.world_model.specs.Kept.{kept_in, of_done, outstanding}
@@ -28,12 +31,11 @@ use Rattle.world_model.specs.Keeping.{woken_by}
 use Rattle.world_model.specs.Runs.{IsStepRun, MayFollow, client_in, keeping_in}
 use Rattle.world_model.specs.Named.{is_strict_at}
 use Rattle.world_model.specs.Strict.{CoreKeeping, core_row}
-use Rattle.world_model.proofs.Bags.{sealed_tally, tally-append}
+use Rattle.world_model.proofs.Bags.{sealed_tally, tally-append, one_if_both}
 use Rattle.world_model.proofs.Cases.{Case, Coordinates, Does, Keeps, NodeDoes, NodeKeeps, Submits, case, does_number, keeps_number}
 use Rattle.world_model.proofs.Outstanding.{done_apart, outstanding_first, outstanding_step}
 use Rattle.world_model.proofs.Sends.{on}
 use Rattle.strict_laws.specs.Meant.{IsMeant}
-use Rattle.strict_laws.proofs.MeantRows.{root_below}
 use Rattle.phase_laws.proofs.Brought.{brought_meant}
 use Rattle.tree_laws.specs.Dids.{answers, is_born, replies_to}
 use Rattle.tree_laws.specs.Stages.{AllTurned, Answered as IsDone, Gathers, Holds, StageAt, Unborn}
@@ -46,10 +48,8 @@ use Rattle.tree_laws.proofs.AptStagesRun.{stages_of_trees}
 use Rattle.tree_laws.proofs.AptSteps.{wakes_none}
 use Rattle.tree_laws.proofs.AptTurns.{births_are_turns}
 use Rattle.tree_laws.proofs.AptVersions.{before}
-use Rattle.tree_laws.proofs.Histories.{places_more}
 use Rattle.tree_laws.proofs.Counted.{all_done_of, births_in, dids_in, was_done_of}
-use Rattle.tree_laws.proofs.AptApplied.{if_zero, same_at}
-use Rattle.tree_laws.proofs.Counts.{one_here}
+use Rattle.tree_laws.proofs.AptApplied.{same_at}
 use Rattle.run_laws.proofs.EveryApt.{all_apt}
 use Rattle.run_laws.proofs.EveryDid.{dids_are_turns}
 use Rattle.run_laws.proofs.EveryWhole.{strict_is}
@@ -227,7 +227,7 @@ whole_turned s past t valid run up turned =
       arith,
       births_in past t,
       births_are_turns s past t valid apt run,
-      turned 0 (root_below s t valid (updates_there s t up)),
+      turned 0 (has_root s t valid (updates_there s t up)),
     )) in
     let done : all_done t (length (subs_at s t)) xs ≡ true =
     all_done_of t (length (subs_at s t)) xs
@@ -265,7 +265,7 @@ freed_by_rule s past e j p r t g is at =
           none_found (freed_here t.0 q) (λ (x : Place). (x.node == q) && frees t.0 x.act) (front past e j) (λ x. omega arith)
           (omega (
             arith,
-            one_here q t.0,
+            one_if_both q t.0,
             counted_front (freed_here t.0 q) past e j (placed q (acts.Freed t)) (place_of e j (acts.Freed t) at),
             freed_in now t.0 q,
             fair_now,

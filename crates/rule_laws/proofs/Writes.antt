@@ -42,7 +42,7 @@ use Rattle.board_rules.specs.Histories.{Place, is_strict_tree, places_at, versio
 use Rattle.board_rules.specs.Stands.{lock_mode_of, version_or_zero, written_by, written_in}
 use Rattle.board_rules.specs.Worth.{changes, ops_change, subs_change}
 use Rattle.board_rules.proofs.ItemAt.{item_at, marks_it, holds_it}
-use Rattle.board_rules.proofs.Places.{version_stays}
+use Rattle.board_rules.proofs.Places.{version_stays, places_more}
 use Rattle.strict_laws.proofs.ByActs.{kind_updates}
 use Rattle.strict_laws.specs.Meant.{IsMeant}
 use Rattle.phase_laws.proofs.Brought.{brought_meant}
@@ -51,7 +51,6 @@ use Rattle.tree_laws.proofs.AptDecisions.{dated_here}
 use Rattle.tree_laws.proofs.AptItems.{Applies as AppliesItems, Changes, Collects, Follows, Raises, Rests, Shows, Touches, core_changes}
 use Rattle.tree_laws.proofs.AptStagesOwn.{Doing}
 use Rattle.tree_laws.proofs.AptVersions.{DoneIn, before, is_version, version_is}
-use Rattle.tree_laws.proofs.Histories.{places_more}
 use Rattle.tree_laws.proofs.Turns.{kind_version, work_version}
 use Rattle.value_laws.proofs.RowActs.{is_lasting}
 use Rattle.run_laws.proofs.EveryApt.{all_apt}

@@ -32,6 +32,7 @@ use Rattle.world_model.specs.Core.{Core}
 use Rattle.world_model.specs.Named.{is_strict_at, tree_kind_at}
 use Rattle.world_model.specs.Runs.{IsStepRun, keeping_in, node_in}
 use Rattle.world_model.specs.Votes.{cause_in, conflict_by, newer_at, newer_by, newer_in, short_in, wanted_by}
+use Rattle.world_model.proofs.Bags.{one_if_both}
 use Rattle.board_rules.specs.Histories.{Place, places_at, version_in}
 use Rattle.board_rules.specs.Stands.{conflict_of, newer_of, newest_of, version_or_zero, written_in}
 use Rattle.board_rules.proofs.ItemAt.{op_row}
@@ -46,7 +47,6 @@ use Rattle.tree_laws.proofs.AptDecisions.{dated_here}
 use Rattle.tree_laws.proofs.AptStagesOwn.{Doing}
 use Rattle.tree_laws.proofs.AptVersions.{before}
 use Rattle.tree_laws.proofs.AptWindows.{tables_ascend}
-use Rattle.tree_laws.proofs.Counts.{one_here}
 use Rattle.tree_laws.proofs.Tables.{ItemIn}
 use Rattle.value_laws.proofs.HeldItems.{none_newer}
 use Rattle.value_laws.proofs.RowActs.{lasting}
@@ -174,7 +174,7 @@ yes_by_rule s past e j p r t k values g asks of at free none =
     let version : version_in t.0 (front past e j) ≡ Some v =
     front_version past e j t.0 v born
     (asked_born s (before past ++ places_at e) t k Strict r.body c asks of refl (dated_here s past e p r g.valid g.apt.1 g.run g.does)) in
-    let own : has_turn t.0 k.0 (acts.Voted t k (Yes values)) ≡ 1 = one_here t.0 k.0 in
+    let own : has_turn t.0 k.0 (acts.Voted t k (Yes values)) ≡ 1 = one_if_both t.0 k.0 in
     let met : conflict_of s (before past) p t.0 os ≡ None =
     sym (runs_meet_conflicts s past p t k (has_some s t.0 strict) g.valid g.run.1 g.does.brings.below there.node)
     ∙ ap (λ (ws : Wanted). conflict_by (met_in t ws c.locks)) (sym (wanted_needed os)) ∙ n.met in

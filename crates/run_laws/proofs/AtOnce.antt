@@ -18,30 +18,31 @@ use Rattle.letter_types.specs.declared.entries.Letter.{Letter}
 use Rattle.letter_types.specs.declared.kept.KeptLetter.{KeptLetter}
 use Rattle.letter_types.specs.declared.votes.Cause.TheVariants.{Conflict}
 use Rattle.script_parts.specs.Counts.{has_strict}
+use Rattle.script_parts.proofs.SubsOf.{home_below, sub_node_below}
 use Rattle.tx_trees.specs.ScriptData.{ScriptData, node_of, updates}
 use Rattle.tx_trees.specs.Valid.{IsValid}
 use Rattle.board_rules.specs.Histories.{Place, places_at, places_of}
 use Rattle.board_rules.specs.Right.{IsAtOnce, IsDoneAtOnce, IsDoneOrParked, in_way_of, is_parking, parkings}
 use Rattle.board_rules.proofs.NoVotes.{AreNoVotes, IsNoVote, none_in_way}
+use Rattle.board_rules.proofs.Places.{places_more}
 use Rattle.world_model.specs.Counts.{one_if, tally}
 use Rattle.world_model.specs.Keeping.{AreKeptAt, AsksFor}
 use Rattle.world_model.specs.Kept.{kept_in}
-use Rattle.world_model.specs.Runs.{IsStepRun, client_in, coordinator_in, keeping_in}
+use Rattle.world_model.specs.Runs.{IsStepRun, client_in, keeping_in}
 use Rattle.world_model.proofs.Cases.{Brings, Case, Coordinates, NodeDoes, NodeKeeps, Submits, case}
 use Rattle.world_model.proofs.EachOutstanding.{each_took}
 use Rattle.world_model.proofs.KeptThere.{kept_in_past}
-use Rattle.world_model.proofs.Orders.{no_acts}
 use Rattle.world_model.proofs.Plain.{no_strict}
+use Rattle.world_model.proofs.Bags.{one_if_both}
 use Rattle.strict_laws.specs.Meant.{IsLetterMeant, IsMeant}
 use Rattle.strict_laws.proofs.AtHome.{all_append}
 use Rattle.strict_laws.proofs.Meant.{letters_are_meant}
 use Rattle.strict_laws.proofs.Parkings.{none_parks}
 use Rattle.strict_laws.proofs.DoneOrParked.{Answers, AskedMeets, keeping_answers, meets_way, row_answers, way_holds}
-use Rattle.phase_laws.proofs.Brought.{brought_meant, home_below, sub_node_below}
+use Rattle.phase_laws.proofs.Brought.{brought_meant}
 use Rattle.phase_laws.proofs.Progress.{brings_to}
 use Rattle.tree_laws.proofs.AptRulings.{client_acts}
-use Rattle.tree_laws.proofs.Counts.{one_here}
-use Rattle.tree_laws.proofs.Histories.{before_more, first_of, places_more, run_before}
+use Rattle.tree_laws.proofs.Histories.{before_more, first_of, run_before}
 use Rattle.run_laws.proofs.EveryApt.{all_apt}
 use Rattle.run_laws.specs.Waiting.{IsHolder}
 use Rattle.run_laws.proofs.EveryDid.{is_vote_of, none_votes}
@@ -49,7 +50,7 @@ use Rattle.run_laws.proofs.Holders.{holders}
 
 -- In a script without strict trees nothing votes.
 no_vote : (a : Act) → ((t k : ℕ) → is_vote_of t k a ≡ 0) → IsNoVote a
-no_vote (acts.Voted t k vote) none = absurd (omega (arith, none t.0 k.0, one_here t.0 k.0))
+no_vote (acts.Voted t k vote) none = absurd (omega (arith, none t.0 k.0, one_if_both t.0 k.0))
 no_vote acts.Finished none = tt
 no_vote _ none = tt
 

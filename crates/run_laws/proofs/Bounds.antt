@@ -12,7 +12,7 @@ use Rattle.letter_types.specs.declared.bodies.Body.TheVariants.{Go, Root, Sub as
 use Rattle.letter_types.specs.declared.entries.Entry.{Entry}
 use Rattle.letter_types.specs.declared.entries.Letter.{Letter}
 use Rattle.letter_types.specs.declared.entries.Outgoing.{Outgoing}
-use Rattle.script_parts.specs.Counts.{has_strict, if_update, one_strict, strict_trees, update_subs}
+use Rattle.script_parts.specs.Counts.{has_strict, if_update, one_strict, strict_trees, update_subs, is_lossy}
 use Rattle.script_parts.specs.ScriptData.{is_strict, is_update, updates}
 use Rattle.script_parts.specs.declared.parts.Tree.{Tree}
 use Rattle.script_parts.specs.declared.parts.TreeKind.{TreeKind}
@@ -20,7 +20,8 @@ use Rattle.script_parts.specs.declared.parts.TreeKind.TheVariants.{Read, Strict,
 use Rattle.tx_trees.specs.Counts.{advances_in, all_subs, loses_in}
 use Rattle.tx_trees.specs.ScriptData.{ScriptData, subs_at}
 use Rattle.tx_trees.specs.Valid.{IsValid}
-use Rattle.script_parts.proofs.SubsOf.{few_nodes}
+use Rattle.tx_trees.proofs.Rebuilding.{asked_most}
+use Rattle.script_parts.proofs.SubsOf.{few_nodes, has_root, sub_node_below}
 use Rattle.world_model.specs.Children.{sub_letters}
 use Rattle.world_model.specs.Core.{Core}
 use Rattle.world_model.specs.Counts.{one_if, tally}
@@ -39,11 +40,11 @@ use Rattle.world_model.proofs.Outstanding.{outstanding_first}
 use Rattle.world_model.proofs.Scripts.{SubAt, sub_here, sub_there}
 use Rattle.world_model.proofs.Sends.{on, roots_none, subs_none}
 use Rattle.strict_laws.specs.Meant.{IsMeant}
-use Rattle.strict_laws.proofs.MeantRows.{root_below, strict_below}
+use Rattle.strict_laws.proofs.MeantRows.{strict_below}
 use Rattle.strict_laws.proofs.RowSends.{OfChildren, OfRow, OfTree, core_each}
+use Rattle.strict_laws.proofs.Meant.{took_meant}
 use Rattle.phase_laws.specs.Advances.{asked_for, running}
-use Rattle.phase_laws.proofs.Brought.{sub_node_below}
-use Rattle.phase_laws.proofs.Small.{asked_most, rounds_by_trees, small}
+use Rattle.phase_laws.proofs.Small.{rounds_by_trees, small}
 use Rattle.tree_laws.specs.Dids.{asks, is_go, letters_asking, replies_to, tells_done}
 use Rattle.tree_laws.specs.Entries.{entries_most, entries_of, if_strict, lossy_entries, strict_entries, strict_subs}
 use Rattle.tree_laws.specs.Turns.{turns}
@@ -58,10 +59,8 @@ use Rattle.run_laws.proofs.Costs.{is_apart, paid, stages}
 use Rattle.run_laws.proofs.CostsAnew.{aparts_anew}
 use Rattle.run_laws.proofs.EveryApt.{all_apt, lawful}
 use Rattle.run_laws.proofs.SentFew.{ack_of, acks_few, answered_once, decide_of, decides_few, release_of, releases_few, taken_sent}
-use Rattle.run_laws.proofs.Stopping.{took_meant}
 use Rattle.run_laws.proofs.WakesFew.{over_most, read_wakes, root_wakes, sent_in, strict_wakes, update_wakes, wake_of}
 use Rattle.world_model.specs.Keeping.{woken_by}
-use Rattle.world_model.specs.Lossy.{is_lossy}
 
 -- Sums.
 over_few : {X : Type 0} (i : ℕ) (f : ℕ → ℕ) (xs : List X) → ((k : ℕ) → i ≤ k → k < i + length xs → f k ≤ 1) → over i f xs ≤ length xs
@@ -192,7 +191,7 @@ taken_none f s past valid run none = taken_same f (λ b. 0) s past valid run non
 
 pub work_by_tree : (s : ScriptData) → IsValid s → (from to : ℕ) (b : Body) → IsMeant s from to b
     → is_work b ≡ over 0 (λ t. over 0 (λ k. asks t k b) (subs_at s t)) s.trees
-work_by_tree s valid from to (Root u) meant = sym (work_hit s u.0 0 meant.tree (root_below s u.0 valid meant.tree))
+work_by_tree s valid from to (Root u) meant = sym (work_hit s u.0 0 meant.tree (has_root s u.0 valid meant.tree))
 work_by_tree s valid from to (SubLetter u j v) meant = sym (work_hit s u.0 j.0 meant.tree meant.sub)
 work_by_tree s valid from to Go meant = sym (work_none s)
 work_by_tree s valid from to _ meant = sym (work_none s)
@@ -304,7 +303,7 @@ notes_root s (e ∷ past) t valid run =
 notes_few : (s : ScriptData) (past : List Entry) (t : ℕ) → IsValid s → IsStepRun s past → t < length s.trees
     → over 0 (λ k. taken_in (tells_done t k) past) (subs_at s t) + 1 ≤ length (subs_at s t)
 notes_few s past t valid run lt =
-    over_later (λ k. taken_in (tells_done t k) past) (subs_at s t) (omega (arith, root_below s t valid lt))
+    over_later (λ k. taken_in (tells_done t k) past) (subs_at s t) (omega (arith, has_root s t valid lt))
     (omega (arith, taken_few (tells_done t 0) s past run refl, notes_root s past t valid run))
     (λ k kt.
     omega (

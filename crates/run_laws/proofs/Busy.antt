@@ -2,6 +2,8 @@
 use Rattle.std.proofs.Common.{◌≡◌, ◌≢◌, ℕ, ◌+◌, ◌<◌, ◌≤◌, ◌==◌, ◌&&◌, Bool, true, false, not, List, [], ◌∷◌, length, get_or, set, take, drop, refl, sym, ap, subst, ◌∙◌, arith}
 use Rattle.std.proofs.lemmas.Bool.Decides.{nat_tests}
 use Rattle.std.proofs.lemmas.List.{get_or-set_other}
+use Rattle.tv_base.proofs.Chosen.{not_none}
+use Rattle.script_parts.proofs.SubsOf.{has_root}
 use Rattle.letter_types.specs.declared.bodies.Body.{Body}
 use Rattle.letter_types.specs.declared.bodies.Body.TheVariants.{Sub as SubLetter, Done, Nudge, Decide, Decided}
 use Rattle.letter_types.specs.declared.entries.Entry.{Entry}
@@ -21,10 +23,10 @@ use Rattle.world_model.proofs.Flows.{client_kept, flow}
 use Rattle.world_model.proofs.Nexts.{MadeByClient}
 use Rattle.world_model.proofs.Scripts.{SubAt, sub_below, sub_here, sub_there, tree_below}
 use Rattle.world_model.proofs.Sends.{on}
-use Rattle.world_model.proofs.Bags.{one_if_same}
+use Rattle.world_model.proofs.Bags.{one_if_same, one_if_both}
 use Rattle.strict_laws.specs.Meant.{IsLetterMeant, IsMeant}
 use Rattle.strict_laws.proofs.Meant.{letters_are_meant}
-use Rattle.strict_laws.proofs.MeantRows.{root_below, strict_below}
+use Rattle.strict_laws.proofs.MeantRows.{strict_below}
 use Rattle.phase_laws.proofs.ClientSteps.{Aside, Begins, ClientStep, Ends, Hears, Tells, client_step}
 use Rattle.tree_laws.specs.Dids.{letters_asking, asks, answers, is_row_of, notices, roots_sent, tells_done}
 use Rattle.tree_laws.specs.Stages.{StageAt, Answered, Gathers, Holds, Unborn, decides, decisions}
@@ -33,9 +35,8 @@ use Rattle.tree_laws.proofs.AptLawful.{heard_were_sent}
 use Rattle.tree_laws.proofs.AptStagesRun.{stages_of_trees}
 use Rattle.tree_laws.proofs.AptStagesSteps.{all_in_flight, decides_no_asking, tells_no_asking}
 use Rattle.tree_laws.proofs.AptTurns.{parent_before, roots_have_turns, sub_has_turns, turns_below_root, turns_come_once}
-use Rattle.tree_laws.proofs.Counts.{one_here}
 use Rattle.tree_laws.proofs.Sent.{rooted_once, tally_take_le, tally_take_more}
-use Rattle.run_laws.proofs.EveryApt.{all_apt, lawful}
+use Rattle.run_laws.proofs.EveryApt.{all_apt}
 use Rattle.run_laws.proofs.Measures.{busy, left, left_of, nudges, of_trees, unanswered}
 
 -- Rows more.
@@ -158,9 +159,6 @@ is_heard true true is none = refl
 is_heard true false is none = absurd (omega (arith, none))
 is_heard false heard is none = absurd (cc is)
 
-is_born : (n : ℕ) → 1 ≤ n → not (n == 0) ≡ true
-is_born n some = grind (arith, nat_tests)
-
 answered_here : (past : List Entry) (answered : List Bool) (t u : ℕ) (test : Bool) (rest more : ℕ) → (u == t) ≡ test → 1 ≤ turns past t 0
     → (1 ≤ rest → more ≡ 0 → get_or answered t false ≡ true) → 1 ≤ one_if test + rest
     → one_if (not (turns past u 0 == 0) && not (get_or answered u false)) + more ≡ 0 → get_or answered t false ≡ true
@@ -168,7 +166,7 @@ answered_here past answered t u true rest more is born later some none =
     let same : u ≡ t = grind (arith, nat_tests) in
     subst (λ (n : ℕ). get_or answered n false ≡ true) same
     (is_heard (not (turns past u 0 == 0)) (get_or answered u false)
-    (is_born (turns past u 0) (subst (λ (n : ℕ). 1 ≤ turns past n 0) (sym same) born)) (omega (arith, none)))
+    (not_none (turns past u 0) (subst (λ (n : ℕ). 1 ≤ turns past n 0) (sym same) born)) (omega (arith, none)))
 answered_here past answered t u false rest more is born later some none = later (omega (arith, some)) (omega (arith, none))
 
 -- a tree of these rows that is born is answered
@@ -217,7 +215,7 @@ rests_at s past t k c valid run none (Unborn u) =
 rests_at s past t k c valid run none (Gathers h g) =
     absurd (omega (arith, g.answers, born_answered s past t valid run none (omega (arith, g.root))))
 rests_at s past t k c valid run none (Holds h g) =
-    let first : 0 < length (subs_at s t) = root_below s t valid (tree_below s t k c) in
+    let first : 0 < length (subs_at s t) = has_root s t valid (tree_below s t k c) in
     absurd (omega (arith, g.answers, born_answered s past t valid run none (omega (arith, g.all.turned 0 first))))
 rests_at s past t k c valid run none (Answered a) = record {
   asked = λ some. omega (
@@ -246,15 +244,15 @@ Quiet s body = (t k : ℕ) → SubAt s t k → IsQuietFor t k body
 
 quiet_body : (s : ScriptData) (from to : ℕ) (body : Body) → IsValid s → IsMeant s from to body → Quiet s body → of_trees body ≡ 0
 quiet_body s from to (SubLetter t k v) valid meant quiet =
-    absurd (omega (arith, (quiet t.0 k.0 (sub_there s t.0 k.0 meant.tree meant.sub)).asked meant.later, one_here t.0 k.0))
+    absurd (omega (arith, (quiet t.0 k.0 (sub_there s t.0 k.0 meant.tree meant.sub)).asked meant.later, one_if_both t.0 k.0))
 quiet_body s from to (Done t k v notice) valid meant quiet =
-    absurd (omega (arith, (quiet t.0 k.0 (sub_there s t.0 k.0 meant.tree meant.sub)).told, one_here t.0 k.0))
+    absurd (omega (arith, (quiet t.0 k.0 (sub_there s t.0 k.0 meant.tree meant.sub)).told, one_if_both t.0 k.0))
 quiet_body s from to (Decide t v commit) valid meant quiet =
     let lt = strict_below s t.0 meant.strict in
-    absurd (omega (arith, (quiet t.0 0 (sub_there s t.0 0 lt (root_below s t.0 valid lt))).decided, one_if_same t.0))
+    absurd (omega (arith, (quiet t.0 0 (sub_there s t.0 0 lt (has_root s t.0 valid lt))).decided, one_if_same t.0))
 quiet_body s from to (Decided t v) valid meant quiet =
     let lt = strict_below s t.0 meant.strict in
-    absurd (omega (arith, (quiet t.0 0 (sub_there s t.0 0 lt (root_below s t.0 valid lt))).decided, one_if_same t.0))
+    absurd (omega (arith, (quiet t.0 0 (sub_there s t.0 0 lt (has_root s t.0 valid lt))).decided, one_if_same t.0))
 quiet_body s from to _ valid meant quiet = refl
 
 asked_none : (k : ℕ) (f : Letter → ℕ) (ls : List Letter) (test : Bool) → (k == 0) ≡ test → (0 < k → tally f ls ≡ 0)

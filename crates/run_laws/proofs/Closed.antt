@@ -7,19 +7,15 @@ use Rattle.letter_types.specs.declared.bodies.Body.TheVariants.{Go, Order, Show,
 use Rattle.letter_types.specs.declared.bodies.What.TheVariants as whats
 use Rattle.letter_types.specs.declared.entries.Entry.{Entry}
 use Rattle.letter_types.specs.declared.entries.Letter.{Letter}
-use Rattle.world_model.specs.Coordinator.{Coordinator, coordinator_row}
-use Rattle.world_model.specs.declared.phase.Phase.{Phase}
 use Rattle.tx_trees.specs.ScriptData.{ScriptData, is_read}
 use Rattle.tx_trees.specs.Valid.{IsValid}
 use Rattle.tx_trees.specs.declared.parts.Tree.{Tree}
 use Rattle.board_rules.specs.Histories.{places_at, places_of, version_in}
-use Rattle.world_model.specs.Counts.{Each, tally}
-use Rattle.world_model.specs.Runs.{IsStepRun, coordinator_in, in_flight}
-use Rattle.world_model.proofs.EachOutstanding.{each_waits}
-use Rattle.world_model.proofs.Every.{each_both, each_map}
-use Rattle.world_model.proofs.Nexts.{MadeByCoordinator}
+use Rattle.board_rules.proofs.Places.{places_more}
+use Rattle.world_model.specs.Counts.{Each}
+use Rattle.world_model.specs.Runs.{IsStepRun, in_flight}
+use Rattle.world_model.proofs.Every.{each_map}
 use Rattle.world_model.proofs.Scripts.{get_below}
-use Rattle.tree_laws.proofs.Histories.{places_more}
 use Rattle.phase_laws.specs.Phases.{ShowStage, SweepStage}
 use Rattle.phase_laws.proofs.Advancing.{IsOrderGiven, given_rises}
 use Rattle.run_laws.specs.Shown.{IsBackedBy, IsClosedBy, NoReadCame, NoWriterCame, ReadsAreWhole, WritersAreWhole}

@@ -4,12 +4,13 @@ use Rattle.std.proofs.Math.Seq.{take-add}
 use Rattle.std.proofs.lemmas.Bool.{eqb-true, not-false}
 use Rattle.tx_trees.proofs.Rebuilding.{advances_in-append}
 use Rattle.phase_out.specs.Rounds.{NodeRows, all_in}
+use Rattle.phase_out.proofs.With.{none_in}
 use Rattle.letter_types.specs.declared.bodies.Body.{Body}
 use Rattle.letter_types.specs.declared.bodies.Body.TheVariants.{Go, Nudge, Advance, Advanced, Turn, Show, Sweep, Turned, Shown, Swept, AskDone, AskAsked, DoneRow, AskedRow, Wake, Lose, AdvanceNo, Ask, Numbers, Wanted, Order as OrderLetter, Obeyed}
 use Rattle.letter_types.specs.declared.entries.Entry.{Entry}
 use Rattle.letter_types.specs.declared.entries.Outgoing.{Outgoing}
 use Rattle.letter_types.specs.Steps.{Out}
-use Rattle.tx_trees.specs.Counts.{advances_in, loses_in}
+use Rattle.tx_trees.specs.Counts.{advances_in, loses_in, is_lossy}
 use Rattle.tx_trees.specs.Valid.{IsValid}
 use Rattle.tx_trees.specs.ScriptData.{ScriptData, client_of}
 use Rattle.tx_trees.specs.declared.parts.ScriptRow.{ScriptRow}
@@ -38,7 +39,6 @@ use Rattle.tx_trees.proofs.Rebuilding.{loses_in-append}
 use Rattle.epoch_laws.proofs.Few.{lost_most}
 use Rattle.epoch_laws.proofs.Prices.{done_pays, price, put_all, to_nodes_price}
 use Rattle.run_laws.proofs.EveryApt.{all_apt, lawful}
-use Rattle.world_model.specs.Lossy.{is_lossy}
 use Rattle.phase_laws.proofs.Heeds.{AreWakes, IsWake}
 
 -- a letter of advancements
@@ -102,17 +102,13 @@ unasked_all n (Paused reads) dones all = refl
 unasked_all n Showing dones all = refl
 unasked_all n Sweeping dones all = refl
 
-unasked_new : (n m : ℕ) (reads : Bool) → 1 ≤ m → unasked n (Counting reads) (replicate m None) ≡ 2 * n
-unasked_new n zero reads some = absurd (omega (arith, some))
-unasked_new n (suc m) reads some = refl
-
 -- a round begins where no question is pending
 pays_begun : (n : ℕ) (reads : Bool) (c d : Coordinator) → 1 ≤ n → d.nodes ≡ n → d.update ≡ c.update → pend n c ≡ 0 → stages c.phase ≡ stages (Counting reads)
     → Pays n c (round_begun reads (c.round + 1) d)
 pays_begun n reads c d some nodes update none stage =
     let sent : tally (on price) (to_nodes d.nodes (AskDone (counted_version reads d) (c.round + 1))) ≡ 2 * n =
     to_nodes_price d.nodes (AskDone (counted_version reads d) (c.round + 1)) refl ∙ ap (λ (m : ℕ). 2 * m) nodes in
-    let new = unasked_new n d.nodes reads (omega (arith, some, nodes)) in
+    let new = ap (λ (b : Bool). if b then 0 else 2 * n) (none_in d.nodes (omega (arith, some, nodes))) in
     let same : d.update * (6 * n + 1) ≡ c.update * (6 * n + 1) = ap (λ (u : ℕ). u * (6 * n + 1)) update in
     let at : 2 * n * stages c.phase ≡ 2 * n * stages (Counting reads) = ap (λ (k : ℕ). 2 * n * k) stage in
     omega (arith, sent, new, same, at, none)

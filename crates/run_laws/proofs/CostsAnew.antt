@@ -5,14 +5,14 @@ use Rattle.letter_types.specs.declared.bodies.Body.{Body}
 use Rattle.letter_types.specs.declared.bodies.Body.TheVariants.{Nudge, DoneRow, AskedRow, Lose, AdvanceNo, Ask, Numbers, Wanted, Order as OrderLetter, Obeyed}
 use Rattle.letter_types.specs.declared.entries.Entry.{Entry}
 use Rattle.letter_types.specs.declared.entries.Outgoing.{Outgoing}
-use Rattle.tx_trees.specs.Counts.{advances_in, loses_in}
+use Rattle.tx_trees.specs.Counts.{advances_in, loses_in, is_lossy}
 use Rattle.tx_trees.specs.Valid.{IsValid}
 use Rattle.tx_trees.specs.ScriptData.{ScriptData, client_of}
+use Rattle.tx_trees.proofs.Rebuilding.{asked_most}
 use Rattle.world_model.specs.Advancing.{to_coordinator}
 use Rattle.world_model.specs.Client.{Client, advances_sent, nudge, rows_letters, submit, submitted, wanted, with_answer, with_end}
 use Rattle.world_model.specs.Core.{Core}
 use Rattle.world_model.specs.Counts.{tally}
-use Rattle.world_model.specs.Lossy.{is_lossy}
 use Rattle.world_model.specs.Runs.{IsStepRun, MayFollow, client_in, keeping_in, node_in}
 use Rattle.world_model.proofs.Bags.{tally-append}
 use Rattle.world_model.proofs.Flows.{client_kept, flow}
@@ -23,7 +23,6 @@ use Rattle.phase_laws.specs.Phases.{count_in_flight}
 use Rattle.phase_laws.proofs.Heeds.{Heed, IsOfEpoch, Leaves, Answers, Repeats, Obeys as ObeysAnew}
 use Rattle.phase_laws.proofs.Letters.{all_sent_none, none_of_trees}
 use Rattle.phase_laws.proofs.Progress.{Asked, Begins, Coordinates, Course, Ends, Hears, Heeds, Obeys, Restarts, TellsAnew, Works, are_wakes, course}
-use Rattle.phase_laws.proofs.Small.{asked_most}
 use Rattle.tree_laws.proofs.AptLawful.{nudges_few}
 use Rattle.tree_laws.proofs.Entries.{taken_in}
 use Rattle.epoch_laws.proofs.CostsSent.{priced, priced_away, priced_here, priced_most}

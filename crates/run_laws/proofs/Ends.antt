@@ -9,7 +9,7 @@ use Rattle.letter_types.specs.declared.entries.Letter.{Letter}
 use Rattle.letter_types.specs.declared.kept.KeptLetter.{KeptLetter}
 use Rattle.board_rules.specs.Histories.{Place, places_of}
 use Rattle.board_rules.specs.Right.{HasFinished, finishes}
-use Rattle.tx_trees.specs.Counts.{advances_in}
+use Rattle.tx_trees.specs.Counts.{advances_in, is_lossy}
 use Rattle.tx_trees.specs.ScriptData.{ScriptData}
 use Rattle.tx_trees.specs.Valid.{IsValid}
 use Rattle.tx_trees.specs.declared.parts.ScriptRow.{ScriptRow}
@@ -39,7 +39,6 @@ use Rattle.run_laws.proofs.Pauses.{coordinator_steady}
 use Rattle.run_laws.proofs.EveryApt.{all_apt, lawful}
 use Rattle.run_laws.proofs.Resting.{IsSettled, nothing_waits, settled}
 use Rattle.run_laws.proofs.Stopping.{stopping}
-use Rattle.world_model.specs.Lossy.{is_lossy}
 use Rattle.run_laws.proofs.RoundsOver.{heard_now, no_round, tree_in}
 use Rattle.run_laws.proofs.EndsAnew.{above_anew, ended_anew}
 

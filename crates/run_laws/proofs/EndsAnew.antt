@@ -11,12 +11,13 @@ use Rattle.tx_trees.specs.Valid.{IsValid}
 use Rattle.world_model.specs.AllApt.{AllApt}
 use Rattle.world_model.specs.Core.{Core}
 use Rattle.world_model.specs.Counts.{tally}
-use Rattle.world_model.specs.Lossy.{is_lossy}
+use Rattle.script_parts.specs.Counts.{is_lossy}
 use Rattle.world_model.specs.Restarting.{Restarting, version_counted}
 use Rattle.world_model.specs.Runs.{IsStepRun, client_in, in_flight, keeping_in, node_in, restarting_in}
 use Rattle.world_model.specs.declared.restarting.RestartPhase.{RestartPhase}
 use Rattle.world_model.specs.declared.restarting.RestartPhase.TheVariants.{Idle, Recovering, Doing, Counting, Paused}
 use Rattle.strict_laws.specs.Meant.{IsMeant}
+use Rattle.strict_laws.proofs.Meant.{took_meant}
 use Rattle.phase_laws.specs.Advances.{asked_for}
 use Rattle.phase_laws.proofs.Counting.{NoRound}
 use Rattle.phase_laws.proofs.Heeds.{Answers, Heed, Leaves, Obeys, Repeats}
@@ -37,7 +38,6 @@ use Rattle.run_laws.proofs.EveryApt.{all_apt, tree_lawful}
 use Rattle.run_laws.proofs.Exacts.{order_counts}
 use Rattle.run_laws.proofs.Pauses.{IsSteady}
 use Rattle.run_laws.proofs.RoundsOver.{no_round}
-use Rattle.run_laws.proofs.Stopping.{took_meant}
 
 -- While the coordinator counts, nodes heed no order, and none has left the version counted.
 steady_in : (s : ScriptData) (past : List Entry) (phase : RestartPhase) → IsGood s past → (restarting_in s past).phase ≡ phase

@@ -7,7 +7,8 @@ use Rattle.letter_types.specs.declared.entries.Entry.{Entry}
 use Rattle.letter_types.specs.declared.entries.Letter.{Letter}
 use Rattle.letter_types.specs.declared.entries.Outgoing.{Outgoing}
 use Rattle.phase_out.specs.Rounds.{NodeRows}
-use Rattle.script_parts.specs.Counts.{has_strict}
+use Rattle.script_parts.specs.Counts.{has_strict, is_lossy}
+use Rattle.script_parts.proofs.SubsOf.{has_root}
 use Rattle.world_model.specs.Client.{Client, nudge, rows_letters, submit, submitted, with_answer, with_end, advances_sent}
 use Rattle.world_model.specs.Coordinator.{Coordinator, coordinator_row}
 use Rattle.world_model.specs.declared.phase.Phase.{Phase}
@@ -26,7 +27,7 @@ use Rattle.world_model.proofs.Orders.{coordinator_each}
 use Rattle.world_model.proofs.Scripts.{SubAt, sub_here, sub_there}
 use Rattle.world_model.proofs.Sends.{on, roots_none}
 use Rattle.strict_laws.specs.Meant.{IsMeant}
-use Rattle.strict_laws.proofs.MeantRows.{root_below}
+use Rattle.strict_laws.proofs.Meant.{took_meant}
 use Rattle.phase_laws.specs.Advances.{asked_for, is_advanced, running}
 use Rattle.phase_laws.specs.Phases.{count_in_flight}
 use Rattle.phase_laws.proofs.Letters.{NoTrees, Passes, node_passes}
@@ -52,9 +53,7 @@ use Rattle.run_laws.proofs.Ends.{all_rows, answered_now, ended_all, idle}
 use Rattle.run_laws.proofs.EveryApt.{all_apt, lawful}
 use Rattle.run_laws.proofs.Measures.{nudges}
 use Rattle.run_laws.proofs.SentFew.{taken_sent}
-use Rattle.run_laws.proofs.Stopping.{took_meant}
 use Rattle.run_laws.proofs.WakesFew.{sent_in}
-use Rattle.world_model.specs.Lossy.{is_lossy}
 
 -- Where no letter is in flight, all that was sent was taken.
 none_flies : (f : Body → ℕ) (s : ScriptData) (past : List Entry) → in_flight s past ≡ [] → count_in_flight f s past ≡ 0
@@ -161,7 +160,7 @@ tree_notes s past t valid keeps run empty lt =
     omega (
       arith,
       all,
-      all_but_first (λ k. taken_in (tells_done t k) past) (subs_at s t) (omega (arith, root_below s t valid lt))
+      all_but_first (λ k. taken_in (tells_done t k) past) (subs_at s t) (omega (arith, has_root s t valid lt))
           (omega (arith, taken_all (tells_done t 0) s past run empty, notes_root s past t valid run))
           (λ k some kt. told_once s past t k valid keeps run empty lt some kt),
     )

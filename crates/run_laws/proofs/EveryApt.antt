@@ -9,13 +9,14 @@ use Rattle.letter_types.specs.declared.bodies.Body.{Body}
 use Rattle.letter_types.specs.declared.bodies.Body.TheVariants.{Go, Root, Sub as SubLetter, Done, Decide, Decided, Release, Wake, Lose, AdvanceNo, Ask, Numbers, Wanted, Order, Obeyed, Advance, Turn, Show, Sweep, Turned, Shown, Swept}
 use Rattle.letter_types.specs.declared.entries.Entry.{Entry}
 use Rattle.letter_types.specs.declared.entries.Letter.{Letter}
-use Rattle.script_parts.specs.Counts.{has_strict}
+use Rattle.script_parts.specs.Counts.{has_strict, is_lossy}
+use Rattle.script_parts.proofs.SubsOf.{home_below}
 use Rattle.tx_trees.specs.ScriptData.{ScriptData, home_of, node_of, subs_at, visits}
 use Rattle.tx_trees.specs.Valid.{IsValid}
 use Rattle.world_model.specs.AllApt.{AllApt, WasApt}
 use Rattle.world_model.specs.Keeping.{is_apt_at, is_apt_brought}
 use Rattle.world_model.specs.Kept.{kept_in}
-use Rattle.world_model.specs.Named.{is_named, is_new, is_strict_at, is_timely, suits}
+use Rattle.world_model.specs.Named.{is_named, is_new, is_strict_at, suits}
 use Rattle.world_model.specs.Runs.{IsStepRun, keeping_in, node_in}
 use Rattle.world_model.specs.Strict.{can_make_at, decides_near, is_of_strict, is_unheld}
 use Rattle.world_model.proofs.Outstanding.{IsOutstanding}
@@ -28,13 +29,12 @@ use Rattle.tree_laws.proofs.AptApplied.{applied_where_decided}
 use Rattle.tree_laws.proofs.AptDecided.{decided_once}
 use Rattle.tree_laws.proofs.AptLawful.{answered_in, nudges_few, root_unborn}
 use Rattle.tree_laws.proofs.AptMakes.{makes}
-use Rattle.tree_laws.proofs.Counts.{one_here}
-use Rattle.phase_laws.proofs.Brought.{BringsTo, brought_meant, brought_outstanding, brought_to, home_below}
+use Rattle.phase_laws.proofs.Brought.{BringsTo, brought_meant, brought_outstanding, brought_to}
 use Rattle.phase_laws.proofs.Governed.{IsGoverned, remembering}
 use Rattle.phase_laws.proofs.Lawful.{IsLawful, IsTreeLawful}
 use Rattle.epoch_laws.proofs.Forgetting.{forgetting}
-use Rattle.world_model.specs.Lossy.{is_lossy}
 use Rattle.world_model.specs.Epochs.{is_core_timely, is_of_coordinator}
+use Rattle.world_model.proofs.Bags.{one_if_both}
 
 -- what the laws of phases need of trees
 pub tree_lawful : (s : ScriptData) → IsValid s → IsTreeLawful s
@@ -149,7 +149,7 @@ root_new : (s : ScriptData) (past : List Entry) (p : ℕ) (r : Letter) (b : Body
     → IsOutstanding s past r → r.body ≡ b → IsMeant s r.from.0 p b → IsNewRoot s past p b
 root_new s past p r (Root t) valid apt run out is meant =
     let some : 1 ≤ letters_asking s past t.0 0 =
-    omega (arith, out (λ (l : Letter). asks t.0 0 l.body), asks_itself t.0 r (Root t) is, one_here t.0 0) in
+    omega (arith, out (λ (l : Letter). asks t.0 0 l.body), asks_itself t.0 r (Root t) is, one_if_both t.0 0) in
     let u = root_unborn s past t.0 valid apt run meant.tree some in
     let home : p ≡ home_of s t.0 = meant.home in
     subst (λ (q : ℕ). IsNewRoot s past q (Root t)) (sym home) (record {

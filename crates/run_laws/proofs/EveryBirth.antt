@@ -16,23 +16,21 @@ use Rattle.tx_trees.specs.declared.parts.Tree.{Tree}
 use Rattle.tx_trees.specs.declared.parts.TreeKind.{TreeKind}
 use Rattle.tx_trees.specs.declared.parts.TreeKind.TheVariants.{Update, Read, Strict}
 use Rattle.board_rules.specs.Histories.{Place, places_at, version_in}
-use Rattle.board_rules.proofs.Places.{version_in-append}
+use Rattle.board_rules.proofs.Places.{version_in-append, places_more}
 use Rattle.world_model.specs.AllApt.{AllApt}
 use Rattle.world_model.specs.Core.{Core}
 use Rattle.world_model.specs.Counts.{one_if, tally}
 use Rattle.world_model.specs.Named.{is_strict_at, tree_kind_at}
 use Rattle.world_model.specs.Node.{Node}
-use Rattle.world_model.specs.Runs.{IsStepRun, client_in, coordinator_in, keeping_in, node_in}
+use Rattle.world_model.specs.Runs.{IsStepRun, client_in, keeping_in, node_in}
 use Rattle.world_model.specs.Strict.{core_keeping, is_born_now, kept_by_kind, root_waiting}
 use Rattle.world_model.proofs.Cases.{Case, Coordinates, Does, NodeDoes, NodeKeeps, Submits, case, does_number}
-use Rattle.world_model.proofs.Orders.{no_acts}
 use Rattle.tree_laws.specs.Dids.{asks, is_born, letters_asking}
 use Rattle.tree_laws.proofs.Acts.{acts_more, of_act}
 use Rattle.tree_laws.proofs.AptRulings.{client_acts, keeping_acts}
 use Rattle.tree_laws.proofs.AptSteps.{Enters, does_as, done_before, none_strays, strays}
 use Rattle.tree_laws.proofs.AptTurns.{born_of, one_birth}
 use Rattle.tree_laws.proofs.AptVersions.{DoneIn, before, dated_run, done_dated, not_born, version_is}
-use Rattle.tree_laws.proofs.Histories.{places_more}
 use Rattle.tree_laws.proofs.Staging.{told_one}
 use Rattle.tree_laws.proofs.Turns.{kind_version, work_version}
 use Rattle.tree_laws.proofs.Counted.{unborn}

@@ -26,16 +26,14 @@ use Rattle.world_model.specs.Named.{is_named, is_strict_at, tree_kind_at}
 use Rattle.world_model.specs.Node.{Effect, Node}
 use Rattle.world_model.specs.Notices.{act_of}
 use Rattle.world_model.specs.Reads.{gets, getting}
-use Rattle.world_model.specs.Runs.{IsStepRun, client_in, coordinator_in, keeping_in}
+use Rattle.world_model.specs.Runs.{IsStepRun, client_in, keeping_in}
 use Rattle.world_model.specs.Strict.{core_by_kind, core_row}
 use Rattle.world_model.specs.Updates.{touching}
 use Rattle.world_model.proofs.Bags.{tally-append}
-use Rattle.world_model.proofs.Cases.{Case, Coordinates, NodeDoes, NodeKeeps, Submits, case}
-use Rattle.world_model.proofs.Orders.{no_acts}
+use Rattle.world_model.proofs.Cases.{Case, Coordinates, NodeDoes, NodeKeeps, Submits, case, apt_named}
 use Rattle.tree_laws.specs.Dids.{dids, is_did_act}
 use Rattle.tree_laws.specs.Turns.{has_turn, turns}
 use Rattle.tree_laws.proofs.AptRulings.{client_acts, keeping_acts}
-use Rattle.tree_laws.proofs.AptSteps.{apt_named}
 use Rattle.tree_laws.proofs.Turns.{OfTreeActs, Works, core_works, work_version}
 use Rattle.run_laws.proofs.EveryApt.{all_apt}
 

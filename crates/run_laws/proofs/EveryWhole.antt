@@ -5,6 +5,8 @@ use Rattle.std.specs.Prelude.{if◌then◌else◌, is_some, map, slice_get}
 use Rattle.std.proofs.lemmas.Bool.{and_from}
 use Rattle.std.proofs.lemmas.Bool.Decides.{nat_tests}
 use Rattle.tv_base.specs.declared.numbers.Version.{Version}
+use Rattle.tv_base.proofs.Chosen.{if_within}
+use Rattle.script_parts.proofs.SubsOf.{has_root, home_below, sub_node_below}
 use Rattle.letter_types.specs.declared.acts.Act.{Act}
 use Rattle.letter_types.specs.declared.acts.Act.TheVariants as acts
 use Rattle.letter_types.specs.declared.bodies.Body.{Body}
@@ -17,32 +19,32 @@ use Rattle.tx_trees.specs.Valid.{IsValid}
 use Rattle.tx_trees.specs.declared.parts.Sub.{Sub}
 use Rattle.tx_trees.specs.declared.parts.Tree.{Tree}
 use Rattle.board_rules.specs.Histories.{IsWhole, Place, all_applied, all_done, applies, is_complete, is_strict_tree, places_at, places_of, version_in, version_of, was_applied}
+use Rattle.board_rules.proofs.Places.{places_more}
 use Rattle.world_model.specs.Counts.{Each, one_if, tally}
 use Rattle.world_model.specs.Kept.{kept_by, outstanding}
 use Rattle.world_model.specs.Named.{is_strict_at, tree_kind_at}
 use Rattle.world_model.specs.Runs.{IsStepRun, in_flight}
-use Rattle.world_model.proofs.Bags.{tally-append}
+use Rattle.world_model.proofs.Bags.{tally-append, one_if_and, tally_most}
 use Rattle.world_model.proofs.Scripts.{get_below, sub_here, sub_there}
 use Rattle.strict_laws.specs.Meant.{IsLetterMeant, IsMeant}
 use Rattle.strict_laws.proofs.Meant.{letters_are_meant}
-use Rattle.strict_laws.proofs.MeantRows.{root_below, strict_below}
+use Rattle.strict_laws.proofs.MeantRows.{strict_below}
 use Rattle.phase_laws.specs.Balance.{goes_between, version_is}
 use Rattle.phase_laws.specs.Quiet.{IsSilent}
-use Rattle.phase_laws.proofs.Brought.{home_below, sender_below, sub_node_below}
+use Rattle.phase_laws.proofs.Brought.{sender_below}
 use Rattle.tree_laws.specs.Applied.{applied_at, applies_as, decisions_to, tells_decision}
 use Rattle.tree_laws.specs.Carried.{CarriesVersion}
 use Rattle.tree_laws.specs.Dids.{asks, births, letters_asking, notices, tells_done}
 use Rattle.tree_laws.specs.Stages.{IsAnswered, StageAt, Answered, Gathers, Holds, Unborn, decides, decisions, is_noted}
 use Rattle.tree_laws.specs.Turns.{turns}
 use Rattle.tree_laws.proofs.Acts.{counted_any}
-use Rattle.tree_laws.proofs.AptApplied.{applied_where_decided, less_and}
+use Rattle.tree_laws.proofs.AptApplied.{applied_where_decided}
 use Rattle.tree_laws.proofs.AptDecided.{decided_once}
 use Rattle.tree_laws.proofs.AptDecisions.{letters_carry_versions}
 use Rattle.tree_laws.proofs.AptStagesRun.{stages_of_trees}
 use Rattle.tree_laws.proofs.AptTurns.{births_are_turns, parent_before, sub_has_turns}
-use Rattle.tree_laws.proofs.AptVersions.{before, tally_less}
+use Rattle.tree_laws.proofs.AptVersions.{before}
 use Rattle.tree_laws.proofs.Counts.{zero_or}
-use Rattle.tree_laws.proofs.Histories.{places_more}
 use Rattle.tree_laws.proofs.Counted.{all_done_of, births_in, dids_in, unborn, was_done_of}
 use Rattle.tree_laws.proofs.AptMakes.{visits_there}
 use Rattle.run_laws.proofs.EveryApt.{all_apt}
@@ -128,12 +130,12 @@ asks_less t k (Root u) some =
     let other : (0 == k) ≡ false = grind (arith, nat_tests) in
     let none : one_if ((u.0 == t) && (0 == k)) ≡ 0 = grind (arith, nat_tests) in
     omega (arith, none)
-asks_less t k (SubLetter u j v) some = less_and (u.0 == t) (j.0 == k)
+asks_less t k (SubLetter u j v) some = one_if_and (u.0 == t) (j.0 == k)
 asks_less t k Go some = omega arith
 asks_less t k _ some = omega arith
 
 tells_less : (t k : ℕ) (b : Body) → tells_done t k b ≤ counts_for t b
-tells_less t k (Done u j v notice) = less_and (u.0 == t) (j.0 == k)
+tells_less t k (Done u j v notice) = one_if_and (u.0 == t) (j.0 == k)
 tells_less t k Go = omega arith
 tells_less t k _ = omega arith
 
@@ -144,22 +146,18 @@ decides_less t Go = omega arith
 decides_less t _ = omega arith
 
 decision_less : (t : ℕ) (b : Bool) (body : Body) → tells_decision t b body ≤ counts_for t body
-decision_less t true (Decide u v commit) = less_and (u.0 == t) commit
-decision_less t false (Decide u v commit) = less_and (u.0 == t) (not commit)
+decision_less t true (Decide u v commit) = one_if_and (u.0 == t) commit
+decision_less t false (Decide u v commit) = one_if_and (u.0 == t) (not commit)
 decision_less t true Go = omega arith
 decision_less t false Go = omega arith
 decision_less t true _ = omega arith
 decision_less t false _ = omega arith
 
-if_less : (test : Bool) (n m : ℕ) → n ≤ m → (if test then n else 0) ≤ m
-if_less true n m le = le
-if_less false n m le = omega arith
-
 flight_less : (s : ScriptData) (past : List Entry) (t : ℕ) (f : Letter → ℕ) → ((l : Letter) → f l ≤ counts_for t l.body)
     → tally f (in_flight s past) ≤ Counted s past t
 flight_less s past t f le =
     let g : Letter → ℕ = λ l. counts_for t l.body in
-    omega (arith, tally_less f g (in_flight s past) le, tally-append g (in_flight s past) (kept_by s past s.nodes))
+    omega (arith, tally_most f g (in_flight s past) le, tally-append g (in_flight s past) (kept_by s past s.nodes))
 
 -- Each subtransaction has had its turn.
 born_once : (past : List Entry) (t n : ℕ) (v : Version) → version_in t (before past) ≡ Some v → births past t ≡ n → 1 ≤ n
@@ -219,10 +217,10 @@ answered_when_silent s past t v valid run lt silent born =
     omega (
       arith,
       none,
-      tally_less (λ (l : Letter). asks t j l.body) (λ (l : Letter). counts_for t l.body) (outstanding s past) (λ l. asks_less t j l.body some),
+      tally_most (λ (l : Letter). asks t j l.body) (λ (l : Letter). counts_for t l.body) (outstanding s past) (λ l. asks_less t j l.body some),
     ) in
     let root : 1 ≤ turns past t 0 = omega (arith, born_once past t (births past t) v born refl, births_are_turns s past t valid apt run) in
-    answered_by s past t (λ k less. turned_below s past (k + 1) t k valid run lt less root asked (omega arith)) (root_below s t valid lt)
+    answered_by s past t (λ k less. turned_below s past (k + 1) t k valid run lt less root asked (omega arith)) (has_root s t valid lt)
     (λ k. omega (arith, none, flight_less s past t (λ (l : Letter). tells_done t k l.body) (λ l. tells_less t k l.body)))
     (omega (arith, none, flight_less s past t (λ (l : Letter). decides t l.body) (λ l. decides_less t l.body)))
     (stages_of_trees s past valid apt run t lt)
@@ -240,7 +238,7 @@ applied_when_silent s past t q v valid run lt silent born strict below is =
       arith,
       none,
       flight_less s past t (λ (l : Letter). if l.to.0 == q then tells_decision t b l.body else 0)
-          (λ l. if_less (l.to.0 == q) (tells_decision t b l.body) (counts_for t l.body) (decision_less t b l.body)),
+          (λ l. if_within (l.to.0 == q) (tells_decision t b l.body) (counts_for t l.body) (decision_less t b l.body)),
     ) in
     omega (
       arith,
@@ -249,7 +247,7 @@ applied_when_silent s past t q v valid run lt silent born strict below is =
       applied_where_decided s past t q true valid apt run lt below is,
       applied_where_decided s past t q false valid apt run lt below is,
       decided_once s past t valid apt run lt,
-      decided_when_gone s past t valid run lt strict (a.all.turned 0 (root_below s t valid lt)) a.home,
+      decided_when_gone s past t valid run lt strict (a.all.turned 0 (has_root s t valid lt)) a.home,
     )
 
 -- What is counted of applications is what a history says.

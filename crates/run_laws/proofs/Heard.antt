@@ -6,9 +6,10 @@ use Rattle.std.proofs.lemmas.Bool.{eqb-true}
 use Rattle.pair_counters.proofs.Rows.{length_numbers}
 use Rattle.tv_base.specs.declared.numbers.Version.{Version}
 use Rattle.phase_out.specs.Rounds.{NodeRows, RoundData, all_in, is_of, new_round}
+use Rattle.phase_out.proofs.With.{none_in}
 use Rattle.pair_counters.specs.Numbers.{numbers_of}
 use Rattle.letter_types.specs.declared.bodies.Body.{Body}
-use Rattle.letter_types.specs.declared.bodies.Body.TheVariants.{Go, AskDone, AskAsked, DoneRow, AskedRow, Root, Sub as SubLetter, Done, Decide, Decided, Release, Wake}
+use Rattle.letter_types.specs.declared.bodies.Body.TheVariants.{Go, AskDone, AskAsked, DoneRow, AskedRow}
 use Rattle.letter_types.specs.declared.entries.Entry.{Entry}
 use Rattle.letter_types.specs.declared.entries.Letter.{Letter}
 use Rattle.letter_types.specs.declared.entries.Outgoing.{Outgoing}
@@ -25,7 +26,6 @@ use Rattle.phase_laws.proofs.Counting.{Count, CountStep, Denies, Holds, IsCounti
 use Rattle.phase_laws.proofs.Progress.{Begins, Coordinates, Ends, Hears, Obeys, Progress, Works, Asked, Course, Heeds, Restarts, course}
 use Rattle.phase_laws.proofs.Silence.{below_or_at}
 use Rattle.phase_laws.proofs.Steps.{Shaped, shaped}
-use Rattle.phase_laws.proofs.Working.{IsOfTrees}
 use Rattle.phase_laws.proofs.Sending.{IsPlain, heed_plain, trees_plain}
 
 -- the first wave's or the second wave's question to node q, or q's answer
@@ -84,10 +84,6 @@ pub all_of : (ks : NodeRows) → ((q : ℕ) → q < length ks → 1 ≤ is_kept 
 all_of [] all = refl
 all_of (None ∷ ks) all = absurd (omega (arith, all 0 (omega arith)))
 all_of (Some row ∷ ks) all = all_of ks (λ q lt. all (suc q) (omega (arith, lt)))
-
-none_in : (n : ℕ) → 1 ≤ n → all_in (replicate n None) ≡ false
-none_in zero some = absurd (omega (arith, some))
-none_in (suc n) some = refl
 
 -- Letters.
 wave_flow : (s : ScriptData) (past : List Entry) (e : Entry) (two : Bool) (v r q : ℕ) → MayFollow s past e

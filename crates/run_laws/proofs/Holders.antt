@@ -5,6 +5,7 @@ use Rattle.std.proofs.lemmas.Bool.{cases_eq}
 use Rattle.std.proofs.lemmas.Bool.Decides.{nat_tests}
 use Rattle.tv_base.specs.declared.numbers.SubNo.{SubNo}
 use Rattle.tv_base.specs.declared.numbers.TreeNo.{TreeNo}
+use Rattle.script_parts.proofs.SubsOf.{has_root}
 use Rattle.letter_types.specs.declared.acts.Act.{Act}
 use Rattle.letter_types.specs.declared.bodies.Body.{Body}
 use Rattle.letter_types.specs.declared.bodies.Body.TheVariants.{Go, Root, Sub as SubLetter, Decide}
@@ -24,10 +25,10 @@ use Rattle.world_model.proofs.Cases.{Case, Coordinates, Does, Keeps, NodeDoes, N
 use Rattle.world_model.proofs.KeptThere.{IsCoreKeeping, OfKeeping, core_keeps}
 use Rattle.world_model.proofs.Outstanding.{keeping_elsewhere}
 use Rattle.world_model.proofs.Scripts.{SubAt, sub_below, sub_there, tree_below}
+use Rattle.world_model.proofs.Bags.{one_if_both}
 use Rattle.strict_laws.specs.Meant.{IsMeant}
 use Rattle.strict_laws.specs.Keeping.{Holds}
 use Rattle.strict_laws.proofs.Holding.{Came, HeldFrom, LetsGo, Stood, row_comes, same_holds}
-use Rattle.strict_laws.proofs.MeantRows.{root_below}
 use Rattle.phase_laws.proofs.Brought.{brought_meant}
 use Rattle.phase_laws.proofs.Progress.{brings_to}
 use Rattle.tree_laws.specs.Applied.{applied_at, applies_as, tells_decision}
@@ -42,7 +43,6 @@ use Rattle.tree_laws.proofs.AptStagesOwn.{Doing, asked, turned_here}
 use Rattle.tree_laws.proofs.AptStagesRun.{stages_of_trees}
 use Rattle.tree_laws.proofs.AptSteps.{enters}
 use Rattle.tree_laws.proofs.AptTurns.{no_turn_yet, turns_below_root}
-use Rattle.tree_laws.proofs.Counts.{one_here}
 use Rattle.run_laws.specs.Waiting.{IsHolder}
 
 -- how often what was decided of tree t was applied at node p
@@ -126,12 +126,12 @@ pub asked_sub : (s : ScriptData) (p from : ℕ) (t : TreeNo) (k : SubNo) (b : Bo
 asked_sub s p from t k (Root u) valid meant is =
     let same : u.0 ≡ t.0 = ap (λ (x : TreeNo). x.0) is.0 in
     subst (λ (n : ℕ). IsAsked s p n k.0 (Root u)) same (subst (λ (j : ℕ). IsAsked s p u.0 j (Root u)) (sym is.1)
-    (record { sub = sub_there s u.0 0 meant.tree (root_below s u.0 valid meant.tree); node = meant.home; one = one_here u.0 0 }))
+    (record { sub = sub_there s u.0 0 meant.tree (has_root s u.0 valid meant.tree); node = meant.home; one = one_if_both u.0 0 }))
 asked_sub s p from t k (SubLetter u j v) valid meant is =
     let same : u.0 ≡ t.0 = ap (λ (x : TreeNo). x.0) is.0 in
     let its : j.0 ≡ k.0 = ap (λ (x : SubNo). x.0) is.1 in
     subst (λ (n : ℕ). IsAsked s p n k.0 (SubLetter u j v)) same (subst (λ (i : ℕ). IsAsked s p u.0 i (SubLetter u j v)) its
-    (record { sub = sub_there s u.0 j.0 meant.tree meant.sub; node = meant.node; one = one_here u.0 j.0 }))
+    (record { sub = sub_there s u.0 j.0 meant.tree meant.sub; node = meant.node; one = one_if_both u.0 j.0 }))
 asked_sub s p from t k _ valid meant is = absurd is
 
 -- a tree one of whose subtransactions hasn't had its turn isn't decided on

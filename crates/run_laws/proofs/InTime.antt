@@ -13,7 +13,6 @@ use Rattle.tx_trees.specs.Valid.{IsValid}
 use Rattle.world_model.specs.AllApt.{AllApt, WasApt}
 use Rattle.world_model.specs.Counts.{Each}
 use Rattle.world_model.specs.Keeping.{KeepingNode, is_apt_brought}
-use Rattle.world_model.specs.Named.{is_timely}
 use Rattle.world_model.specs.Runs.{IsStepRun, keeping_in, node_in}
 use Rattle.world_model.specs.Strict.{is_core_apt}
 use Rattle.world_model.specs.Timely.{AllTimely, WasTimely}
@@ -22,12 +21,12 @@ use Rattle.phase_laws.specs.Given.{IsGivenAnew, greatest_given}
 use Rattle.phase_laws.specs.Phases.{Stage}
 use Rattle.phase_laws.specs.Quiet.{IsGivenInQuiet}
 use Rattle.phase_laws.proofs.Advancing.{IsAdvancing}
-use Rattle.phase_laws.proofs.GivenInPhase.{advancing, given_acted, given_anew}
+use Rattle.phase_laws.proofs.GivenInPhase.{advancing}
 use Rattle.phase_laws.proofs.Balance.{apt_parts, counts_are_small}
 use Rattle.phase_laws.proofs.Below.{balanced}
 use Rattle.phase_laws.proofs.Shows.{given_in_quiet}
 use Rattle.run_laws.proofs.EveryApt.{all_apt as every_apt, governed, lawful as every_lawful}
-use Rattle.world_model.specs.Lossy.{is_lossy}
+use Rattle.script_parts.specs.Counts.{is_lossy}
 use Rattle.world_model.specs.Epochs.{is_core_timely}
 
 -- A letter that was apt came in time: a Wake always does, and any other letter brings itself.

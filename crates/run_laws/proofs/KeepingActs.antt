@@ -26,15 +26,14 @@ use Rattle.world_model.specs.Named.{is_strict_at, tree_kind_at}
 use Rattle.world_model.specs.Node.{Effect, Node}
 use Rattle.world_model.specs.Notices.{act_of, values_of}
 use Rattle.world_model.specs.Reads.{getting}
-use Rattle.world_model.specs.Runs.{Says, client_in, coordinator_in, keeping_in}
+use Rattle.world_model.specs.Runs.{Says, client_in, keeping_in}
 use Rattle.world_model.specs.Strict.{CoreKeeping, core_by_kind, core_row, decided, locks_by, none_refuses, note_core, noted_vote, refused_there, voting}
-use Rattle.world_model.specs.Tables.{client_table, coordinator_table}
+use Rattle.world_model.specs.Tables.{client_table}
 use Rattle.world_model.specs.Updates.{touching}
 use Rattle.world_model.specs.Votes.{vote_of}
 use Rattle.world_model.proofs.Cases.{Does, Keeps}
 use Rattle.world_model.proofs.Every.{each_append, each_map, each_none}
 use Rattle.world_model.proofs.Keepings.{of_kept}
-use Rattle.world_model.proofs.Orders.{no_acts}
 use Rattle.tree_laws.proofs.AptRulings.{client_acts}
 use Rattle.run_laws.specs.Parks.{parks_for, shown_as, waits_for}
 use Rattle.world_model.proofs.Epochs.{order_each, ask_each}

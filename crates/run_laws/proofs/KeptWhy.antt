@@ -6,16 +6,14 @@ use Rattle.std.proofs.lemmas.Bool.{cases_eq}
 use Rattle.std.proofs.lemmas.Bool.Decides.{nat_tests}
 use Rattle.tv_base.specs.declared.numbers.SubNo.{SubNo}
 use Rattle.tv_base.specs.declared.numbers.TreeNo.{TreeNo}
-use Rattle.tv_base.specs.declared.numbers.Version.{Version}
-use Rattle.letter_types.specs.Kept.{brought, is_called, is_called_for, kept_without, wakes_by, with_called, without_called}
+use Rattle.letter_types.specs.Kept.{is_called, is_called_for, kept_without, wakes_by, with_called, without_called}
 use Rattle.letter_types.specs.declared.bodies.Body.{Body}
-use Rattle.letter_types.specs.declared.bodies.Body.TheVariants.{Decide, Release, Show, Wake}
+use Rattle.letter_types.specs.declared.bodies.Body.TheVariants.{Decide, Release, Wake}
 use Rattle.letter_types.specs.declared.entries.Entry.{Entry}
 use Rattle.letter_types.specs.declared.entries.Letter.{Letter}
 use Rattle.letter_types.specs.declared.kept.KeptLetter.{KeptLetter}
 use Rattle.letter_types.specs.declared.kept.Why.{Why}
 use Rattle.letter_types.specs.declared.kept.Why.TheVariants.{Called, ForHolder, ForShow}
-use Rattle.letter_types.specs.Steps.{Out}
 use Rattle.script_parts.specs.ScriptData.{updates}
 use Rattle.script_parts.specs.declared.parts.TreeKind.{TreeKind}
 use Rattle.script_parts.specs.declared.parts.TreeKind.TheVariants.{Update, Read, Strict}
@@ -25,34 +23,28 @@ use Rattle.world_model.specs.Core.{Core}
 use Rattle.world_model.specs.Calls.{calls}
 use Rattle.world_model.specs.Counts.{Each, one_if}
 use Rattle.world_model.specs.Done.{raised_if}
-use Rattle.world_model.specs.declared.phase.Phase.{Phase}
-use Rattle.world_model.specs.declared.phase.Phase.TheVariants.{Idle, Turning, Counting, Paused, Showing, Sweeping}
 use Rattle.world_model.specs.Keeping.{KeepingNode, woken_by}
 use Rattle.world_model.specs.Kept.{kept_in}
 use Rattle.world_model.specs.Named.{is_strict_at, tree_kind_at}
 use Rattle.world_model.specs.Node.{Node}
-use Rattle.world_model.specs.Runs.{IsStepRun, coordinator_in, keeping_in, node_in}
-use Rattle.world_model.specs.Strict.{CoreKeeping, core_keeping, core_row}
+use Rattle.world_model.specs.Runs.{IsStepRun, keeping_in, node_in}
+use Rattle.world_model.specs.Strict.{CoreKeeping, core_row}
 use Rattle.world_model.proofs.Cases.{Case, Coordinates as ByCoordinator, Does, Keeps, NodeDoes, NodeKeeps, Submits, case}
 use Rattle.world_model.proofs.Every.{each_append, each_both, each_map}
 use Rattle.world_model.proofs.KeptThere.{IsCoreKeeping, OfKeeping, core_keeps}
-use Rattle.world_model.proofs.Nexts.{Order, Shows, Sweeps, TellsAsked, TellsDone, Turns}
 use Rattle.world_model.proofs.Outstanding.{keeping_elsewhere}
+use Rattle.world_model.proofs.Bags.{one_if_both}
 use Rattle.strict_laws.specs.Keeping.{Holds, IsKeptFor}
 use Rattle.strict_laws.specs.Meant.{IsMeant}
 use Rattle.strict_laws.proofs.ByActs.{kind_updates}
 use Rattle.strict_laws.proofs.Holding.{LetsGo, met_holds, row_stays, same_holds}
 use Rattle.strict_laws.proofs.Reasons.{kept_for_a_reason}
 use Rattle.strict_laws.proofs.Waking.{wakes_find_letters}
-use Rattle.phase_laws.specs.Phases.{IsInPhase}
 use Rattle.phase_laws.proofs.Brought.{brought_meant}
-use Rattle.phase_laws.proofs.Levels.{versions_in_phase}
-use Rattle.phase_laws.proofs.Progress.{Begins, Coordinates, Ends, Hears, Obeys, Progress, Works, brings_to, progress}
-use Rattle.phase_laws.proofs.Small.{small}
+use Rattle.phase_laws.proofs.Progress.{brings_to}
 use Rattle.phase_laws.proofs.Working.{RaisesBy, keeps_turns}
-use Rattle.tree_laws.proofs.Counts.{one_here}
 use Rattle.run_laws.specs.Waiting.{IsKeptUntil, LettersStayKeptForAReason}
-use Rattle.run_laws.proofs.EveryApt.{all_apt, lawful}
+use Rattle.run_laws.proofs.EveryApt.{all_apt}
 use Rattle.run_laws.proofs.InTime.{advancing_run}
 use Rattle.run_laws.proofs.Holders.{holders}
 use Rattle.run_laws.proofs.Woken.{Rises, does_rises, holder_woken}
@@ -259,7 +251,7 @@ waiting s (e ∷ past) p valid run lt = waiting_by s past e p valid run lt (wait
 
 -- What is called has its Wake in flight.
 pub counts_called : (w : Why) (t k : ℕ) → w ≡ Called → one_if (is_called w && ((t == t) && (k == k))) ≡ 1
-counts_called w t k is = let called : is_called w ≡ true = ap is_called is in rw called (one_here t k)
+counts_called w t k is = let called : is_called w ≡ true = ap is_called is in rw called (one_if_both t k)
 
 abbrev IsCounted : List KeptLetter → KeptLetter → Type 0
 IsCounted all x = x.why ≡ Called → 1 ≤ calls x.tree x.sub all

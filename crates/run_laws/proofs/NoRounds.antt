@@ -3,9 +3,10 @@ use Rattle.std.proofs.Common.{◌≡◌, ◌≢◌, ℕ, List, [], ◌∷◌, re
 use Rattle.letter_types.specs.declared.bodies.Body.{Body}
 use Rattle.letter_types.specs.declared.bodies.Body.TheVariants.{Go, Advance}
 use Rattle.letter_types.specs.declared.entries.Entry.{Entry}
-use Rattle.tx_trees.specs.Counts.{advances_in}
+use Rattle.tx_trees.specs.Counts.{advances_in, is_lossy}
 use Rattle.tx_trees.specs.ScriptData.{ScriptData}
 use Rattle.tx_trees.specs.Valid.{IsValid}
+use Rattle.tx_trees.proofs.Rebuilding.{asked_most}
 use Rattle.world_model.specs.Coordinator.{Coordinator, coordinator_row, row_of}
 use Rattle.world_model.specs.declared.phase.Phase.{Phase}
 use Rattle.world_model.specs.declared.phase.Phase.TheVariants.{Idle, Turning, Counting, Paused, Showing, Sweeping}
@@ -14,10 +15,9 @@ use Rattle.world_model.proofs.Bridge.{coordinator_after}
 use Rattle.world_model.proofs.Every.{coordinator_kept}
 use Rattle.phase_laws.specs.Advances.{running}
 use Rattle.phase_laws.proofs.Progress.{Begins, Coordinates, Ends, Hears, Obeys, Progress, Works, progress}
-use Rattle.phase_laws.proofs.Small.{asked_most, small}
+use Rattle.phase_laws.proofs.Small.{small}
 use Rattle.tree_laws.specs.Entries.{rounds_in}
 use Rattle.run_laws.proofs.EveryApt.{all_apt, lawful}
-use Rattle.world_model.specs.Lossy.{is_lossy}
 
 -- Nothing is asked for, so no phase runs.
 none_runs : (s : ScriptData) (past : List Entry) → IsValid s → is_lossy s ≡ false → IsStepRun s past → advances_in s.rows ≡ 0

@@ -22,7 +22,7 @@ use Rattle.world_model.specs.Keeping.{AreKeptAt, AsksFor, KeepingNode, woken_by}
 use Rattle.world_model.specs.Kept.{kept_by, kept_in}
 use Rattle.world_model.specs.Runs.{IsStepRun, in_flight, keeping_in}
 use Rattle.world_model.specs.Strict.{CoreKeeping}
-use Rattle.world_model.proofs.Bags.{one_if_most, tally-append}
+use Rattle.world_model.proofs.Bags.{one_if_most, tally-append, tally_most}
 use Rattle.world_model.proofs.Cases.{Case, Coordinates, Does, Keeps, NodeDoes, NodeKeeps, Submits, case}
 use Rattle.world_model.proofs.KeptThere.{IsCoreKeeping, OfKeeping as OfCoreKeeping, core_keeps, kept_in_past, still_kept}
 use Rattle.world_model.proofs.Outstanding.{keeping_elsewhere}
@@ -30,7 +30,6 @@ use Rattle.world_model.proofs.Scripts.{sub_here}
 use Rattle.strict_laws.specs.Keeping.{IsKeptFor}
 use Rattle.strict_laws.proofs.Reasons.{kept_for_a_reason}
 use Rattle.phase_laws.proofs.Brought.{brought_meant}
-use Rattle.phase_laws.proofs.LevelAt.{tally_most}
 use Rattle.phase_laws.proofs.Progress.{brings_to}
 use Rattle.tree_laws.specs.Applied.{tells_decision}
 use Rattle.tree_laws.specs.Dids.{asks, letters_asking}

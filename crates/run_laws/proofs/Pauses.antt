@@ -6,13 +6,14 @@ use Rattle.std.proofs.lemmas.List.{length-set}
 use Rattle.tv_base.specs.declared.numbers.TreeNo.{TreeNo}
 use Rattle.tv_base.specs.declared.numbers.Version.{Version}
 use Rattle.phase_out.specs.Rounds.{RoundData, agrees, all_in, is_of, kept_number, new_round, verdict_of}
+use Rattle.script_parts.proofs.SubsOf.{has_root}
 use Rattle.letter_types.specs.declared.bodies.Body.{Body}
 use Rattle.letter_types.specs.declared.bodies.Body.TheVariants.{Go, Nudge, Root, Sub as SubLetter, Done, Decide, Decided, Release, Wake, Sweep, DoneRow, AskedRow}
 use Rattle.letter_types.specs.declared.entries.Entry.{Entry}
 use Rattle.letter_types.specs.declared.entries.Letter.{Letter}
 use Rattle.letter_types.specs.declared.entries.LetterId.{LetterId}
 use Rattle.letter_types.specs.declared.entries.Outgoing.{Outgoing}
-use Rattle.letter_types.specs.Kept.{kept_without, wakes, wakes_by}
+use Rattle.letter_types.specs.Kept.{kept_without, wakes}
 use Rattle.letter_types.specs.Steps.{Out}
 use Rattle.tx_trees.specs.ScriptData.{ScriptData}
 use Rattle.tx_trees.specs.Valid.{IsValid}
@@ -34,12 +35,11 @@ use Rattle.world_model.proofs.KeptThere.{IsCoreKeeping, OfKeeping, core_keeps}
 use Rattle.world_model.proofs.Nexts.{Order}
 use Rattle.world_model.proofs.Scripts.{SubAt, sub_there}
 use Rattle.strict_laws.specs.Meant.{IsMeant}
-use Rattle.strict_laws.proofs.MeantRows.{root_below}
 use Rattle.phase_laws.proofs.Brought.{BringsTo, IsAsking, brought_meant, brought_outstanding, kept_ask}
 use Rattle.phase_laws.proofs.CoordinatorCounts.{coordinator_counts, count_in, counting_is}
 use Rattle.phase_laws.proofs.Counting.{AfterRound, Begins as BeginsRound, Count, CountStep, Denies, Holds, InRound, IsCounting, IsNudged, Lasts, Leaves, NoNudge, TakesDone, TakesRequests, TakesRow, count_asked, count_done, none_in_round, paused_in_round, Premise}
 use Rattle.phase_laws.proofs.Progress.{Begins, Coordinates, Ends, Hears, Obeys, Progress, Work, Works, are_wakes, asking_of, brings_to, Asked, Course, Forgetting, Heeds, Restarts, course}
-use Rattle.phase_laws.proofs.Sending.{AllRowless, orders_rowless, course_rowless}
+use Rattle.phase_laws.proofs.Sending.{AllRowless, course_rowless}
 use Rattle.phase_laws.proofs.Tokens.{phase_for}
 use Rattle.phase_laws.proofs.Steps.{Shaped, none_later, round_of, shaped}
 use Rattle.phase_laws.proofs.Waves.{none_kept}
@@ -50,14 +50,14 @@ use Rattle.tree_laws.proofs.AptStagesOwn.{Doing, asked, turned_here, unborn_by}
 use Rattle.tree_laws.proofs.AptStagesRun.{stages_of_trees}
 use Rattle.tree_laws.proofs.AptSteps.{enters}
 use Rattle.tree_laws.proofs.AptTurns.{no_turn_yet}
-use Rattle.tree_laws.proofs.Counts.{one_here}
 use Rattle.run_laws.proofs.Balancing.{balances}
 use Rattle.run_laws.proofs.Measures.{busy, nudges, of_trees}
 use Rattle.run_laws.proofs.Busy.{born_heard, busy_step, no_nudge, trees_rest}
 use Rattle.run_laws.proofs.Exacts.{Counts, Exact, ExactBody, Frozen, Pausing, SentExact, all_agree, asked_put, client_exact, done_put, exact_on, frozen_away, kept_is, order_counts, order_exact, orders_exact}
 use Rattle.run_laws.proofs.EveryApt.{lawful}
 use Rattle.world_model.specs.Keeping.{woken_by}
-use Rattle.world_model.specs.Lossy.{is_lossy}
+use Rattle.script_parts.specs.Counts.{is_lossy}
+use Rattle.world_model.proofs.Bags.{one_if_both}
 use Rattle.phase_laws.proofs.Heeds.{AreWakes, IsWake, wakes_are, Heed, Leaves, Answers, Repeats, Obeys as HeedObeys}
 
 pub record Bound (s : ScriptData) (past : List Entry) (c : Count) : Type 0 where
@@ -276,9 +276,9 @@ not_done : (s : ScriptData) (past : List Entry) (e : Entry) (p : ℕ) (t : TreeN
 not_done s past e p t r g is none =
     let meant : IsMeant s r.from.0 p (Root t) =
     subst (IsMeant s r.from.0 p) is (brought_meant s past e p r g.valid (brings_to s past e p r g.does.brings) g.run) in
-    let first = root_below s t.0 g.valid meant.tree in
+    let first = has_root s t.0 g.valid meant.tree in
     let sub : SubAt s t.0 0 = sub_there s t.0 0 meant.tree first in
-    let one : asks t.0 0 r.body ≡ 1 = ap (asks t.0 0) is ∙ one_here t.0 0 in
+    let one : asks t.0 0 r.body ≡ 1 = ap (asks t.0 0) is ∙ one_if_both t.0 0 in
     let unborn = no_turn_yet s past t.0 0 sub g.valid g.apt.1 g.run.1 (asked s past e p t.0 0 r g one) in
     let before = unborn_by s past t.0 sub unborn first (stages_of_trees s past g.valid g.apt.1 g.run.1 t.0 meant.tree) in
     let heard = born_heard s (e ∷ past) t.0 g.valid g.run (omega (arith, none)) (omega (arith, turned_here s past e p t.0 0 r g, one)) in

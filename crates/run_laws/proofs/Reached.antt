@@ -7,8 +7,8 @@ use Rattle.tx_trees.specs.ScriptData.{ScriptData, reads}
 use Rattle.tx_trees.specs.Valid.{IsValid}
 use Rattle.board_rules.specs.Histories.{IsWhole, Place, is_whole_in, places_at, places_of, version_in}
 use Rattle.board_rules.proofs.Wholes.{whole_more}
+use Rattle.board_rules.proofs.Places.{places_more}
 use Rattle.world_model.specs.Runs.{IsStepRun, node_in}
-use Rattle.tree_laws.proofs.Histories.{places_more}
 use Rattle.phase_laws.specs.Given.{greatest_given}
 use Rattle.phase_laws.specs.Phases.{ShowStage, SweepStage}
 use Rattle.phase_laws.specs.Quiet.{IsSilent}

@@ -20,7 +20,7 @@ use Rattle.world_model.proofs.Addressees.{all_addressed}
 use Rattle.tree_laws.specs.Entries.{entries_of}
 use Rattle.tree_laws.proofs.Sampled.{small_valid}
 use Rattle.run_laws.proofs.Ends.{no_run_stalls}
-use Rattle.world_model.specs.Lossy.{is_lossy}
+use Rattle.script_parts.specs.Counts.{is_lossy}
 
 -- the small script, and an advancement after its tree
 abbrev pub advanced : ScriptData

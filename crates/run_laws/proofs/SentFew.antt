@@ -7,9 +7,9 @@ use Rattle.std.proofs.lemmas.Bool.Decides.{nat_tests}
 use Rattle.tv_base.specs.declared.numbers.SubNo.{SubNo}
 use Rattle.tv_base.specs.declared.numbers.TreeNo.{TreeNo}
 use Rattle.tv_base.specs.declared.numbers.Version.{Version}
-use Rattle.letter_types.specs.Kept.{kept_without, wakes, wakes_by}
+use Rattle.letter_types.specs.Kept.{kept_without, wakes}
 use Rattle.letter_types.specs.declared.bodies.Body.{Body}
-use Rattle.letter_types.specs.declared.bodies.Body.TheVariants.{Go, Root, Sub as SubLetter, Done, Nudge, Advance, Advanced, Decide, Decided, Release, Turn, Show, Sweep, AskDone, AskAsked, Order, Ask}
+use Rattle.letter_types.specs.declared.bodies.Body.TheVariants.{Go, Root, Sub as SubLetter, Done, Decide, Decided, Release, Turn, Show, Sweep, AskDone, AskAsked, Order, Ask}
 use Rattle.letter_types.specs.declared.bodies.Notice.{Notice}
 use Rattle.letter_types.specs.declared.entries.Entry.{Entry}
 use Rattle.letter_types.specs.declared.entries.Letter.{Letter}
@@ -32,7 +32,7 @@ use Rattle.world_model.specs.Named.{is_strict_at, tree_kind_at}
 use Rattle.world_model.specs.Node.{Effect, Node}
 use Rattle.world_model.specs.Notices.{reply_letters, values_of}
 use Rattle.world_model.specs.Reads.{getting}
-use Rattle.world_model.specs.Runs.{IsStepRun, client_in, coordinator_in, in_flight, keeping_in}
+use Rattle.world_model.specs.Runs.{IsStepRun, client_in, in_flight, keeping_in}
 use Rattle.world_model.specs.Strict.{answered, core_by_kind, core_row, decided, locks_by, marks, none_refuses, note_core, noted_vote, refused_there, release_letters, to_each, voting}
 use Rattle.world_model.specs.Updates.{touching}
 use Rattle.world_model.specs.Votes.{vote_of}

@@ -14,17 +14,15 @@ use Rattle.tx_trees.specs.Valid.{IsValid}
 use Rattle.world_model.specs.Client.{Client, have_ended, nudge, submit, with_answer, with_end}
 use Rattle.world_model.specs.Counts.{one_if, tally}
 use Rattle.world_model.specs.Runs.{IsStepRun, MayFollow, client_in}
-use Rattle.world_model.proofs.EachOutstanding.{each_took}
 use Rattle.world_model.proofs.Flows.{client_kept, flow}
 use Rattle.world_model.proofs.Nexts.{MadeByClient}
 use Rattle.world_model.proofs.Sends.{on}
-use Rattle.strict_laws.specs.Meant.{IsLetterMeant, IsMeant}
-use Rattle.strict_laws.proofs.Meant.{letters_are_meant}
+use Rattle.strict_laws.specs.Meant.{IsMeant}
+use Rattle.strict_laws.proofs.Meant.{took_meant}
 use Rattle.phase_laws.proofs.ClientSteps.{Aside, Begins, ClientStep, Ends, Hears, Tells, client_step}
 use Rattle.tree_laws.specs.Dids.{answers, goes, is_go, replies, replies_to}
 use Rattle.tree_laws.specs.Ends.{is_finish}
 use Rattle.tree_laws.proofs.Client.{IsStopped, answered_places, finish_count, finished_then, finishes_once, stopped, stopped_most}
-use Rattle.run_laws.proofs.EveryApt.{all_apt, lawful}
 
 -- once Go is taken the client has stopped, and has finished if all is over; and it tells so
 pub record Stopping (s : ScriptData) (past : List Entry) : Type 0 where
@@ -63,9 +61,6 @@ reply_away : (s : ScriptData) (from to t : ℕ) (body : Body) → IsMeant s from
 reply_away s from to t (Reply u v answer) meant ne = absurd (ne meant.1)
 reply_away s from to t Go meant ne = refl
 reply_away s from to t _ meant ne = refl
-
-pub took_meant : (s : ScriptData) (past : List Entry) (e : Entry) → IsValid s → IsStepRun s (e ∷ past) → IsLetterMeant s e.took
-took_meant s past e valid run = each_took (IsLetterMeant s) s past e run.0 (letters_are_meant s past valid run.1)
 
 same_stop : (s : ScriptData) (past : List Entry) (e : Entry) → MayFollow s past e → Stopping s past → is_go e.took.body ≡ 0
     → client_in s (e ∷ past) ≡ client_in s past → Stopping s (e ∷ past)

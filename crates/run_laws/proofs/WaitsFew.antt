@@ -3,45 +3,32 @@
 use Rattle.std.proofs.Common.{◌≡◌, ◌≢◌, ◌⊎◌, inl, inr, ℕ, ◌+◌, ◌<◌, ◌≤◌, ◌==◌, ◌&&◌, Bool, true, false, List, ◌∷◌, length, refl, sym, ap, subst, ◌∙◌, arith, []}
 use Rattle.std.proofs.lemmas.Bool.{cases_eq}
 use Rattle.std.proofs.lemmas.Bool.Decides.{nat_tests}
-use Rattle.tv_base.specs.declared.numbers.Version.{Version}
-use Rattle.letter_types.specs.Kept.{is_called, kept_without, wakes_by}
+use Rattle.script_parts.proofs.SubsOf.{home_below}
+use Rattle.letter_types.specs.Kept.{is_called, kept_without}
 use Rattle.letter_types.specs.declared.bodies.Body.{Body}
-use Rattle.letter_types.specs.declared.bodies.Body.TheVariants.{Decide, Go, Show}
 use Rattle.letter_types.specs.declared.entries.Entry.{Entry}
 use Rattle.letter_types.specs.declared.entries.Letter.{Letter}
 use Rattle.letter_types.specs.declared.kept.KeptLetter.{KeptLetter}
 use Rattle.letter_types.specs.declared.kept.Why.{Why}
 use Rattle.letter_types.specs.declared.kept.Why.TheVariants.{Called, ForHolder, ForShow}
-use Rattle.letter_types.specs.Steps.{Out}
 use Rattle.tx_trees.specs.ScriptData.{ScriptData, home_of, node_of}
 use Rattle.tx_trees.specs.Valid.{IsValid}
 use Rattle.world_model.specs.Counts.{one_if, tally}
 use Rattle.world_model.specs.Keeping.{KeepingNode, woken_by}
 use Rattle.world_model.specs.Kept.{kept_in}
-use Rattle.world_model.specs.Node.{Node}
-use Rattle.world_model.specs.Runs.{IsStepRun, coordinator_in, in_flight, keeping_in, node_in}
+use Rattle.world_model.specs.Runs.{IsStepRun, keeping_in, node_in}
 use Rattle.world_model.specs.Strict.{CoreKeeping}
-use Rattle.world_model.proofs.Bags.{one_if_same, tally-append, tally-drop}
+use Rattle.world_model.proofs.Bags.{tally-append}
 use Rattle.world_model.proofs.Cases.{Case, Coordinates, Does, Keeps, NodeDoes, NodeKeeps, Submits, case}
-use Rattle.world_model.proofs.EachOutstanding.{each_took}
 use Rattle.world_model.proofs.KeptThere.{kept_in_past}
-use Rattle.world_model.proofs.Nexts.{Order, Shows, Sweeps, TellsAsked, TellsDone, Turns}
 use Rattle.world_model.proofs.Outstanding.{keeping_elsewhere}
 use Rattle.world_model.proofs.Scripts.{SubAt, sub_here}
 use Rattle.strict_laws.specs.Keeping.{IsKeptFor}
 use Rattle.strict_laws.proofs.Reasons.{kept_for_a_reason}
-use Rattle.phase_laws.specs.Phases.{ShowStage}
-use Rattle.phase_laws.proofs.Advancing.{taken_ahead}
-use Rattle.phase_laws.proofs.Brought.{IsAsking}
-use Rattle.phase_laws.proofs.Working.{IsOfTrees}
-use Rattle.phase_laws.proofs.Progress.{Begins, Coordinates as Told, Ends, Hears, Obeys, Progress, Works, brings_to, itself, progress}
-use Rattle.phase_laws.proofs.Closing.{most_read_is}
 use Rattle.tree_laws.proofs.AptStagesOwn.{sub_of_node}
-use Rattle.tree_laws.proofs.AptSteps.{home_node}
 use Rattle.tree_laws.proofs.AptTurns.{turns_come_once}
 use Rattle.run_laws.specs.Parks.{StrictRootsWaitFewTimes, is_kept_for_show, shown_as, waitings, waits_for}
-use Rattle.run_laws.proofs.EveryApt.{all_apt, lawful}
-use Rattle.run_laws.proofs.InTime.{advancing_run}
+use Rattle.run_laws.proofs.EveryApt.{all_apt}
 use Rattle.run_laws.proofs.KeepingActs.{client_none, coordinator_none, does_none, keeps_waits, waits_of}
 use Rattle.run_laws.proofs.KeptWhy.{AreWaiting, IsWaiting, Reason, keeps_rises, waiting}
 use Rattle.run_laws.proofs.ParksOnce.{asks_sum, keeps_asked, kept_asks, meanwhile_same, woken_same}
@@ -82,7 +69,7 @@ pub shown_once : (s : ScriptData) (past : List Entry) (t : ℕ) → IsValid s �
     → tally (is_kept_for_show t) (kept_in s past (home_of s t)) ≤ 1
 shown_once s past t valid run lt =
     let p : ℕ = home_of s t in
-    let below : p < s.nodes = home_node s t valid lt in
+    let below : p < s.nodes = home_below s t valid lt in
     let sub : SubAt s t 0 = sub_of_node s (home_of s t) t 0 refl below in
     omega (
       arith,
@@ -177,8 +164,8 @@ node_waited s past e t valid run lt at ih (NodeDoes q r d) =
 node_waited s past e t valid run lt at ih (NodeKeeps q r o d) =
     let same : q ≡ home_of s t = sym d.brings.at ∙ at in
     keeps_waited s past e (home_of s t) t r o valid run (subst (λ (n : ℕ). Keeps s past e n r o) same d) ih
-node_waited s past e t valid run lt at ih (Coordinates there says) = absurd (omega (arith, at, there, home_node s t valid lt))
-node_waited s past e t valid run lt at ih (Submits there says) = absurd (omega (arith, at, there, home_node s t valid lt))
+node_waited s past e t valid run lt at ih (Coordinates there says) = absurd (omega (arith, at, there, home_below s t valid lt))
+node_waited s past e t valid run lt at ih (Submits there says) = absurd (omega (arith, at, there, home_below s t valid lt))
 
 waited_by : (s : ScriptData) (past : List Entry) (e : Entry) (t : ℕ) → IsValid s → IsStepRun s (e ∷ past) → t < length s.trees
     → WaitedHere s past (home_of s t) t → (e.actor.0 ≡ home_of s t) ⊎ (e.actor.0 ≢ home_of s t) → WaitedHere s (e ∷ past) (home_of s t) t

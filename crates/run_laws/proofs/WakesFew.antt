@@ -5,7 +5,7 @@ use Rattle.std.proofs.lemmas.Bool.{cases_eq}
 use Rattle.std.proofs.lemmas.Bool.Decides.{nat_tests}
 use Rattle.tv_base.specs.declared.numbers.SubNo.{SubNo}
 use Rattle.tv_base.specs.declared.numbers.TreeNo.{TreeNo}
-use Rattle.letter_types.specs.Kept.{is_called, kept_without, wakes, wakes_by, with_called}
+use Rattle.letter_types.specs.Kept.{is_called, kept_without, wakes, with_called}
 use Rattle.letter_types.specs.declared.acts.Act.{Act}
 use Rattle.letter_types.specs.declared.acts.Act.TheVariants as acts
 use Rattle.letter_types.specs.declared.bodies.Body.{Body}
@@ -17,19 +17,18 @@ use Rattle.letter_types.specs.declared.kept.Why.{Why}
 use Rattle.letter_types.specs.declared.kept.Why.TheVariants.{Called, ForHolder, ForShow}
 use Rattle.script_parts.specs.ScriptData.{updates}
 use Rattle.script_parts.specs.Counts.{advances_in}
+use Rattle.script_parts.proofs.SubsOf.{home_below}
 use Rattle.tx_trees.specs.ScriptData.{ScriptData, home_of, node_of}
 use Rattle.tx_trees.specs.Valid.{IsValid}
+use Rattle.tx_trees.proofs.Rebuilding.{asked_most}
 use Rattle.world_model.specs.Calls.{is_wake_of}
 use Rattle.world_model.specs.Core.{Core}
 use Rattle.world_model.specs.Counts.{Each, one_if, tally}
-use Rattle.world_model.specs.declared.phase.Phase.{Phase}
-use Rattle.world_model.specs.declared.phase.Phase.TheVariants.{Idle, Turning, Counting, Paused, Showing, Sweeping}
 use Rattle.world_model.specs.Keeping.{KeepingNode, woken_by}
 use Rattle.world_model.specs.Kept.{kept_in}
 use Rattle.world_model.specs.Named.{is_strict_at, tree_kind_at}
-use Rattle.world_model.specs.Runs.{IsStepRun, client_in, coordinator_in, keeping_in, node_in}
+use Rattle.world_model.specs.Runs.{IsStepRun, client_in, keeping_in, node_in}
 use Rattle.world_model.specs.Strict.{CoreKeeping, core_row}
-use Rattle.world_model.proofs.Calls.{called_stays}
 use Rattle.world_model.proofs.Bags.{tally-append}
 use Rattle.world_model.proofs.Cases.{Case, Coordinates, Does, Keeps, NodeDoes, NodeKeeps, Submits, case}
 use Rattle.world_model.proofs.Every.{each_append}
@@ -40,15 +39,9 @@ use Rattle.strict_laws.specs.Keeping.{IsKeptFor}
 use Rattle.strict_laws.proofs.MeantRows.{strict_below}
 use Rattle.strict_laws.proofs.NoWakes.{client_none as client_sends_none, coordinator_none as coordinator_sends_none, core_none}
 use Rattle.strict_laws.proofs.Reasons.{kept_for_a_reason}
-use Rattle.phase_laws.specs.Advances.{running}
-use Rattle.phase_laws.specs.Phases.{most_read}
-use Rattle.phase_laws.proofs.LevelAt.{LevelAt}
-use Rattle.phase_laws.proofs.Levels.{levels}
-use Rattle.phase_laws.proofs.Small.{asked_most, small}
-use Rattle.tree_laws.proofs.AptSteps.{home_node}
 use Rattle.tree_laws.proofs.Sums.{over, over_add, over_hit, over_none, over_same}
 use Rattle.run_laws.specs.Parks.{is_kept_for_show, parks, parks_for, shown_as, waitings, waits_for}
-use Rattle.run_laws.proofs.EveryApt.{all_apt, lawful}
+use Rattle.run_laws.proofs.EveryApt.{all_apt}
 use Rattle.run_laws.proofs.InTime.{advancing_run}
 use Rattle.run_laws.proofs.Holders.{holders}
 use Rattle.run_laws.proofs.KeepingActs.{OfKeeping, after_turn, client_none, coordinator_none, does_none, keeps_parks, keeps_waits, parked_as, parks_of}
@@ -371,7 +364,7 @@ pub root_wakes : (s : ScriptData) (past : List Entry) (t : ℕ) → IsValid s �
     → sent_in (wake_of t 0) past ≤ advances_in s.rows
 root_wakes s past t valid run strict =
     let lt = strict_below s t strict in
-    let below = home_node s t valid lt in
+    let below = home_below s t valid lt in
     omega (
       arith,
       wakes_and_kept s past t 0 valid run below,

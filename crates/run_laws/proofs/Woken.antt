@@ -2,25 +2,23 @@
 use Rattle.std.proofs.Common.{◌≡◌, ℕ, ◌+◌, ◌<◌, ◌≤◌, ◌==◌, ◌&&◌, Bool, true, false, List, ◌∷◌, refl, sym, ap, subst, ◌∙◌, arith}
 use Rattle.std.specs.Prelude.{if◌then◌else◌, nat_lt, not}
 use Rattle.std.proofs.lemmas.Bool.Decides.{nat_tests}
+use Rattle.std.proofs.Math.Bool.{and-false}
 use Rattle.tv_base.proofs.Truths.{left_true}
 use Rattle.tv_base.specs.declared.numbers.TreeNo.{TreeNo}
 use Rattle.tv_base.specs.declared.numbers.Version.{Version}
 use Rattle.letter_types.specs.declared.bodies.Body.{Body}
 use Rattle.letter_types.specs.declared.bodies.Body.TheVariants.{Go, Decide, Order, Show}
-use Rattle.letter_types.specs.declared.bodies.What.{What}
 use Rattle.letter_types.specs.declared.bodies.What.TheVariants as whats
 use Rattle.letter_types.specs.declared.entries.Entry.{Entry}
 use Rattle.letter_types.specs.declared.entries.Letter.{Letter}
-use Rattle.letter_types.specs.declared.kept.Why.{Why}
 use Rattle.letter_types.specs.declared.kept.Why.TheVariants.{Called, ForHolder, ForShow}
 use Rattle.letter_types.specs.Kept.{wakes_by}
-use Rattle.letter_types.specs.Steps.{Out}
 use Rattle.tx_trees.specs.ScriptData.{ScriptData}
 use Rattle.tx_trees.specs.Valid.{IsValid}
 use Rattle.world_model.specs.Asked.{asked_version}
 use Rattle.world_model.specs.Core.{Core}
 use Rattle.world_model.specs.Done.{raised_if}
-use Rattle.world_model.specs.Epochs.{plain_order, is_obeyed_now, was_obeyed}
+use Rattle.world_model.specs.Epochs.{is_obeyed_now, was_obeyed}
 use Rattle.world_model.specs.Keeping.{woken_by}
 use Rattle.world_model.specs.Node.{Node}
 use Rattle.world_model.specs.Runs.{IsStepRun, keeping_in, node_in}
@@ -34,21 +32,17 @@ use Rattle.phase_laws.proofs.Brought.{IsAsking}
 use Rattle.run_laws.proofs.InTime.{advancing_run}
 
 -- An order wakes as the one does for which it stands, where it takes effect.
-false_and : (b : Bool) → (b && false) ≡ false
-false_and true = refl
-false_and false = refl
-
 pub holder_woken : (c : Core) (body : Body) (h : TreeNo) → woken_by c body (ForHolder h) ≡ wakes_by body (ForHolder h)
-holder_woken c (Order e whats.Turn v) h = false_and (is_obeyed_now e whats.Turn v c)
-holder_woken c (Order e whats.Show v) h = false_and (is_obeyed_now e whats.Show v c)
-holder_woken c (Order e whats.Sweep v) h = false_and (is_obeyed_now e whats.Sweep v c)
+holder_woken c (Order e whats.Turn v) h = and-false (is_obeyed_now e whats.Turn v c)
+holder_woken c (Order e whats.Show v) h = and-false (is_obeyed_now e whats.Show v c)
+holder_woken c (Order e whats.Sweep v) h = and-false (is_obeyed_now e whats.Sweep v c)
 holder_woken c Go h = refl
 holder_woken c _ h = refl
 
 pub called_unwoken : (c : Core) (body : Body) → woken_by c body Called ≡ false
-called_unwoken c (Order e whats.Turn v) = false_and (is_obeyed_now e whats.Turn v c)
-called_unwoken c (Order e whats.Show v) = false_and (is_obeyed_now e whats.Show v c)
-called_unwoken c (Order e whats.Sweep v) = false_and (is_obeyed_now e whats.Sweep v c)
+called_unwoken c (Order e whats.Turn v) = and-false (is_obeyed_now e whats.Turn v c)
+called_unwoken c (Order e whats.Show v) = and-false (is_obeyed_now e whats.Show v c)
+called_unwoken c (Order e whats.Sweep v) = and-false (is_obeyed_now e whats.Sweep v c)
 called_unwoken c (Decide t v commit) = refl
 called_unwoken c (Show v) = refl
 called_unwoken c Go = refl
@@ -58,8 +52,8 @@ called_unwoken c _ = refl
 pub woken_shows : (c : Core) (body : Body) → woken_by c body ForShow ≡ true → (v : Version) × Orders c body whats.Show v
 woken_shows c (Show v) is = (v, Plainly refl)
 woken_shows c (Order e whats.Show v) is = (v, Anew e refl (left_true (is_obeyed_now e whats.Show v c) true is))
-woken_shows c (Order e whats.Turn v) is = absurd (let none = false_and (is_obeyed_now e whats.Turn v c) in cc (none, is))
-woken_shows c (Order e whats.Sweep v) is = absurd (let none = false_and (is_obeyed_now e whats.Sweep v c) in cc (none, is))
+woken_shows c (Order e whats.Turn v) is = absurd (let none = and-false (is_obeyed_now e whats.Turn v c) in cc (none, is))
+woken_shows c (Order e whats.Sweep v) is = absurd (let none = and-false (is_obeyed_now e whats.Sweep v c) in cc (none, is))
 woken_shows c (Decide t v commit) is = absurd (cc is)
 woken_shows c Go is = absurd (cc is)
 woken_shows c _ is = absurd (cc is)

@@ -1,6 +1,6 @@
 //! Laws of every run of every valid script: each letter comes in time and is apt, trees of every kind go by their stages,
-//! phases have their letters and versions, counters are balanced, a version is shown only when it is quiet, and then for
-//! good, no run stalls, and no run has more entries than its script makes.
+//! counters are balanced, a version is shown that was before, or in quiet, and then for good, no run stalls, and no run
+//! has more entries than its script makes; and where the coordinator remembers, phases have their letters and versions.
 #![tactic(auto)]
 
 mod phases;
@@ -15,7 +15,8 @@ pub use phases::{
     requests_are_completions_and_letters, rounds_are_few, versions_keep_to_the_phase,
 };
 pub use shown::{
-    nothing_comes_to_what_is_shown, orders_are_given_in_quiet, what_is_shown_is_whole,
+    nothing_comes_to_what_is_shown, orders_are_given_before_or_in_quiet, orders_are_given_in_quiet,
+    what_is_shown_is_whole,
 };
 pub use stalls::{
     entries_are_counted, entries_are_few, no_run_stalls, nothing_is_kept_at_the_end,

@@ -8,36 +8,37 @@ ghost use Rattle.phase_laws.specs.Balance.{IsBalanced, MOST_COUNTED};
 ghost use Rattle.phase_laws.specs.Given.{NodesKeepTogether};
 ghost use Rattle.run_laws.specs.Taken.{TakesWhatIsApt};
 ghost use Rattle.tree_laws.specs.Entries.{rounds_in};
-ghost use Rattle.tx_trees.specs.Counts.{advances_in};
+ghost use Rattle.tx_trees.specs.Counts.{advances_in, is_lossy};
 ghost use Rattle.tx_trees.specs.ScriptData.{ScriptData};
 ghost use Rattle.tx_trees.specs.Valid.{IsValid};
 ghost use Rattle.world_model.specs.Runs.{node_in, IsStepRun};
 ghost use Rattle.world_model.specs.Timely.{AllTimely};
-ghost use Rattle.world_model.specs.Lossy.{is_lossy};
 
 /// In every run of every valid script each letter that a node took came in time: a Sub, a Done, a Decide and a Decided no
-/// later than their version may be counted, an order no earlier and no later than the node's versions allow.
+/// later than their version may be counted, an order no earlier and no later than the node's versions allow, unless it is
+/// of an epoch before the node's.
 pub fn every_letter_comes_in_time()
     ensures { (s : ScriptData) (past : List Entry) → IsValid s → IsStepRun s past → AllTimely s past }
 {}
 
 /// In every run each letter that a node took was apt there, in the node's state at that moment, and so was the kept one
 /// that a Wake calls: what it names belongs to that node and has its form, a root is new, its version is one that the
-/// node can go by, and what it asks for may be made. So no node ever passes a letter over.
+/// node can go by, and what it asks for may be made. So a node leaves no letter but an order or a question of an epoch
+/// before its own.
 pub fn every_letter_taken_is_apt()
     ensures { (s : ScriptData) (past : List Entry) → IsValid s → IsStepRun s past
         → TakesWhatIsApt s (reverse past) }
 {}
 
-/// In the phase of each stage its orders and answers in flight and the acknowledgements are as many as nodes, and at
-/// other times there are none.
+/// Where the coordinator remembers, in the phase of each stage its orders and answers in flight and the acknowledgements
+/// are as many as nodes, and at other times there are none.
 pub fn phases_have_their_letters()
     ensures { (s : ScriptData) (past : List Entry) → IsValid s → is_lossy s ≡ false → IsStepRun s past
         → PhasesHaveTheirLetters s past }
 {}
 
-/// Every node's versions are those of the coordinator's phase: with the coordinator at u, update is u or u + 1, read
-/// u - 1 or u, low u - 1 or u, and neither update nor read is more than two above low.
+/// Where the coordinator remembers, every node's versions are those of its phase: with the coordinator at u, update is u
+/// or u + 1, read u - 1 or u, low u - 1 or u, and neither update nor read is more than two above low.
 pub fn versions_keep_to_the_phase()
     ensures { (s : ScriptData) (past : List Entry) → IsValid s → is_lossy s ≡ false → IsStepRun s past
         → VersionsKeepToThePhase s past }
@@ -49,19 +50,19 @@ pub fn nodes_keep_together()
     ensures { NodesKeepTogether }
 {}
 
-/// Each advancement that was asked for is in a letter, waits, is in progress or has ended, and of each that has ended
-/// the client hears once.
+/// Where the coordinator remembers, each advancement that was asked for is in a letter, waits, is in progress or has
+/// ended, and of each that has ended the client hears once.
 pub fn advances_are_kept()
     ensures { (s : ScriptData) (past : List Entry) → IsValid s → is_lossy s ≡ false → IsStepRun s past
         → AdvancesAreKept s past }
 {}
 
-/// There are at most two rounds for each advancement and one for each tree.
+/// Where the coordinator remembers, there are at most two rounds for each advancement and one for each tree.
 pub fn rounds_are_few()
     ensures { (s : ScriptData) (past : List Entry) → IsValid s → is_lossy s ≡ false → IsStepRun s past → RoundsAreFew s past }
 {}
 
-/// In a run of a script without advancements no round begins.
+/// Where the coordinator remembers and no advancement is asked for, no round begins.
 pub fn no_round_without_advancements()
     ensures { (s : ScriptData) (past : List Entry) → IsValid s → is_lossy s ≡ false → IsStepRun s past → advances_in s.rows ≡ 0
         → rounds_in s (reverse past) ≡ 0 }

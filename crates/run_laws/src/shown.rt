@@ -8,28 +8,30 @@ ghost use Rattle.phase_laws.specs.Quiet.{IsGivenInQuiet};
 ghost use Rattle.run_laws.specs.Shown.{IsBackedBy, IsClosedBy};
 ghost use Rattle.tx_trees.specs.ScriptData.{ScriptData};
 ghost use Rattle.tx_trees.specs.Valid.{IsValid};
-ghost use Rattle.world_model.specs.Lossy.{is_lossy};
+ghost use Rattle.script_parts.specs.Counts.{is_lossy};
 ghost use Rattle.world_model.specs.Counts.{Each};
 ghost use Rattle.world_model.specs.Runs.{IsStepRun, in_flight};
 
-/// Nodes are told to show a version that they were told to show before, or the next one: then nothing counted of it is
-/// outstanding and every node updates above it. And they are told to sweep to a version to which they were told to sweep
-/// before, or to the next one: then nothing counted of the version before it is outstanding and every node reads it, or a later
-/// one. So it is of every script, also where the coordinator forgets and tells nodes again what they have done.
+/// A version that nodes are told to show is no later than one that they were told to show before, or it is the next one:
+/// then nothing counted of it is outstanding and every node updates above it. A version that they are told to sweep to is
+/// no later than one that they were told to sweep to before, or it is the next one: then nothing counted of the version
+/// before it is outstanding and every node reads it, or a later one. So it is of every script, also where the coordinator
+/// forgets and tells nodes again what they have done.
 pub fn orders_are_given_before_or_in_quiet()
     ensures { (s : ScriptData) (past : List Entry) (e : Entry) → IsValid s → IsStepRun s (e ∷ past)
         → Each (λ (o : Outgoing). IsGivenAnew s past o.body) e.sent }
 {}
 
-/// Where the coordinator doesn't forget, an entry sends Show(v) only where nothing counted of version v is outstanding and every node updates above v, and
-/// Sweep(v) only where nothing counted of version v - 1 is outstanding and every node reads v or a later version.
+/// Where the coordinator remembers, an entry sends Show(v) only where nothing counted of version v is outstanding and
+/// every node updates above v, and Sweep(v) only where nothing counted of version v - 1 is outstanding and every node
+/// reads v or a later version.
 pub fn orders_are_given_in_quiet()
     ensures { (s : ScriptData) (past : List Entry) (e : Entry) → IsValid s → is_lossy s ≡ false → IsStepRun s (e ∷ past)
         → Each (λ (o : Outgoing). IsGivenInQuiet s past o.body) e.sent }
 {}
 
-/// While Show(v) is in flight, or an order that stands for it, each tree of version at most v that is born and reads nothing is whole; while Sweep(v)
-/// is, each read tree of a version below v.
+/// While Show(v) is in flight, or an order that stands for it, each tree of version at most v that is born and reads
+/// nothing is whole; while Sweep(v) is, or an order that stands for it, each read tree of a version below v.
 pub fn what_is_shown_is_whole()
     ensures { (s : ScriptData) (past : List Entry) → IsValid s → IsStepRun s past
         → Each (λ (l : Letter). IsBackedBy s (reverse past) l.body) (in_flight s past) }

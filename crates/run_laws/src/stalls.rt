@@ -3,15 +3,14 @@ ghost use Rattle.std.specs.Prelude.{ℕ, ◌≡◌, ◌<◌, ◌≤◌, ◌+◌,
 ghost use Rattle.board_rules.specs.Right.{HasFinished};
 ghost use Rattle.letter_types.specs.declared.entries.Entry.{Entry};
 ghost use Rattle.tree_laws.specs.Entries.{entries_most, entries_of, lossy_entries, rounds_in};
-ghost use Rattle.tx_trees.specs.Counts.{advances_in, has_strict};
+ghost use Rattle.tx_trees.specs.Counts.{advances_in, has_strict, is_lossy};
 ghost use Rattle.tx_trees.specs.ScriptData.{ScriptData};
 ghost use Rattle.tx_trees.specs.Valid.{IsValid};
-ghost use Rattle.world_model.specs.Lossy.{is_lossy};
 ghost use Rattle.world_model.specs.Kept.{kept_in};
 ghost use Rattle.world_model.specs.Runs.{client_in, in_flight, IsStepRun};
 
-/// No run stalls, also of a script with strict trees, or of one whose coordinator forgets: where no letter is in flight any more,
-/// every tree is answered, every advancement has ended, and the client has finished.
+/// No run stalls, also of a script with strict trees, or of one whose coordinator forgets: where no letter is in flight
+/// any more, every tree is answered, every advancement has ended, and the client has finished.
 pub fn no_run_stalls()
     ensures { (s : ScriptData) (past : List Entry) → IsValid s → IsStepRun s past → in_flight s past ≡ []
         → ((client_in s past).finished ≡ true) × HasFinished (reverse past) }
@@ -23,8 +22,8 @@ pub fn nothing_is_kept_at_the_end()
         → kept_in s past p ≡ [] }
 {}
 
-/// A run of a script without strict trees in which no letter is in flight any more has as many entries as its trees,
-/// advancements and rounds take.
+/// A run of a script without strict trees, whose coordinator remembers, in which no letter is in flight any more has as
+/// many entries as its trees, advancements and rounds take.
 pub fn entries_are_counted()
     ensures { (s : ScriptData) (past : List Entry) → IsValid s → is_lossy s ≡ false → has_strict s ≡ false → IsStepRun s past
         → in_flight s past ≡ [] → length past ≡ entries_of s (rounds_in s (reverse past)) }
@@ -32,7 +31,7 @@ pub fn entries_are_counted()
 
 /// A run has at most so many entries: as many as two rounds for each advancement and one for each tree would bring it to,
 /// where there is a strict tree those of its decisions, of marks that are let go and of letters that are woken, and for each
-/// time that the coordinator is made to forget those by which it recovers and does anew what was under way.
+/// time that the coordinator is made to forget those by which it recovers and does anew what was in progress.
 pub fn entries_are_few()
     ensures { (s : ScriptData) (past : List Entry) → IsValid s → IsStepRun s past → length past ≤ entries_most s }
 {}

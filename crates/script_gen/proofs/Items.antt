@@ -3,7 +3,7 @@ use Rattle.std.proofs.Common.{◌≡◌, ◌<◌, ◌%◌, Bool, true, false, �
 use Rattle.std.specs.Prelude.{◌&&◌, ◌==◌, not, nat_le, Option, Some, None, is_some}
 use Rattle.std.specs.Fmt.{digits}
 use Rattle.std.proofs.lemmas.Bool.Decides.{nat_tests}
-use Rattle.std.proofs.lemmas.Bool.{agree_below, agree_below_at}
+use Rattle.std.proofs.lemmas.Bool.{agree_below, agree_below_at, not-true}
 use Rattle.tv_base.proofs.Truths.{left_true, right_true}
 use Rattle.tx_trees.specs.Adding.{place_of}
 use Rattle.tx_trees.specs.Names.{is_name}
@@ -12,10 +12,6 @@ use Rattle.tx_trees.specs.Ranges.{may_start}
 use Rattle.tx_trees.specs.declared.parts.Form.TheVariants as forms
 use Rattle.script_gen.specs.Generated.{generated_item_name, generated_item_row, items_up_to}
 use Rattle.script_gen.specs.inside.Within.{with_items}
-
-not_true : (b : Bool) → not b ≡ true → b ≡ false
-not_true true e = absurd (cc e)
-not_true false e = refl
 
 -- what is opposed to nothing
 abbrev passes : ℕ → Bool
@@ -56,11 +52,11 @@ item_may k lt =
     let after_b = right_true b (c && (d && e)) after_a in
     let after_c = right_true c (d && e) after_b in
     record {
-      place = not_true (nat_le 4 (k % 4)) (left_true a (b && (c && (d && e))) all);
+      place = not-true (nat_le 4 (k % 4)) (left_true a (b && (c && (d && e))) all);
       start = left_true b (c && (d && e)) after_a;
       plain = left_true c (d && e) after_b;
-      free = not_true (is_some (place_of (generated_item_name k) (items_up_to k))) (left_true d e after_c);
-      room = not_true (nat_le 10000 (length (items_up_to k))) (right_true d e after_c);
+      free = not-true (is_some (place_of (generated_item_name k) (items_up_to k))) (left_true d e after_c);
+      room = not-true (nat_le 10000 (length (items_up_to k))) (right_true d e after_c);
     }
 
 -- item k is found by its name

@@ -19,18 +19,6 @@ pub or_right : (a b : Bool) → (a || b) ≡ false → b ≡ false
 or_right true b e = absurd cc
 or_right false b e = e
 
-pub not_le : (a b : ℕ) → nat_le a b ≡ false → b < a
-not_le a b e = grind (arith, common_steps)
-
-pub not_lt : (a b : ℕ) → nat_lt a b ≡ false → b ≤ a
-not_lt a b e = grind (arith, common_steps)
-
-pub le_not : (a b : ℕ) → b < a → nat_le a b ≡ false
-le_not a b lt = grind (arith, common_steps)
-
-pub lt_not : (a b : ℕ) → b ≤ a → nat_lt a b ≡ false
-lt_not a b le = grind (arith, common_steps)
-
 -- places
 
 pub slice_get-seam : {A : Type 0} (xs ys : List A) (y : A) → slice_get (xs ++ y ∷ ys) (length xs) ≡ Some y

@@ -4,14 +4,14 @@ use Rattle.std.proofs.Common.{◌≡◌, ◌<◌, ◌≤◌, ◌+◌, [], ◌∷
 use Rattle.std.specs.Prelude.{if◌then◌else◌, nat_lt}
 use Rattle.std.specs.List.{AllByRecursion}
 use Rattle.std.proofs.Math.ListN.{set}
-use Rattle.std.proofs.lemmas.Bool.{cases_eq, cases_lt, or_from}
+use Rattle.std.proofs.lemmas.Bool.{cases_eq, cases_lt, or_from, le-ltb, ltb-false}
 use Rattle.std.proofs.lemmas.List.{get_or-set_other, get_or-set_same, length-set}
 use Rattle.script_parts.specs.Amounts.{magnitude}
 use Rattle.script_parts.specs.Loads.{IsReloaded, Reloads, OpWithin, SubWithin, ops_heavy, subs_heavy}
 use Rattle.script_parts.specs.Valid.{ops_load, subs_load}
 use Rattle.script_parts.specs.declared.parts.Sub.{Sub}
 use Rattle.script_parts.specs.declared.parts.SubOp.{SubOp}
-use Rattle.script_parts.proofs.Lists.{lt_not, not_lt, or_left, or_right}
+use Rattle.script_parts.proofs.Lists.{or_left, or_right}
 use Rattle.script_parts.proofs.Totals.{load_other, load_same}
 
 -- the rest of a list, from one of its places on
@@ -98,7 +98,7 @@ op_has_enough was now all rest o h = omega (arith, h.enough o.item.0 h.within.0,
 ops_light : (most : ℕ) (totals : List ℕ) (k : ℕ) (os : List SubOp) → ops_heavy most totals os ≡ false → 0 < ops_load k os → get_or totals k 0 ≤ most
 ops_light most totals k [] light some = absurd (omega arith)
 ops_light most totals k (o ∷ os) light some =
-    let one = not_lt most (get_or totals o.item.0 0) (or_left (nat_lt most (get_or totals o.item.0 0)) (ops_heavy most totals os) light) in
+    let one = ltb-false most (get_or totals o.item.0 0) (or_left (nat_lt most (get_or totals o.item.0 0)) (ops_heavy most totals os) light) in
     let rest = or_right (nat_lt most (get_or totals o.item.0 0)) (ops_heavy most totals os) light in
     elim (cases_eq o.item.0 k) [
       | inl e ↦ subst (λ (j : ℕ). get_or totals j 0 ≤ most) e one
@@ -128,7 +128,7 @@ all_light was now off on most r small light k lt = elim (cases_lt 0 (subs_load k
 ops_not_heavy : (most : ℕ) (totals : List ℕ) (os : List SubOp) → AllByRecursion (OpWithin (length totals)) os → ((k : ℕ) → k < length totals → get_or totals k 0 ≤ most) → ops_heavy most totals os ≡ false
 ops_not_heavy most totals [] within small = refl
 ops_not_heavy most totals (o ∷ os) within small =
-    or_from (nat_lt most (get_or totals o.item.0 0)) (ops_heavy most totals os) (lt_not most (get_or totals o.item.0 0) (small o.item.0 within.0)) (ops_not_heavy most totals os within.1 small)
+    or_from (nat_lt most (get_or totals o.item.0 0)) (ops_heavy most totals os) (le-ltb most (get_or totals o.item.0 0) (small o.item.0 within.0)) (ops_not_heavy most totals os within.1 small)
 
 pub not_heavy : (most : ℕ) (totals : List ℕ) (ss : List Sub) → AllByRecursion (SubWithin (length totals)) ss → ((k : ℕ) → k < length totals → get_or totals k 0 ≤ most) → subs_heavy most totals ss ≡ false
 not_heavy most totals [] within small = refl

@@ -3,7 +3,8 @@
 use Rattle.std.proofs.Common.{◌≡◌, ℕ, ◌+◌, ◌<◌, ◌≤◌, true, List, [], ◌∷◌, length, Option, Some, None, zero, suc, refl, sym, subst, arith}
 use Rattle.std.specs.Prelude.{All, slice_get}
 use Rattle.std.specs.List.{AllByRecursion}
-use Rattle.std.proofs.lemmas.List.Elements.{All-from_recursion}
+use Rattle.std.proofs.lemmas.List.Elements.{All-from_recursion, recursion_from_All}
+use Rattle.tv_base.proofs.ByPlace.{get_some}
 use Rattle.commute_ops.specs.declared.kinds.TheConstants.{MOST_AMOUNT}
 use Rattle.script_parts.specs.declared.parts.ItemRow.{ItemRow}
 use Rattle.script_parts.specs.declared.parts.Sub.{Sub}
@@ -15,7 +16,7 @@ use Rattle.script_parts.specs.declared.parts.Form.TheVariants as forms
 use Rattle.script_parts.specs.declared.parts.ScriptRow.{ScriptRow}
 use Rattle.script_parts.specs.declared.parts.ScriptRow.TheVariants as rows
 use Rattle.script_parts.specs.declared.parts.TreeKind.TheVariants as trees
-use Rattle.script_parts.specs.ScriptData.{ScriptData, is_update, subs_at}
+use Rattle.script_parts.specs.ScriptData.{ScriptData, is_update, subs_at, home_of, node_of, sub_at}
 use Rattle.script_parts.specs.Valid.{AreSubs, IsTree, IsValid, NamesInOrder, load}
 
 -- whatever its form allows is bounded
@@ -88,3 +89,19 @@ pub subs_nodes : (s : ScriptData) (t : ℕ) (subs : List Sub) → IsValid s → 
 subs_nodes s t subs valid is = subst (λ (xs : List Sub). All (λ (x : Sub). x.node.0 < s.nodes) xs) (sym is) (sub_nodes s t valid)
 
 pub ruleset subs_of = (few_subs, subs_nodes, found_subs, no_subs)
+
+-- each tree of a valid script has a root, whose node is one of the script's
+pub has_root : (s : ScriptData) (t : ℕ) → IsValid s → t < length s.trees → 0 < length (subs_at s t)
+has_root s t valid lt =
+    let tree = get_some s.trees t lt in
+    rw (tree.1, subs_at) (all_at (IsTree s.nodes s.items) s.trees t tree.0 valid.trees tree.1).root
+
+pub sub_node_below : (s : ScriptData) (t k : ℕ) → IsValid s → k < length (subs_at s t) → node_of s t k < s.nodes
+sub_node_below s t k valid lt =
+    let there = get_some (subs_at s t) k lt in
+    rw (there.1, sub_at, node_of)
+    (all_at (λ (x : Sub). x.node.0 < s.nodes) (subs_at s t) k there.0
+    (recursion_from_All (λ (x : Sub). x.node.0 < s.nodes) (subs_at s t) (sub_nodes s t valid)) there.1)
+
+pub home_below : (s : ScriptData) (t : ℕ) → IsValid s → t < length s.trees → home_of s t < s.nodes
+home_below s t valid lt = sub_node_below s t 0 valid (has_root s t valid lt)

@@ -93,6 +93,10 @@ abbrev pub loses_in : List ScriptRow → ℕ
 loses_in [] = 0
 loses_in (r ∷ rs) = (if is_lose r then 1 else 0) + loses_in rs
 
+-- a row makes the coordinator forget
+abbrev pub is_lossy : ScriptData → Bool
+is_lossy s = not (loses_in s.rows == 0)
+
 -- the operations of the subtransactions, in order
 abbrev pub ops_in : List Sub → List SubOp
 ops_in [] = []

@@ -117,10 +117,6 @@ pick_row s place =
     ∷ (nat_le 4294967296 (decimal_value place), why.OutOfRange) ∷ [])
     (adds_pick s (decimal_value place))
 
--- `lose`
-abbrev pub lose_row : ScriptData → Result ScriptData Why
-lose_row s = adds_lose s
-
 -- `fail,SUB`
 abbrev pub fail_row : ScriptData → List ℕ → Result ScriptData Why
 fail_row s sub = unless ((not (is_number sub), why.BadNumber) ∷ []) (adds_fail s (decimal_value sub))
@@ -162,7 +158,7 @@ later_form s fields words.Get = op_row s (field fields 1) deeds.Get
 later_form s fields words.Advance = advance_row s
 later_form s fields words.Settle = adds_settle s
 later_form s fields words.Pick = pick_row s (field fields 1)
-later_form s fields words.Lose = lose_row s
+later_form s fields words.Lose = adds_lose s
 later_form s fields words.Fail = fail_row s (field fields 1)
 
 -- the first record

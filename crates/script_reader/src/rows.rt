@@ -2,7 +2,7 @@
 ghost use Rattle.std.specs.Prelude.{◌≡◌, ◌<◌, ◌^◌, true, unsigned_abs};
 ghost use Rattle.csv.specs.Records.{fields_of};
 ghost use Rattle.tx_trees.specs.Adding.{last_may_fail, last_subs, puts_undone};
-ghost use Rattle.script_reader.specs.Rows.{advance_row, amount_row, begun_script, deed_of, fail_row, first_row, form_row, item_of, item_row, later_row, lose_row, nodes_row, op_row, pick_row, second_row, starts, sub_row, tree_row};
+ghost use Rattle.script_reader.specs.Rows.{advance_row, amount_row, begun_script, deed_of, fail_row, first_row, form_row, item_of, item_row, later_row, nodes_row, op_row, pick_row, second_row, starts, sub_row, tree_row};
 ghost use Rattle.script_reader.specs.inside.Rows.{HasBegunWith, Leaves, Makes};
 
 use crate::numbers::{amount, number};
@@ -196,13 +196,6 @@ fn pick_row_of(script: &mut Script, place: &[u8]) -> Result<(), Refusal>
     script.add_pick(place as u32)
 }
 
-fn lose_row_of(script: &mut Script) -> Result<(), Refusal>
-    requires { script.old.form ≡ Form.Two }
-    ensures { Leaves (lose_row script.old) result script.new }
-{
-    script.add_lose()
-}
-
 fn fail_row_of(alloc: Global, script: &mut Script, sub: &[u8]) -> Result<(), Refusal>
     requires { script.old.form ≡ Form.Two }
     ensures { Leaves (fail_row script.old sub.now) result script.new }
@@ -308,7 +301,7 @@ pub(crate) fn take_later(
         RowWord::Advance => advance_row_of(script),
         RowWord::Settle => script.add_settle(),
         RowWord::Pick => pick_row_of(script, field(row, 1)),
-        RowWord::Lose => lose_row_of(script),
+        RowWord::Lose => script.add_lose(),
         RowWord::Fail => fail_row_of(alloc, script, field(row, 1)),
     }
 }

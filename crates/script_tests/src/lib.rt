@@ -1,5 +1,5 @@
-//! Tests of scripts: how they are built and undone, generated and written, and how strict trees and `lose` rows are
-//! read. How all else is read is shown by cases of the program.
+//! Tests of scripts: how they are built and undone, generated and written, and how strict trees are read. How all else is
+//! read is shown by cases of the program.
 #![tactic(auto)]
 
 #[cfg(test)]

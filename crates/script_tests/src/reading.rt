@@ -1,7 +1,6 @@
-use script_reader::{ScriptFault, ScriptRefusal, read_script, write_script};
+use script_reader::{ScriptFault, ScriptRefusal, read_script};
 use std::alloc::Global;
 use std::test::Fail;
-use tv_base::Text;
 use tx_trees::Why;
 
 /// The fault of this text, which has one.
@@ -31,32 +30,5 @@ fn strict_trees_are_refused_by_their_own_reasons(rt: HostRuntime) -> Result<(), 
     ] {
         assert_eq!(rt; fault_of(rt.alloc(), text)?, ScriptFault { row, why });
     }
-    Ok(())
-}
-
-/// A script of the second form with so many `lose` rows.
-fn losing(alloc: Global, count: u32) -> Result<Text, Fail> {
-    let mut text = Text::new(alloc);
-    text.push_all(b"threev,2\nnodes,1\n")
-        .map_err(|_| "no memory")?;
-    for _ in 0..count {
-        text.push_all(b"lose\n").map_err(|_| "no memory")?;
-    }
-    Ok(text)
-}
-
-#[test]
-fn rows_that_forget_are_read_up_to_their_limit(rt: HostRuntime) -> Result<(), Fail> {
-    let most = losing(rt.alloc(), 100)?;
-    let script = read_script(rt.alloc(), most.bytes())?;
-    assert_eq!(rt; script.loses(), 100);
-    let again = write_script(rt.alloc(), &script).map_err(|_| "no memory")?;
-    assert_eq!(rt; again.bytes(), most.bytes());
-    let more = losing(rt.alloc(), 101)?;
-    let (row, why) = (103, Why::TooMany);
-    assert_eq!(rt;
-        fault_of(rt.alloc(), more.bytes())?,
-        ScriptFault { row, why }
-    );
     Ok(())
 }

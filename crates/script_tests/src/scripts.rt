@@ -5,8 +5,8 @@ use std::test::Fail;
 use tv_base::{ItemNo, Name, NodeNo, SubNo, TreeNo};
 use tx_trees::{Deed, Form, ItemRow, Refusal, Script, TreeKind, Why};
 
-// A text that is no name at all: no call is made.
-const NO_CALL: Refusal = Refusal::Why(Why::BadName);
+// A text that is no name at all: no call is made, and none answers this.
+const NO_CALL: Refusal = Refusal::Why(Why::UnknownRow);
 
 fn item_of(
     script: &mut Script,

@@ -9,7 +9,7 @@ use Rattle.run_laws.specs.Quiet.{IsGivenInQuiet}
 use Rattle.tx_trees.specs.ScriptData.{ScriptData}
 use Rattle.tx_trees.specs.Valid.{IsValid}
 use Rattle.world_model.specs.Counts.{Each}
-use Rattle.world_model.specs.Lossy.{is_lossy}
+use Rattle.tx_trees.specs.Counts.{is_lossy}
 use Rattle.world_model.specs.Runs.{IsStepRun}
 
 one_more : (s : ScriptData) (old new : List Entry) → IsStepRun s (reverse new) → (e : Entry) → new ≡ old ++ e ∷ [] → IsStepRun s (e ∷ reverse old)

@@ -13,8 +13,7 @@ use tx_trees::Script;
 use world_core::World;
 
 /// Runs a script on one thread until no letter is in flight. The letters are taken as the picker chooses, the place
-/// that it names being taken modulo how many letters wait. If memory runs out, nothing is said of the picker. A `lose`
-/// row of the script is passed over: nothing forgets here.
+/// that it names being taken modulo how many letters wait. If memory runs out, nothing is said of the picker.
 ///
 /// It always returns: a history has at most 2^40 entries, and a run that would pass that finds no memory.
 pub fn simulate_by<P: Picker>(
@@ -38,8 +37,7 @@ pub fn simulate_by<P: Picker>(
 }
 
 /// Runs a script on one thread until no letter is in flight. The letters are taken by the script's picks, then with a
-/// seed by its draws, and without one the oldest first (docs/ALGORITHM.md, "Schedules"). It always returns. A `lose` row
-/// of the script is passed over: nothing forgets here.
+/// seed by its draws, and without one the oldest first (docs/ALGORITHM.md, "Schedules"). It always returns.
 pub fn simulate(alloc: Global, script: &Script, seed: Option<u64>) -> Result<History, NoMemory>
     ensures ended { IfOk result (λ history. HasEnded script.now history) }
     ensures scheduled { IfOk result (λ history. IsScheduled script.now seed history) }

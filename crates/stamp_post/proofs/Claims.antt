@@ -13,6 +13,7 @@ use Rattle.letter_types.specs.declared.entries.Outgoing.{Outgoing}
 use Rattle.letter_types.specs.declared.entries.Posting.{Posting}
 use Rattle.letter_types.specs.Letters.{go, find_id}
 use Rattle.letter_types.specs.Postal.{IsMessageRun, letters_sent}
+use Rattle.letter_types.proofs.Ids.{id_stamp}
 use Rattle.stamp_post.specs.declared.rule.View.{View}
 use Rattle.stamp_post.specs.declared.rule.View.TheVariants.{Gathering, Acting, Sending, Carrying, Spent}
 use Rattle.stamp_post.specs.Logs.{Stands, AreFirst, WasSent}
@@ -30,10 +31,6 @@ pub sent_more : (client : ℕ) (log : List Posting) (d : Posting) (l : Letter) �
     → WasSent client (log ++ d ∷ []) l
 sent_more client log d l (inl is) = inl is
 sent_more client log d l (inr s) = inr (s.0, stands_more log d s.0 s.1, s.2)
-
--- the stamp of a letter's id is that of the posting that sent it
-pub id_stamp : (p : Posting) (l : Letter) → find_id l.id (letters_sent p) ≡ Some l → l.id.stamp.0 ≡ p.stamp.0
-id_stamp p l is = (found p.stamp.0 p.actor.0 0 p.sent l.id l is).stamped
 
 -- so it is no greater than the length
 pub sent_before : (client : ℕ) (log : List Posting) (l : Letter) → WasSent client log l → l.id.stamp.0 ≤ length log

@@ -27,34 +27,33 @@ use Rattle.tree_home.specs.declared.homes.Answered.{Answered}
 use Rattle.letter_types.specs.declared.entries.Outgoing.{Outgoing}
 use Rattle.nc_locks.specs.Locks.{has_lock}
 use Rattle.world_model.proofs.Coordination.{of_forgetting, of_remembering}
-use Rattle.world_model.specs.Lossy.{is_lossy}
-use Rattle.world_model.specs.Epochs.{is_core_timely}
 use Rattle.world_model.proofs.Epochs.{ask_each, order_each}
 use Rattle.world_model.specs.Client.{Client, client_finishes, client_row, next_after, nudge, submit, with_answer, with_end, wanted}
-use Rattle.world_model.proofs.Orders.{no_acts}
 use Rattle.world_model.specs.Asked.{asked_ops, asked_version, tree_part}
 use Rattle.world_model.specs.Core.{Core}
 use Rattle.world_model.specs.Counts.{Each}
 use Rattle.world_model.specs.Done.{TreeOut, note_part, turned_if}
 use Rattle.world_model.specs.Keeping.{KeepingNode, brought_row, kept_row}
-use Rattle.world_model.specs.Named.{is_named, is_new, is_strict_at, is_timely, tree_kind_at}
+use Rattle.world_model.specs.Named.{is_named, is_strict_at, tree_kind_at}
 use Rattle.world_model.specs.Node.{Effect, Node}
 use Rattle.world_model.specs.Notices.{act_of, values_of}
 use Rattle.world_model.specs.Reads.{getting}
-use Rattle.world_model.specs.Runs.{AtNode, AtCoordinator, AtRestarting, AtClient, Moves, client_in, coordinator_in, keeping_in}
-use Rattle.world_model.specs.Strict.{CoreKeeping, can_make_at, core_by_kind, core_keeping, core_row, decided, decides_near, is_core_apt, is_of_script, is_unheld, locks_by, none_refuses, note_core, noted_vote, refused_there, voting}
+use Rattle.world_model.specs.Runs.{AtNode, AtCoordinator, AtRestarting, AtClient, Moves, client_in, keeping_in}
+use Rattle.world_model.specs.Strict.{CoreKeeping, core_by_kind, core_keeping, core_row, decided, is_core_apt, locks_by, none_refuses, note_core, noted_vote, refused_there, voting}
 use Rattle.world_model.specs.Updates.{touching}
 use Rattle.world_model.specs.Votes.{vote_of}
-use Rattle.script_parts.specs.Counts.{has_strict}
+use Rattle.script_parts.specs.Counts.{is_lossy}
 use Rattle.world_model.proofs.Every.{each_append}
 use Rattle.board_rules.specs.Histories.{Place, places_at, places_of}
 use Rattle.board_rules.specs.Locked.{IsApartFrom, lock_at}
 use Rattle.board_rules.specs.Stands.{lock_mode_of, locked_by, modes_on}
 use Rattle.board_rules.proofs.ItemAt.{op_node}
 use Rattle.board_rules.proofs.LocksStand.{locks_stand}
+use Rattle.board_rules.proofs.Places.{places_more}
 use Rattle.strict_laws.specs.Locks.{ActsAreAtHome, IsAtHome, RunLocksStand}
 use Rattle.world_model.proofs.Keepings.{of_kept}
-use Rattle.strict_laws.proofs.RunLocks.{places_then, run_locks}
+use Rattle.world_model.proofs.Cases.{apt_named}
+use Rattle.strict_laws.proofs.RunLocks.{run_locks}
 
 abbrev Here : ScriptData → ℕ → List Act → Type 0
 Here s p does = Each (IsAtHome s p) does
@@ -132,15 +131,6 @@ row_here s p from (Ask e) c named = ask_each (λ (o : Out Core). Here s p o.acts
 row_here s p from _ c named = tt
 
 -- what a node does with a letter
-named_of : (s : ScriptData) (p : ℕ) (c : Core) (l : Letter) → is_core_apt s p c l ≡ true → is_named s p l.from.0 l.body ≡ true
-named_of s p c l apt =
-    second (is_of_script s l.body) (is_named s p l.from.0 l.body)
-    (is_new s c.node l.body && is_unheld l.body c.holds && (is_core_timely s c l.body && decides_near s c.node l.body && can_make_at s p c l.body)) apt where
-      second : (a b d : Bool) → (a && (b && d)) ≡ true → b ≡ true
-      second true true d is = refl
-      second true false d is = absurd (cc is)
-      second false b d is = absurd (cc is)
-
 made_here : (s : ScriptData) (p : ℕ) (l r : Letter) (n : KeepingNode) (o : Option CoreKeeping) → is_core_apt s p n.core r ≡ true
     → core_keeping s n.core r.body ≡ o → Here s p (kept_row s p l r n o).acts
 made_here s p l r n (Some k) apt is =
@@ -148,7 +138,7 @@ made_here s p l r n (Some k) apt is =
       parks = λ t j raises v m. each_append (IsAtHome s p) (turned_if raises v.0) (acts.Parked t j m.item m.holder ∷ []) (turned s p v.0 raises) (tt, tt);
       waits = λ t. (tt, tt);
     }) is
-made_here s p l r n None apt is = row_here s p r.from.0 r.body n.core (named_of s p n.core r apt)
+made_here s p l r n None apt is = row_here s p r.from.0 r.body n.core (apt_named s p n.core r apt)
 
 apt_here : (s : ScriptData) (p : ℕ) (l r : Letter) (n : KeepingNode) (here apt : Bool) → is_core_apt s p n.core r ≡ apt
     → Here s p (if here && apt then kept_row s p l r n (core_keeping s n.core r.body) else still n).acts
@@ -205,7 +195,7 @@ all_append P (x ∷ xs) ys a b = (a.0, all_append P xs ys a.1 b)
 pub acts_at_home : ActsAreAtHome
 acts_at_home s [] run = tt
 acts_at_home s (e ∷ past) run =
-    subst (AllByRecursion (λ (y : Place). IsAtHome s y.node y.act)) (sym (places_then e past))
+    subst (AllByRecursion (λ (y : Place). IsAtHome s y.node y.act)) (sym (places_more e past))
     (all_append (λ (y : Place). IsAtHome s y.node y.act) (places_of (reverse past)) (places_at e) (acts_at_home s past run.1)
     (places_here s e.actor.0 e.acts (entry_here s past e run.0.moves)))
 

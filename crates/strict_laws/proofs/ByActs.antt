@@ -35,7 +35,7 @@ use Rattle.world_model.specs.Apt.{can_make}
 use Rattle.world_model.specs.Asked.{tree_part}
 use Rattle.world_model.specs.Core.{Core}
 use Rattle.world_model.specs.Done.{TreeOut, note_part, turned_if}
-use Rattle.world_model.specs.Named.{is_named, is_new, is_strict_at, is_timely, tree_kind_at}
+use Rattle.world_model.specs.Named.{is_named, is_new, is_strict_at, tree_kind_at}
 use Rattle.world_model.specs.Notices.{act_of, values_of}
 use Rattle.world_model.specs.Reads.{gets}
 use Rattle.world_model.specs.Strict.{can_make_at, core_by_kind, core_row, decided, decides_near, is_core_apt, is_of_script, is_unheld, locks_by, none_refuses, note_core, noted_vote, notice_by, read_core, refused_there, update_core, voted_core, voting}

@@ -18,13 +18,13 @@ use Rattle.world_model.proofs.Coordination.{of_forgetting, of_remembering}
 use Rattle.world_model.specs.Counts.{Each}
 use Rattle.world_model.specs.Keeping.{AreKeptAt, KeepingNode, brought_row, is_apt_at, kept_row, woken_by}
 use Rattle.world_model.specs.Kept.{outstanding}
-use Rattle.world_model.specs.Runs.{AtClient, AtCoordinator, AtNode, AtRestarting, MayFollow, Moves, client_in, coordinator_in, keeping_in}
+use Rattle.world_model.specs.Runs.{AtClient, AtCoordinator, AtNode, AtRestarting, MayFollow, Moves, client_in, keeping_in, IsStepRun}
 use Rattle.world_model.specs.Strict.{CoreKeeping, core_keeping, core_row, is_core_apt}
 use Rattle.world_model.proofs.EachOutstanding.{EachKept, each_brought, each_first, each_kept, each_outstanding, each_took, kept_meanwhile}
 use Rattle.world_model.proofs.Every.{each_append, each_map}
 use Rattle.world_model.proofs.KeptThere.{apt_there, kept_in_past, still_kept}
 use Rattle.world_model.proofs.NothingKept.{none_kept}
-use Rattle.world_model.proofs.Orders.{coordinator_nodes, of}
+use Rattle.world_model.proofs.Orders.{of}
 use Rattle.strict_laws.specs.Meant.{IsLetterMeant, IsMeant, LettersAreMeant}
 use Rattle.strict_laws.proofs.HeldOwn.{HoldsOwn, holds_own}
 use Rattle.strict_laws.proofs.MeantRows.{AreMeant, client_meant, coordinator_meant, core_meant, wakes_meant}
@@ -106,3 +106,7 @@ letters_are_meant s (e ∷ past) valid run =
     each_outstanding (IsLetterMeant s) s past e run.0 all
     (each_map (of (IsMeant s e.actor.0)) (λ (o : Outgoing). LetterId → IsMeant s e.actor.0 o.to.0 o.body) e.sent (λ o meant id. meant)
     (entry_sends s past e valid run.0 all run.0.moves))
+
+-- the letter that is taken is meant for its actor
+pub took_meant : (s : ScriptData) (past : List Entry) (e : Entry) → IsValid s → IsStepRun s (e ∷ past) → IsLetterMeant s e.took
+took_meant s past e valid run = each_took (IsLetterMeant s) s past e run.0 (letters_are_meant s past valid run.1)

@@ -4,36 +4,35 @@ use Rattle.std.specs.Prelude.{if◌then◌else◌, nat_lt, slice_get}
 use Rattle.std.proofs.lemmas.Bool.Decides.{nat_tests}
 use Rattle.tv_base.specs.declared.numbers.SubNo.{SubNo}
 use Rattle.tv_base.specs.declared.numbers.TreeNo.{TreeNo}
+use Rattle.tv_base.proofs.Chosen.{not_none}
 use Rattle.letter_types.specs.declared.bodies.Body.{Body}
-use Rattle.letter_types.specs.declared.bodies.Body.TheVariants.{Go, Root, Sub as SubLetter, Done, Reply, Decide, Decided, Turn, Show, Sweep, AskDone, AskAsked, Advanced, Wake, Advance, AdvanceNo, Ask, Order}
+use Rattle.letter_types.specs.declared.bodies.Body.TheVariants.{Go, Root, Sub as SubLetter, Done, Reply, Decide, Decided, Turn, Show, Sweep, AskDone, AskAsked, Advanced, Wake, Ask, Order}
 use Rattle.letter_types.specs.declared.entries.Entry.{Entry}
 use Rattle.letter_types.specs.declared.entries.Outgoing.{Outgoing}
 use Rattle.letter_types.specs.declared.kept.KeptLetter.{KeptLetter}
 use Rattle.letter_types.specs.declared.kept.Why.{Why}
 use Rattle.letter_types.specs.Kept.{wakes}
 use Rattle.letter_types.specs.Steps.{Out, still}
-use Rattle.script_parts.specs.Counts.{has_strict, loses_in}
+use Rattle.script_parts.specs.Counts.{has_strict, loses_in, is_lossy}
 use Rattle.script_parts.specs.ScriptData.{ScriptData, home_of, node_of, sub_at, subs_at}
-use Rattle.script_parts.specs.Valid.{IsTree, IsValid, NamesInOrder}
+use Rattle.script_parts.specs.Valid.{IsValid, NamesInOrder}
 use Rattle.script_parts.specs.declared.parts.ScriptRow.{ScriptRow}
 use Rattle.script_parts.specs.declared.parts.ScriptRow.TheVariants.{Tree as TreeRow, Advance as AdvanceRow, Settle as SettleRow, Lose as LoseRow}
 use Rattle.script_parts.specs.declared.parts.Sub.{Sub}
-use Rattle.script_parts.specs.declared.parts.Tree.{Tree}
-use Rattle.script_parts.proofs.SubsOf.{all_at, names_end}
+use Rattle.script_parts.proofs.SubsOf.{names_end, has_root}
 use Rattle.world_model.specs.Children.{sub_letters}
-use Rattle.world_model.specs.Client.{Client, advance_letter, advances_sent, client_row, nudge, rows_letters, submit, submitted, wanted, with_answer, with_end}
-use Rattle.world_model.specs.Lossy.{is_lossy}
+use Rattle.world_model.specs.Client.{Client, advance_letter, advances_sent, client_row, nudge, rows_letters, submit, submitted, with_answer, with_end}
 use Rattle.world_model.specs.Core.{Core}
 use Rattle.world_model.specs.Counts.{Each}
 use Rattle.world_model.specs.Keeping.{AreKeptAt, AsksFor, IsKeptAt}
-use Rattle.world_model.specs.Named.{is_strict_at, tree_kind_at}
+use Rattle.world_model.specs.Named.{is_strict_at}
 use Rattle.world_model.specs.Strict.{core_row}
 use Rattle.world_model.proofs.EachOutstanding.{EachKept}
 use Rattle.world_model.proofs.Coordination.{IsCoordinated, IsOfCoordinator}
 use Rattle.world_model.proofs.Every.{each_append, each_map}
 use Rattle.world_model.proofs.Fits.{each_drop, each_take}
 use Rattle.world_model.proofs.Orders.{of}
-use Rattle.world_model.proofs.Scripts.{get_below, get_some}
+use Rattle.world_model.proofs.Scripts.{get_below, strict_there}
 use Rattle.strict_laws.specs.Meant.{IsLetterMeant, IsMeant}
 use Rattle.strict_laws.proofs.HeldOwn.{HoldsOwn, acked_tree}
 use Rattle.strict_laws.proofs.RowSends.{OfRow, OfTree, core_each}
@@ -44,19 +43,9 @@ abbrev pub AreMeant : ScriptData → ℕ → List Outgoing → Type 0
 AreMeant s from os = Each (of (IsMeant s from)) os
 
 -- What trees there are.
-strict_by : (s : ScriptData) (t : ℕ) (o : Option Tree) → slice_get s.trees t ≡ o → is_strict_at s t ≡ true → t < length s.trees
-strict_by s t None at is = absurd (let none : false ≡ true = sym (rw (at, is_strict_at, tree_kind_at) refl) ∙ is in cc none)
-strict_by s t (Some u) at is = get_below s.trees t u at
-
 -- a strict tree is one
 pub strict_below : (s : ScriptData) (t : ℕ) → is_strict_at s t ≡ true → t < length s.trees
-strict_below s t is = strict_by s t (slice_get s.trees t) refl is
-
--- each tree of a valid script has a root
-pub root_below : (s : ScriptData) (t : ℕ) → IsValid s → t < length s.trees → 0 < length (subs_at s t)
-root_below s t valid lt =
-    let tree = get_some s.trees t lt in
-    rw (tree.1, subs_at) (all_at (IsTree s.nodes s.items) s.trees t tree.0 valid.trees tree.1).root
+strict_below s t is = strict_there s t (slice_get s.trees t) refl is
 
 -- The letters to children.
 child_meant : (s : ScriptData) (t v parent from i : ℕ) (x : Sub) (xs : List Sub) → t < length s.trees → from < s.nodes
@@ -148,7 +137,7 @@ wake_by s p from t k (Root u) valid some below asks meant =
     let is : k.0 ≡ 0 = asks.1 in
     record {
       tree = tree;
-      sub = subst (λ (n : ℕ). n < length (subs_at s t.0)) (sym is) (root_below s t.0 valid tree);
+      sub = subst (λ (n : ℕ). n < length (subs_at s t.0)) (sym is) (has_root s t.0 valid tree);
       node = subst (λ (n : ℕ). p ≡ node_of s t.0 n) (sym is) (subst (λ (x : TreeNo). p ≡ home_of s x.0) asks.0 meant.home);
       below = below;
       own = refl;
@@ -210,16 +199,13 @@ NamesTree s LoseRow = is_lossy s ≡ true
 NamesTree s SettleRow = Unit {0}
 NamesTree s _ = Unit {0}
 
-lossy_by : (n : ℕ) → 1 ≤ n → not (n == 0) ≡ true
-lossy_by n some = grind (arith, nat_tests)
-
 rows_from : (s : ScriptData) (i : ℕ) (rows : List ScriptRow) → NamesInOrder i (length s.trees) rows → loses_in rows ≤ loses_in s.rows
     → Each (NamesTree s) rows
 rows_from s i [] names le = tt
 rows_from s i (TreeRow t ∷ rows) names le =
     (omega (arith, names.0, names_end (i + 1) (length s.trees) rows names.1), rows_from s (i + 1) rows names.1 (omega (arith, le)))
 rows_from s i (AdvanceRow ∷ rows) names le = (tt, rows_from s i rows names (omega (arith, le)))
-rows_from s i (LoseRow ∷ rows) names le = (lossy_by (loses_in s.rows) (omega (arith, le)), rows_from s i rows names (omega (arith, le)))
+rows_from s i (LoseRow ∷ rows) names le = (not_none (loses_in s.rows) (omega (arith, le)), rows_from s i rows names (omega (arith, le)))
 rows_from s i (SettleRow ∷ rows) names le = (tt, rows_from s i rows names (omega (arith, le)))
 
 pub rows_name : (s : ScriptData) → IsValid s → Each (NamesTree s) s.rows

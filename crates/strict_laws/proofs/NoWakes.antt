@@ -11,7 +11,7 @@ use Rattle.script_parts.specs.ScriptData.{ScriptData, subs_at}
 use Rattle.world_model.specs.Calls.{is_wake_of}
 use Rattle.world_model.specs.Children.{sub_letters}
 use Rattle.world_model.specs.Client.{Client, advances_sent, client_row, nudge, rows_letters, submit, submitted, wanted, with_answer, with_end}
-use Rattle.world_model.specs.Lossy.{is_lossy}
+use Rattle.script_parts.specs.Counts.{is_lossy}
 use Rattle.world_model.specs.Core.{Core}
 use Rattle.world_model.specs.Counts.{tally}
 use Rattle.world_model.specs.Strict.{core_row}

@@ -17,9 +17,8 @@ use Rattle.letter_types.specs.declared.votes.Vote.TheVariants.{Yes, No}
 use Rattle.nc_locks.specs.Locks.{with_locks}
 use Rattle.pair_counters.proofs.Rows.{length_numbers}
 use Rattle.tree_home.specs.HeldAnswers.{answer_when_acked}
-use Rattle.tree_home.specs.Homes.{Gets, OpenTrees, answer_in, answer_of, answer_with, home_in, misses}
+use Rattle.tree_home.specs.Homes.{Gets, OpenTrees}
 use Rattle.tree_home.specs.declared.homes.Answered.{Answered}
-use Rattle.tree_home.specs.declared.homes.OpenTree.{OpenTree}
 use Rattle.script_parts.specs.Counts.{has_strict}
 use Rattle.script_parts.specs.ScriptData.{ScriptData, client_of, home_of, is_strict, subs_at, updates, visited, visited_by, visits}
 use Rattle.script_parts.specs.declared.parts.Sub.{Sub}
@@ -41,6 +40,7 @@ use Rattle.world_model.specs.Updates.{touching}
 use Rattle.world_model.specs.Votes.{vote_of}
 use Rattle.world_model.proofs.Every.{each_append}
 use Rattle.world_model.proofs.Orders.{of}
+use Rattle.world_model.proofs.Notices.{answer_noted_tree}
 
 -- A fact of addressee and body of all that a step of tree t may send: to children, ...
 abbrev pub OfChildren : (ℕ → Body → Type 0) → ScriptData → TreeNo → Type 0
@@ -97,24 +97,6 @@ to_visited : (P : ℕ → Body → Type 0) (s : ScriptData) (t : TreeNo) (body :
 to_visited P s t body all =
     each_to P body (visited_by s t.0)
     (visited_each (λ (q : ℕ). P q body) (subs_at s t.0) s.nodes s.nodes (omega arith) (λ q is lt. all q (record { visits = is; below = lt })))
-
--- An answer names its tree.
-with_tree : (t : TreeNo) (h : OpenTree) (o : Option Gets) (a : Answered) → answer_with t h o ≡ Some a → a.tree ≡ t
-with_tree t h None a is = absurd (cc is)
-with_tree t h (Some vs) a is = grind arith
-
-of_tree : (t : TreeNo) (k : SubNo) (vs : Gets) (o : Option OpenTree) (a : Answered) → answer_of t k vs o ≡ Some a → a.tree ≡ t
-of_tree t k vs None a is = absurd (cc is)
-of_tree t k vs (Some h) a is = with_tree t h _ a is
-
-if_tree : (t : TreeNo) (b : Bool) (o : Option Answered) (a : Answered) → ((x : Answered) → o ≡ Some x → x.tree ≡ t)
-    → (if b then o else None) ≡ Some a → a.tree ≡ t
-if_tree t true o a its is = its a is
-if_tree t false o a its is = absurd (cc is)
-
-pub answer_tree : (t : TreeNo) (k : SubNo) (vs : Gets) (hs : OpenTrees) (a : Answered) → answer_noted t k vs hs ≡ Some a → a.tree ≡ t
-answer_tree t k vs hs a is =
-    if_tree t (misses t k hs) (answer_in t k vs hs) a (λ x at. of_tree t k vs (home_in t hs) x at) is
 
 -- What is sent with it.
 
@@ -180,7 +162,7 @@ suits_other : (strict : Bool) (notice : Notice) → strict ≡ false → is_did 
 suits_other strict notice is did = rw is did
 
 root_answers : (t : TreeNo) (vs : Gets) (hs : OpenTrees) → AnswersFor t (answer_noted t (record { 0 = 0 }) vs hs)
-root_answers t vs hs a is = answer_tree t (record { 0 = 0 }) vs hs a is
+root_answers t vs hs a is = answer_noted_tree t (record { 0 = 0 }) vs hs a is
 
 -- the open trees of a root's home, where the tree is begun
 abbrev opened : ScriptData → TreeNo → Version → Node → OpenTrees
@@ -247,7 +229,7 @@ note_each : (P : ℕ → Body → Type 0) (s : ScriptData) (from : ℕ) (t : Tre
 note_each P s from t k v notice c h =
     let o : TreeOut = note_part from t.0 k.0 v.0 (values_of notice) c.node in
     let noted : Core = record c { refusals = refused_there t k notice c } in
-    let own : AnswersFor t o.answered = λ a is. answer_tree t k (values_of notice) c.node.homes a is in
+    let own : AnswersFor t o.answered = λ a is. answer_noted_tree t k (values_of notice) c.node.homes a is in
     pick_out P (is_strict_at s t.0) (decided s noted o o.answered) (answered s c o)
     (λ strict. decided_each P s t noted o o.answered h strict own tt) (answered_each P s t c o h own tt)
 

@@ -17,12 +17,11 @@ use Rattle.world_model.specs.Core.{Core}
 use Rattle.world_model.specs.Keeping.{KeepingNode, brought_row, keeping_row, kept_row}
 use Rattle.world_model.specs.Runs.{MayFollow, keeping_in}
 use Rattle.world_model.specs.Strict.{CoreKeeping, core_keeping, core_row, core_step, is_core_apt}
-use Rattle.world_model.proofs.Bridge.{reverse_more}
 use Rattle.world_model.proofs.Every.{moved_says}
 use Rattle.world_model.proofs.Outstanding.{keeping_elsewhere, keeping_here}
 use Rattle.board_rules.specs.Histories.{Place, places_at, places_of}
 use Rattle.board_rules.specs.Locked.{locks_after_act, locks_after_place, locks_at}
-use Rattle.board_rules.proofs.Places.{places_of-append}
+use Rattle.board_rules.proofs.Places.{places_more}
 use Rattle.strict_laws.specs.Locks.{RunLocks, locks_after_acts}
 use Rattle.strict_laws.proofs.ByActs.{after_turned, locks_follow_acts}
 use Rattle.world_model.proofs.Keepings.{of_kept}
@@ -83,18 +82,11 @@ other_acts s p ls (a ∷ xs) q ne =
     (map (λ (x : Act). record { node = q; act = x }) xs)) other
     ∙ other_acts s p ls xs q ne
 
--- the acts of a past with one entry more
-pub places_then : (e : Entry) (past : List Entry) → places_of (reverse (e ∷ past)) ≡ places_of (reverse past) ++ places_at e
-places_then e past =
-    ap places_of (reverse_more e past)
-    ∙ places_of-append (reverse past) (e ∷ [])
-    ∙ ap (λ (ys : List Place). places_of (reverse past) ++ ys) (append-nil (places_at e))
-
 then_locks : (s : ScriptData) (e : Entry) (past : List Entry) (p : ℕ)
     → locks_at s (places_of (reverse (e ∷ past))) p
     ≡ fold (locks_after_place s p) (locks_at s (places_of (reverse past)) p) (places_at e)
 then_locks s e past p =
-    ap (λ (xs : List Place). locks_at s xs p) (places_then e past)
+    ap (λ (xs : List Place). locks_at s xs p) (places_more e past)
     ∙ fold-append (locks_after_place s p) [] (places_of (reverse past)) (places_at e)
 
 entry_locks : (s : ScriptData) (past : List Entry) (e : Entry) (p : ℕ) → has_strict s ≡ true → MayFollow s past e → p < s.nodes

@@ -5,6 +5,7 @@ use Rattle.std.proofs.lemmas.Bool.{cases_eq}
 use Rattle.std.proofs.lemmas.Bool.Decides.{nat_tests}
 use Rattle.tv_base.specs.declared.numbers.SubNo.{SubNo}
 use Rattle.tv_base.specs.declared.numbers.TreeNo.{TreeNo}
+use Rattle.tv_base.proofs.Chosen.{if_most}
 use Rattle.letter_types.specs.declared.bodies.Body.{Body}
 use Rattle.letter_types.specs.declared.bodies.Body.TheVariants.{Wake}
 use Rattle.letter_types.specs.declared.entries.Entry.{Entry}
@@ -42,13 +43,9 @@ sent_wakes t k p e =
     sealed_tally (is_wake_at t k p) (sent_wake t k p) e.stamp.0 e.actor.0 0 e.sent (λ i o. refl)
 
 -- Where no Wake is sent.
-part_of : (b : Bool) (n : ℕ) → (if b then n else 0) ≤ n
-part_of true n = omega arith
-part_of false n = omega arith
-
 few_wakes : (t : TreeNo) (k : SubNo) (p : ℕ) (os : List Outgoing) → tally (sent_wake t k p) os ≤ tally (on (is_wake_of t k)) os
 few_wakes t k p [] = omega arith
-few_wakes t k p (o ∷ os) = omega (arith, few_wakes t k p os, part_of (o.to.0 == p) (is_wake_of t k o.body))
+few_wakes t k p (o ∷ os) = omega (arith, few_wakes t k p os, if_most (o.to.0 == p) (is_wake_of t k o.body))
 
 no_wakes : (t : TreeNo) (k : SubNo) (p : ℕ) (os : List Outgoing) → HaveNoWake t k os → tally (sent_wake t k p) os ≡ 0
 no_wakes t k p os none = omega (arith, few_wakes t k p os, none)

@@ -7,10 +7,9 @@ use Rattle.letter_types.specs.declared.bodies.Body.TheVariants.{Go, Root, Sub as
 use Rattle.letter_types.specs.declared.bodies.Notice.{Notice}
 use Rattle.letter_types.specs.declared.entries.Entry.{Entry}
 use Rattle.letter_types.specs.declared.entries.Letter.{Letter}
-use Rattle.script_parts.specs.Counts.{has_strict}
+use Rattle.script_parts.specs.Counts.{has_strict, is_lossy}
 use Rattle.script_parts.specs.ScriptData.{ScriptData, client_of, home_of, node_of, subs_at, updates, visits}
 use Rattle.script_parts.specs.Valid.{IsValid}
-use Rattle.world_model.specs.Lossy.{is_lossy}
 use Rattle.world_model.specs.Counts.{Each}
 use Rattle.world_model.specs.Kept.{outstanding}
 use Rattle.world_model.specs.Named.{is_strict_at, suits}

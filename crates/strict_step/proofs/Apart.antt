@@ -10,12 +10,13 @@ use Rattle.letter_types.specs.declared.bodies.Body.{Body}
 use Rattle.letter_types.specs.declared.bodies.Body.TheVariants.{Root, Sub as SubLetter}
 use Rattle.tree_home.proofs.Maps.{put_at-other, put_at-same}
 use Rattle.tree_home.specs.HeldAnswers.{HeldAnswers, held_answers, held_in}
-use Rattle.tree_home.specs.Homes.{Gets, OpenTrees, after_notice, answer_in, answer_of, answer_with, begun, gathered, home_in, misses, missing_in, new_tree, noted, noted_of, outcome, told}
+use Rattle.tree_home.specs.Homes.{Gets, OpenTrees, after_notice, answer_in, begun, home_in, misses, missing_in, new_tree, noted, noted_of, outcome, told}
 use Rattle.tree_home.specs.declared.homes.Answered.{Answered}
 use Rattle.tree_home.specs.declared.homes.Held.{Held}
 use Rattle.tree_home.specs.declared.homes.Noted.{Noted}
 use Rattle.tree_home.specs.declared.homes.Noted.TheVariants.{Missing, Answered as WasAnswered}
 use Rattle.tree_home.specs.declared.homes.OpenTree.{OpenTree}
+use Rattle.tree_home.proofs.Gathered.{answer_of_tree}
 use Rattle.tx_trees.specs.ScriptData.{ScriptData, subs_at}
 use Rattle.world_model.specs.Asked.{tree_part}
 use Rattle.world_model.specs.Done.{TreeOut}
@@ -103,17 +104,6 @@ apart_part part n o row apart =
     subst (λ (x : TreeOut). AreApart x.out.state.homes (held_answers n.parts.homes)) (sym row) apart
 
 -- a tree that is answered is the notice's, and isn't open any more
-answer_tree : (t : TreeNo) (h : OpenTree) (o : Option Gets) (a : Answered) → answer_with t h o ≡ Some a → a.tree ≡ t
-answer_tree t h None a is = cc
-answer_tree t h (Some vs) a is =
-    let same : record { tree = t; version = h.version; values = vs } ≡ a = cc in
-    sym (ap (λ (x : Answered). x.tree) same)
-
-answer_here : (t : TreeNo) (k : SubNo) (values : Gets) (o : Option OpenTree) (a : Answered)
-    → answer_of t k values o ≡ Some a → a.tree ≡ t
-answer_here t k values None a is = cc
-answer_here t k values (Some h) a is = answer_tree t h (gathered (slice_set h.notices k.0 (Some values))) a is
-
 gone_by : (t : TreeNo) (k : SubNo) (values : Gets) (hs : OpenTrees) (a : Answered) (o : Option Answered) → o ≡ Some a
     → home_in t (after_notice t k values hs (told (missing_in t (noted t k values hs)) o)) ≡ None
 gone_by t k values hs a None is = cc
@@ -128,7 +118,7 @@ answered_gone t k values hs a is = by (misses t k hs) refl is
         → (misses t k hs ≡ true) × (a.tree ≡ t) × (home_in a.tree (homes_noted t k values hs) ≡ None)
     by false missed is = cc
     by true missed is =
-        let same = answer_here t k values (home_in t hs) a is in (
+        let same = answer_of_tree t k values (home_in t hs) a is in (
           missed,
           same,
           ap (λ (u : TreeNo). home_in u (homes_noted t k values hs)) same

@@ -8,7 +8,7 @@ use Rattle.letter_types.specs.declared.entries.Outgoing.{Outgoing}
 use Rattle.pair_counters.specs.Numbers.{Numbers, asked_all, asked_one, from_version}
 use Rattle.pair_counters.specs.Counts.{Counts}
 use Rattle.pair_counters.specs.Rows.{counts_of}
-use Rattle.world_model.proofs.Requests.{asked_all-append, asked_most}
+use Rattle.world_model.proofs.Requests.{asked_all-append, asked_most, one_at}
 use Rattle.world_model.specs.Done.{counted_root, counted_sub}
 use Rattle.tree_step.specs.Changes.{MayChange, MayDo, after_change, requests}
 use Rattle.tree_step.specs.Node.{data_of}
@@ -35,11 +35,6 @@ asked_next v qs more q first now new is eq next =
     ∙ asked_all-append v q.0 (numbers_of_nodes qs) first.numbers))
     ∙ ap (λ (xs : List NodeNo). with_asked v xs first) (sym next)
 
-one_more : (f : ℕ → ℕ → ℕ) (v q w r : ℕ) (b : Bool) → ((w == v) && (r == q)) ≡ b
-    → (if b then f w r + 1 else f w r) ≤ f w r + 1
-one_more f v q w r true is = omega arith
-one_more f v q w r false is = omega arith
-
 -- a number grows by no more than there are requests
 asked_few : (v : ℕ) (qs : List NodeNo) (n : Numbers) (w r : ℕ)
     → (asked_all v (numbers_of_nodes qs) n).asked w r ≤ n.asked w r + length qs
@@ -48,7 +43,7 @@ asked_few v (q ∷ qs) n w r =
     omega (
       arith,
       asked_few v qs (asked_one v q.0 n) w r,
-      one_more n.asked v q.0 w r ((w == v) && (r == q.0)) refl,
+      one_at n.asked v q.0 w r ((w == v) && (r == q.0)) refl,
     )
 
 pub asked_under : (v q m n : ℕ) (qs : List NodeNo) (first now : Counts) → now ≡ with_asked v qs first
@@ -79,7 +74,7 @@ counted_few true v p os n w q =
     omega (
       arith,
       asked_most v os (asked_one v p n) w q,
-      one_more n.asked v p w q ((w == v) && (q == p)) refl,
+      one_at n.asked v p w q ((w == v) && (q == p)) refl,
     )
 counted_few false v p os n w q = omega (arith, asked_most v os n w q)
 

@@ -2,7 +2,9 @@
 ghost use Rattle.std.specs.Prelude.{◌<◌, ◌≤◌};
 
 use crate::words::words_of;
+use board_judge::Judge;
 use letter_types::History;
+use script_reader::read_script;
 use std::alloc::{AllocError, Global};
 use std::sync::Wait;
 use std::sync::atomic::{AtomicU64, Ordering};
@@ -200,5 +202,11 @@ fn a_node_that_is_held_back_changes_no_text(rt: HostRuntime) -> Result<(), Fail>
     let ran = call(&rt, rt.alloc(), &words, WHOLE_ADVANCEMENT, &gate)?;
     assert_eq!(rt; ran.status, 0);
     assert_eq!(rt; ran.out.bytes(), WHOLE_ADVANCEMENT_TEXT.as_bytes());
+    let script = read_script(rt.alloc(), WHOLE_ADVANCEMENT.as_bytes())?;
+    let mut judge = Judge::new(rt.alloc(), &script)?;
+    for entry in ran.history.items() {
+        assert!(rt; judge.take(entry).is_ok());
+    }
+    assert!(rt; judge.is_finished());
     Ok(())
 }

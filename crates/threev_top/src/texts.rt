@@ -35,7 +35,7 @@ options:
 
 statuses:
   0  the text was written
-  1  want of memory
+  1  out of memory
   2  the words are not a command line
   3  the script was refused
   4  reading failed
@@ -48,15 +48,19 @@ rows of a script, comma separated:
   item,NAME,NODE,KIND,INITIAL    an item of kind sum, top or bag
   update,NAME,NODE               begins an update tree with its root at NODE
   read,NAME,NODE                 begins a read tree with its root at NODE
+  strict,NAME,NODE               begins a strict tree with its root at NODE
   sub,PARENT,NODE                the next subtransaction of the tree
   add,ITEM,AMOUNT                adds an amount to a sum
   top,ITEM,AMOUNT                raises a top to at least an amount
   put,ITEM,AMOUNT                puts a number into a bag
+  set,ITEM,AMOUNT                of a strict tree: sets a sum or a top to an amount
+  draw,ITEM,AMOUNT               of a strict tree: lowers a sum by an amount, where that leaves it at least 0
   get,ITEM                       reads an item
   advance                        asks for one advancement of the versions
   settle                         waits until all before it has ended
   fail,SUB                       of the second form: subtransaction SUB of the tree fails, and the tree is undone
-  pick,K                         the next letter taken is number K of those under way, from 0
+  pick,K                         the next letter taken is number K of those in flight, from 0
+  lose                           of the second form: makes the coordinator forget what it knows
 ";
 
 /// What `--version` writes.

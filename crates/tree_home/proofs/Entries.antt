@@ -7,10 +7,8 @@ use Rattle.std.specs.Ordering.{is_eq, nat_cmp}
 use Rattle.std.proofs.Math.Path.{fun_ext}
 use Rattle.std.proofs.lemmas.Bool.Decides.{nat_tests}
 use Rattle.tv_base.specs.declared.numbers.TreeNo.{TreeNo}
+use Rattle.tv_base.proofs.Orderings.{is_eq-number}
 use Rattle.tree_home.specs.Maps.{by_tree, put_at}
-
-is_eq-nat : (a b : ℕ) → is_eq (nat_cmp a b) ≡ eqb b a
-is_eq-nat a b = grind (arith, nat_tests)
 
 module _ {X : Type 0} where
   -- what a map finds of a tree
@@ -20,13 +18,13 @@ module _ {X : Type 0} where
   -- it is what the map has of it
   pub found : (t : TreeNo) (es : List (TreeNo × X)) → found_in t es ≡ by_tree es t.0
   found t [] = refl
-  found t (e ∷ es) = rw (is_eq-nat t.0 e.0.0, found t es) refl
+  found t (e ∷ es) = rw (is_eq-number t.0 e.0.0, found t es) refl
 
 module _ {X : Type 0} where
   changed-at : (t : TreeNo) (o : Option X) (es fs : List (TreeNo × X)) (q : TreeNo)
       → found_in q fs ≡ cond (is_eq (nat_cmp t.0 q.0)) o (found_in q es)
       → by_tree fs q.0 ≡ put_at t.0 o (by_tree es) q.0
-  changed-at t o es fs q is = sym (found q fs) ∙ is ∙ rw (is_eq-nat t.0 q.0, found q es) refl
+  changed-at t o es fs q is = sym (found q fs) ∙ is ∙ rw (is_eq-number t.0 q.0, found q es) refl
 
   -- entries that differ at one tree alone
   pub changed : (t : TreeNo) (o : Option X) (es fs : List (TreeNo × X))

@@ -1,12 +1,12 @@
 -- What is gathered of notices, how many are missing, and a tree that has one more.
-use Rattle.std.proofs.Common.{◌≡◌, ℕ, zero, suc, ◌+◌, ◌<◌, ◌≤◌, List, [], ◌∷◌, ◌++◌, length, set, refl, ap, subst, ◌∙◌, arith, append_assoc, append-nil, Option, Some, None}
-use Rattle.std.specs.Prelude.{IsSome, IsNone, IsTrue, slice_get, ◌↔◌}
+use Rattle.std.proofs.Common.{◌≡◌, ℕ, zero, suc, ◌+◌, ◌<◌, ◌≤◌, List, [], ◌∷◌, ◌++◌, length, set, refl, ap, subst, ◌∙◌, arith, append_assoc, append-nil, Option, Some, None, sym}
+use Rattle.std.specs.Prelude.{IsSome, IsNone, IsTrue, slice_get, ◌↔◌, slice_set}
 use Rattle.tv_base.specs.declared.numbers.TreeNo.{TreeNo}
 use Rattle.tv_base.specs.declared.numbers.SubNo.{SubNo}
 use Rattle.tree_home.specs.declared.homes.OpenTree.{OpenTree}
 use Rattle.tree_home.specs.declared.homes.Answered.{Answered}
 use Rattle.tree_home.specs.declared.homes.Noted.TheVariants.{Missing}
-use Rattle.tree_home.specs.Homes.{Gets, OpenTrees, home_in, with_notice, noted, noted_of, prepended, gathered, missing_count, missing_of, missing_in, misses, misses_of, is_missing, told}
+use Rattle.tree_home.specs.Homes.{Gets, OpenTrees, home_in, with_notice, noted, noted_of, prepended, gathered, missing_count, missing_of, missing_in, misses, misses_of, is_missing, told, answer_of, answer_with}
 use Rattle.tree_home.proofs.Maps.{put_at-same}
 
 pub prepended-append : (vs ws : Gets) (o : Option Gets) → prepended (vs ++ ws) o ≡ prepended vs (prepended ws o)
@@ -107,3 +107,15 @@ pub ruleset completing = (gathered-others, gathered-last)
 pub ruleset answering = (misses-there, misses-here)
 
 pub ruleset telling = (missing_in-noted, misses-there)
+
+-- an answer names its tree
+pub answer_with_tree : (t : TreeNo) (h : OpenTree) (o : Option Gets) (a : Answered) → answer_with t h o ≡ Some a → a.tree ≡ t
+answer_with_tree t h None a is = cc
+answer_with_tree t h (Some vs) a is =
+    let same : record { tree = t; version = h.version; values = vs } ≡ a = cc in
+    sym (ap (λ (x : Answered). x.tree) same)
+
+pub answer_of_tree : (t : TreeNo) (k : SubNo) (values : Gets) (o : Option OpenTree) (a : Answered)
+    → answer_of t k values o ≡ Some a → a.tree ≡ t
+answer_of_tree t k values None a is = cc
+answer_of_tree t k values (Some h) a is = answer_with_tree t h (gathered (slice_set h.notices k.0 (Some values))) a is

@@ -6,6 +6,7 @@ use Rattle.std.proofs.lemmas.Bool.{cases_eq}
 use Rattle.std.proofs.lemmas.Bool.Decides.{nat_tests}
 use Rattle.tv_base.specs.declared.numbers.TreeNo.{TreeNo}
 use Rattle.tv_base.specs.declared.numbers.Version.{Version}
+use Rattle.tv_base.proofs.Chosen.{if_most, if_zero}
 use Rattle.letter_types.specs.Kept.{kept_without, wakes}
 use Rattle.letter_types.specs.Steps.{Out}
 use Rattle.letter_types.specs.declared.acts.Act.{Act}
@@ -20,13 +21,12 @@ use Rattle.tx_trees.specs.ScriptData.{ScriptData, client_of, subs_at, visited, v
 use Rattle.tx_trees.specs.declared.parts.Sub.{Sub}
 use Rattle.world_model.specs.Keeping.{woken_by}
 use Rattle.world_model.specs.Core.{Core, Refusals}
-use Rattle.world_model.specs.Counts.{one_if, tally}
+use Rattle.world_model.specs.Counts.{tally}
 use Rattle.world_model.specs.Kept.{kept_by, kept_in, of_done, outstanding}
-use Rattle.world_model.specs.Runs.{MayFollow, client_in, coordinator_in, in_flight, keeping_in}
+use Rattle.world_model.specs.Runs.{MayFollow, client_in, in_flight, keeping_in}
 use Rattle.world_model.specs.Strict.{CoreKeeping, core_row, none_refuses, to_each}
-use Rattle.world_model.proofs.Bags.{one_if_most, sealed_tally, tally-append}
+use Rattle.world_model.proofs.Bags.{sealed_tally, tally-append, one_if_and, tally_most}
 use Rattle.world_model.proofs.Cases.{Case, Coordinates, Does, Keeps, NodeDoes, NodeKeeps, Submits, case, does_number, keeps_number}
-use Rattle.world_model.proofs.Orders.{no_acts}
 use Rattle.world_model.proofs.Outstanding.{done_apart, outstanding_step}
 use Rattle.world_model.proofs.Sends.{on}
 use Rattle.tree_laws.specs.Applied.{AppliedWhereDecided, applies_as, has_decided, decisions_to, tells_decision}
@@ -35,17 +35,8 @@ use Rattle.tree_laws.proofs.AptRulings.{OfDecides, OfRulings, RowRules, applied_
 use Rattle.tree_laws.proofs.AptStagesApart.{CountsNoOthers, client_none, coordinator_none, none_of_others}
 use Rattle.tree_laws.proofs.AptStagesSteps.{CountsNoAsking, kept_by_zero}
 use Rattle.tree_laws.proofs.AptSteps.{wakes_none}
-use Rattle.tree_laws.proofs.AptVersions.{tally_less}
 
 -- Numbers of decisions, of what is applied, and of letters that tell a decision to node q.
-pub if_zero : (test : Bool) (n : ℕ) → n ≡ 0 → (if test then n else 0) ≡ 0
-if_zero true n none = none
-if_zero false n none = refl
-
-pub if_less : (test : Bool) (n : ℕ) → (if test then n else 0) ≤ n
-if_less true n = omega arith
-if_less false n = omega arith
-
 pub decides_of : (t : ℕ) (b : Bool) → OfRulings (has_decided t b)
 decides_of t true (acts.Decided u commit) none = absurd (cc none)
 decides_of t false (acts.Decided u commit) none = absurd (cc none)
@@ -81,7 +72,7 @@ told_of t b q o none = if_zero (o.to.0 == q) (tells_decision t b o.body) (other_
 
 told_less : (t : ℕ) (b : Bool) (q : ℕ) (os : List Outgoing) → tally (told_to t b q) os ≤ tally (on (tells_decision t b)) os
 told_less t b q [] = omega arith
-told_less t b q (o ∷ os) = omega (arith, if_less (o.to.0 == q) (tells_decision t b o.body), told_less t b q os)
+told_less t b q (o ∷ os) = omega (arith, if_most (o.to.0 == q) (tells_decision t b o.body), told_less t b q os)
 
 tells_no_asking : (t : ℕ) (b : Bool) → CountsNoAsking (tells_decision t b)
 tells_no_asking t b = record {
@@ -222,7 +213,7 @@ all_told s past t b q =
     omega (
       arith,
       tally-append f (in_flight s past) (kept_by s past s.nodes),
-      tally_less f g (kept_by s past s.nodes) (λ l. if_less (l.to.0 == q) (tells_decision t b l.body)),
+      tally_most f g (kept_by s past s.nodes) (λ l. if_most (l.to.0 == q) (tells_decision t b l.body)),
       kept_by_zero (tells_decision t b) s past s.nodes (tells_no_asking t b),
     )
 
@@ -335,13 +326,9 @@ applied_where_decided s (e ∷ past) t q b valid apt run lt below is =
     )
 
 -- Where no letter of a tree's decision is in flight, none goes to a node.
-pub less_and : (x y : Bool) → one_if (x && y) ≤ one_if x
-less_and true y = one_if_most y
-less_and false y = omega arith
-
 tells_less : (t : ℕ) (b : Bool) (body : Body) → tells_decision t b body ≤ decides t body
-tells_less t true (Decide u v commit) = less_and (u.0 == t) commit
-tells_less t false (Decide u v commit) = less_and (u.0 == t) (not commit)
+tells_less t true (Decide u v commit) = one_if_and (u.0 == t) commit
+tells_less t false (Decide u v commit) = one_if_and (u.0 == t) (not commit)
 tells_less t true Go = omega arith
 tells_less t false Go = omega arith
 tells_less t true _ = omega arith
@@ -352,6 +339,6 @@ none_under_way s past t b q none =
     omega (
       arith,
       none,
-      tally_less (tells_to t b q) (λ (l : Letter). decides t l.body) (in_flight s past)
-          (λ l. omega (arith, if_less (l.to.0 == q) (tells_decision t b l.body), tells_less t b l.body)),
+      tally_most (tells_to t b q) (λ (l : Letter). decides t l.body) (in_flight s past)
+          (λ l. omega (arith, if_most (l.to.0 == q) (tells_decision t b l.body), tells_less t b l.body)),
     )

@@ -28,7 +28,7 @@ use Rattle.world_model.specs.Node.{Node}
 use Rattle.world_model.specs.Runs.{IsStepRun, keeping_in, node_in}
 use Rattle.world_model.specs.Strict.{CoreKeeping, core_row}
 use Rattle.world_model.specs.Updates.{table_after_ops}
-use Rattle.world_model.proofs.Cases.{Case, Coordinates, Does, Keeps, NodeDoes, NodeKeeps, Submits, case}
+use Rattle.world_model.proofs.Cases.{Case, Coordinates, Does, Keeps, NodeDoes, NodeKeeps, Submits, case, apt_named}
 use Rattle.world_model.proofs.Every.{node_kept}
 use Rattle.world_model.proofs.Keepings.{of_kept}
 use Rattle.world_model.proofs.Scripts.{SubAt}
@@ -38,7 +38,6 @@ use Rattle.tree_laws.specs.Effects.{effects}
 use Rattle.tree_laws.specs.Turns.{has_turn, turns}
 use Rattle.tree_laws.proofs.AptItems.{Applies, Changes, Collects, Follows, Raises, Rests, Shows, Touches, core_changes}
 use Rattle.tree_laws.proofs.AptStagesOwn.{sub_of_node}
-use Rattle.tree_laws.proofs.AptSteps.{apt_named}
 use Rattle.tree_laws.proofs.AptTurns.{core_turns}
 use Rattle.tree_laws.proofs.Counts.{one_load_more}
 use Rattle.tree_laws.proofs.Loads.{trees_done}

@@ -5,6 +5,7 @@ use Rattle.tv_base.specs.declared.numbers.SubNo.{SubNo}
 use Rattle.tv_base.specs.declared.numbers.TreeNo.{TreeNo}
 use Rattle.tv_base.specs.declared.numbers.Version.{Version}
 use Rattle.std.proofs.lemmas.Bool.Decides.{nat_tests}
+use Rattle.tx_trees.proofs.SubsOf.{home_below}
 use Rattle.letter_types.specs.Steps.{Out}
 use Rattle.letter_types.specs.declared.acts.Act.{Act}
 use Rattle.letter_types.specs.declared.acts.Act.TheVariants as acts
@@ -22,10 +23,9 @@ use Rattle.world_model.specs.AllApt.{AllApt}
 use Rattle.world_model.specs.Core.{Core, Refusals}
 use Rattle.world_model.specs.Counts.{one_if, tally}
 use Rattle.world_model.specs.Named.{is_strict_at}
-use Rattle.world_model.specs.Runs.{IsStepRun, client_in, coordinator_in, keeping_in}
+use Rattle.world_model.specs.Runs.{IsStepRun, client_in, keeping_in}
 use Rattle.world_model.specs.Strict.{CoreKeeping, core_row, none_refuses}
 use Rattle.world_model.proofs.Cases.{Does, Keeps}
-use Rattle.world_model.proofs.Orders.{no_acts}
 use Rattle.world_model.proofs.Scripts.{SubAt, get_below, sub_here}
 use Rattle.tree_laws.specs.Applied.{DecidedOnce, applied_at, decided_as, has_decided}
 use Rattle.tree_laws.specs.Dids.{answers, asks, notices}
@@ -38,7 +38,6 @@ use Rattle.tree_laws.proofs.AptStages.{Leaves}
 use Rattle.tree_laws.proofs.AptStagesOwn.{Doing, NoteAt, ack_home, home_here, note_at, note_missed, note_waits, root_home, root_unturned, sub_of_node, turned_here}
 use Rattle.tree_laws.proofs.AptStagesRun.{stages_of_trees}
 use Rattle.tree_laws.proofs.AptStagesSteps.{Beside, does_beside}
-use Rattle.tree_laws.proofs.AptSteps.{home_node}
 use Rattle.tree_laws.proofs.Staging.{told_none, told_one}
 
 -- how often a tree was decided on, and how often it is by these acts
@@ -305,7 +304,7 @@ answered_closed s past t some lt (Answered a) = (omega (arith, a.all.turned 0 lt
 pub decided_when_answered : (s : ScriptData) (past : List Entry) (t : ℕ) → IsValid s → AllApt s past → IsStepRun s past → t < length s.trees
     → is_strict_at s t ≡ true → 1 ≤ answers past t → decided_any past t ≡ 1
 decided_when_answered s past t valid apt run lt strict some =
-    let sub : SubAt s t 0 = sub_of_node s (home_of s t) t 0 refl (home_node s t valid lt) in
+    let sub : SubAt s t 0 = sub_of_node s (home_of s t) t 0 refl (home_below s t valid lt) in
     let first : 0 < length (subs_at s t) = get_below (subs_at s t) 0 sub.sub (sub_here s t 0 sub) in
     let over = answered_closed s past t some first (stages_of_trees s past valid apt run t lt) in
     decided_when_closed s past t valid apt run lt strict over.0 over.1

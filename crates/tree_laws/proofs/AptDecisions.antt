@@ -28,16 +28,15 @@ use Rattle.tx_trees.specs.Valid.{IsValid}
 use Rattle.tx_trees.specs.declared.parts.TreeKind.{TreeKind}
 use Rattle.tx_trees.specs.declared.parts.TreeKind.TheVariants.{Update, Read, Strict}
 use Rattle.board_rules.specs.Histories.{Place, places_at, version_in}
+use Rattle.board_rules.proofs.Places.{places_more}
 use Rattle.world_model.proofs.Epochs.{ask_each, order_each}
-use Rattle.world_model.specs.Lossy.{is_lossy}
 use Rattle.world_model.proofs.Coordination.{OfCoordinator, coordinated_each}
 use Rattle.world_model.proofs.Sends.{CountsNoRow, asked_each}
 use Rattle.world_model.specs.Keeping.{woken_by}
 use Rattle.world_model.specs.AllApt.{AllApt}
 use Rattle.world_model.specs.Asked.{asked_ops, asked_version, tree_part}
 use Rattle.world_model.specs.Children.{done_letter, sub_letters}
-use Rattle.world_model.specs.Client.{Client, client_row, nudge, submit, with_answer, with_end, wanted}
-use Rattle.world_model.specs.Coordinator.{Coordinator}
+use Rattle.world_model.specs.Client.{Client, client_row, nudge, submit, with_answer, with_end}
 use Rattle.world_model.specs.Core.{Core}
 use Rattle.world_model.specs.Counts.{one_if, tally}
 use Rattle.world_model.specs.Done.{TreeOut, note_part}
@@ -46,23 +45,20 @@ use Rattle.world_model.specs.Named.{is_strict_at, tree_kind_at}
 use Rattle.world_model.specs.Node.{Effect, Node}
 use Rattle.world_model.specs.Notices.{reply_letters, values_of}
 use Rattle.world_model.specs.Reads.{getting}
-use Rattle.world_model.specs.Runs.{IsStepRun, MayFollow, client_in, coordinator_in, keeping_in, node_in}
+use Rattle.world_model.specs.Runs.{IsStepRun, MayFollow, client_in, keeping_in, node_in}
 use Rattle.world_model.specs.Strict.{CoreKeeping, answered, core_by_kind, core_row, decided, locks_by, none_refuses, note_core, noted_vote, refused_there, release_letters, to_each, voting}
-use Rattle.world_model.specs.Tables.{coordinator_table}
 use Rattle.world_model.specs.Updates.{touching}
 use Rattle.world_model.specs.Votes.{vote_of}
-use Rattle.world_model.proofs.Bags.{tally-append}
+use Rattle.world_model.proofs.Bags.{tally-append, tally_most}
 use Rattle.world_model.proofs.Cases.{Case, Coordinates, Does, Keeps, NodeDoes, NodeKeeps, Submits, case, does_number}
 use Rattle.world_model.proofs.Every.{each_both, each_map, each_none, each_zero, node_kept}
 use Rattle.world_model.proofs.Flows.{outstanding_flow, submit_none}
 use Rattle.world_model.proofs.Keepings.{of_kept}
-use Rattle.world_model.proofs.Orders.{OfOrders, coordinator_each}
 use Rattle.world_model.proofs.Outstanding.{outstanding_first}
 use Rattle.world_model.proofs.Sends.{on, subs_none}
 use Rattle.tree_laws.specs.Carried.{CarriesVersion, LettersCarryVersions, OpenTreesCarryVersions}
 use Rattle.tree_laws.proofs.AptSteps.{does_as, done_before, none_strays, wakes_none}
-use Rattle.tree_laws.proofs.AptVersions.{DoneIn, before, dated_run, done_dated, is_right, is_version, misdated, no_more, still_by, tally_less, version_is}
-use Rattle.tree_laws.proofs.Histories.{places_more}
+use Rattle.tree_laws.proofs.AptVersions.{DoneIn, before, dated_run, done_dated, is_right, is_version, misdated, no_more, still_by, version_is}
 use Rattle.tree_laws.proofs.Turns.{answers_none, each_told, kind_version, releases_none, replies_none, work_version}
 
 -- What holds of each open tree's version, with one notice more.
@@ -300,7 +296,7 @@ decisions_next xs ys s past e m have sent =
       have.decisions,
       sent,
       outstanding_flow (misdecided (xs ++ ys)) s past e (λ t k. refl) m,
-      tally_less (λ (l : Letter). misdecided (xs ++ ys) l.body) (λ (l : Letter). misdecided xs l.body) (outstanding s past)
+      tally_most (λ (l : Letter). misdecided (xs ++ ys) l.body) (λ (l : Letter). misdecided xs l.body) (outstanding s past)
           (λ l. misdecided_less xs ys l.body),
     )
 

@@ -28,9 +28,9 @@ use Rattle.world_model.specs.Notices.{values_of}
 use Rattle.world_model.specs.Strict.{answered, core_by_kind, core_row, decided, locks_by, note_core, noted_vote, refused_there, voting}
 use Rattle.world_model.specs.Updates.{table_after_ops}
 use Rattle.world_model.specs.Votes.{vote_of}
-use Rattle.world_model.proofs.Epochs.{Anew, Orders, Plainly, ask_each, order_each}
+use Rattle.world_model.proofs.Epochs.{Orders, Plainly, ask_each, order_each}
+use Rattle.world_model.proofs.Bags.{one_if_both}
 use Rattle.tree_laws.specs.Dids.{asks}
-use Rattle.tree_laws.proofs.Counts.{one_here}
 
 -- a version is raised to if it is greater
 abbrev pub raised_to : Version → Turns → Turns
@@ -81,7 +81,7 @@ root_changes : (s : ScriptData) (p from : ℕ) (t : TreeNo) (kind : Option TreeK
     → NodeChanges s p (Root t) c (core_by_kind s p from t (Root t) kind c).state.node
 root_changes s p from t (Some Update) c is =
     let turns : Turns = c.node.turns in
-    Touches t.0 0 (one_here t.0 0) is refl (sym (not_raised turns.update turns (nat_lt turns.update.0 turns.update.0) refl refl))
+    Touches t.0 0 (one_if_both t.0 0) is refl (sym (not_raised turns.update turns (nat_lt turns.update.0 turns.update.0) refl refl))
 root_changes s p from t (Some Read) c is = Rests refl refl
 root_changes s p from t (Some Strict) c is =
     let body : Body = Root t in
@@ -98,7 +98,7 @@ root_changes s p from t None c is = Rests refl refl
 sub_changes : (s : ScriptData) (p from : ℕ) (t : TreeNo) (k : SubNo) (v : Version) (kind : Option TreeKind) (c : Core)
     → tree_kind_at s t.0 ≡ kind
     → NodeChanges s p (SubLetter t k v) c (core_by_kind s p from t (SubLetter t k v) kind c).state.node
-sub_changes s p from t k v (Some Update) c is = Touches t.0 k.0 (one_here t.0 k.0) is refl refl
+sub_changes s p from t k v (Some Update) c is = Touches t.0 k.0 (one_if_both t.0 k.0) is refl refl
 sub_changes s p from t k v (Some Read) c is = Rests refl refl
 sub_changes s p from t k v (Some Strict) c is = Follows t k v refl refl refl
 sub_changes s p from t k v None c is = Rests refl refl

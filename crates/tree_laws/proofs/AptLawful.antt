@@ -8,6 +8,7 @@ use Rattle.std.proofs.lemmas.List.{get_or-set_other}
 use Rattle.tv_base.specs.declared.numbers.SubNo.{SubNo}
 use Rattle.tv_base.specs.declared.numbers.TreeNo.{TreeNo}
 use Rattle.tv_base.specs.declared.numbers.Version.{Version}
+use Rattle.tx_trees.proofs.SubsOf.{home_below}
 use Rattle.letter_types.specs.Steps.{Out, still}
 use Rattle.letter_types.specs.declared.bodies.Answer.{Answer}
 use Rattle.letter_types.specs.declared.bodies.Body.{Body}
@@ -29,7 +30,6 @@ use Rattle.world_model.specs.AllApt.{AllApt}
 use Rattle.world_model.specs.Asked.{asked_ops, asked_version, tree_part}
 use Rattle.world_model.specs.Children.{done_letter, sub_letters}
 use Rattle.world_model.specs.Client.{Client, client_row, nudge, submit, with_answer, with_end}
-use Rattle.world_model.specs.Coordinator.{Coordinator}
 use Rattle.world_model.specs.Core.{Core}
 use Rattle.world_model.specs.Counts.{one_if, tally}
 use Rattle.world_model.specs.Done.{TreeOut, note_part}
@@ -37,9 +37,9 @@ use Rattle.world_model.specs.Named.{is_strict_at, tree_kind_at}
 use Rattle.world_model.specs.Node.{Effect, Node}
 use Rattle.world_model.specs.Notices.{answer_noted, reply_letters, values_of}
 use Rattle.world_model.specs.Reads.{getting}
-use Rattle.world_model.specs.Runs.{IsStepRun, MayFollow, Says, client_in, coordinator_in, in_flight, keeping_in, node_in}
+use Rattle.world_model.specs.Runs.{IsStepRun, MayFollow, Says, client_in, in_flight, keeping_in, node_in}
 use Rattle.world_model.specs.Strict.{answered, core_by_kind, core_row, decided, locks_by, none_refuses, note_core, noted_vote, refused_there, release_letters, to_each, voting}
-use Rattle.world_model.specs.Tables.{client_table, coordinator_table}
+use Rattle.world_model.specs.Tables.{client_table}
 use Rattle.world_model.specs.Updates.{touching}
 use Rattle.world_model.specs.Votes.{vote_of}
 use Rattle.world_model.proofs.Bags.{one_if_most, one_if_same, tally-append, tally-drop}
@@ -47,7 +47,6 @@ use Rattle.world_model.proofs.Cases.{Case, Coordinates, NodeDoes, NodeKeeps, Sub
 use Rattle.world_model.proofs.Every.{each_none}
 use Rattle.world_model.proofs.Flows.{client_kept, flow, submit_none}
 use Rattle.world_model.proofs.Lawful.{is_nudge, nudged}
-use Rattle.world_model.proofs.Orders.{coordinator_each}
 use Rattle.world_model.proofs.Outstanding.{IsOutstanding}
 use Rattle.world_model.proofs.Scripts.{SubAt, get_below, sub_here}
 use Rattle.world_model.proofs.Sends.{on, subs_none, asked_each}
@@ -55,10 +54,9 @@ use Rattle.tree_laws.specs.Dids.{answers, letters_asking, replies, replies_to}
 use Rattle.tree_laws.specs.Stages.{StageAt, Answered, Gathers, Holds, Unborn, held_at, home_at}
 use Rattle.tree_laws.proofs.AptDecisions.{EachOpen, noted_answer, open_trees_carry_versions}
 use Rattle.tree_laws.proofs.AptStagesOwn.{sub_of_node, unborn_by}
-use Rattle.tree_laws.proofs.AptStagesRows.{noted_names}
 use Rattle.tree_laws.proofs.AptStagesRun.{stages_of_trees}
 use Rattle.tree_laws.proofs.AptStagesSteps.{sent_by}
-use Rattle.tree_laws.proofs.AptSteps.{client_moves, home_node}
+use Rattle.tree_laws.proofs.AptSteps.{client_moves}
 use Rattle.tree_laws.proofs.AptTurns.{no_turn_yet}
 use Rattle.tree_laws.proofs.AptVersions.{before, dated_run, is_right, is_version, misdated, version_is}
 use Rattle.tree_laws.proofs.Client.{answered_places}
@@ -66,6 +64,7 @@ use Rattle.tree_laws.proofs.Nudges.{nudge_sent, orders_none, rows_no_nudges, unh
 use Rattle.tree_laws.proofs.Turns.{answers_none, each_told, releases_none, replies_none}
 use Rattle.world_model.proofs.Epochs.{ask_each, order_each}
 use Rattle.world_model.proofs.Coordination.{coordinated_each}
+use Rattle.world_model.proofs.Notices.{answer_noted_tree}
 
 -- The row of a core sends no nudge.
 part_quiet : (s : ScriptData) (p from : ℕ) (v : Version) (raises : Bool) (e : Effect) (body : Body) (st : Node)
@@ -309,7 +308,7 @@ answered_in s past r t k v notice a p valid apt run out is lt to found =
     λ u h there. open_trees_carry_versions s past p (record { 0 = u }) h valid apt run lt there in
     let its : version_in a.tree.0 xs ≡ Some a.version =
     noted_answer (λ (u : ℕ) (w : Version). version_in u xs ≡ Some w) t k (values_of notice) hs a (misses t k hs) opened found in
-    let here : a.tree.0 ≡ t.0 = ap (λ (u : TreeNo). u.0) (noted_names t k (values_of notice) hs a found) in
+    let here : a.tree.0 ≡ t.0 = ap (λ (u : TreeNo). u.0) (answer_noted_tree t k (values_of notice) hs a found) in
     let both : Some a.version ≡ Some v = sym its ∙ ap (λ (u : ℕ). version_in u xs) here ∙ dated in
     cc both
 
@@ -317,7 +316,7 @@ answered_in s past r t k v notice a p valid apt run out is lt to found =
 pub root_unborn : (s : ScriptData) (past : List Entry) (t : ℕ) → IsValid s → AllApt s past → IsStepRun s past → t < length s.trees
     → 1 ≤ letters_asking s past t 0 → (home_at s past t ≡ None) × (held_at s past t ≡ None)
 root_unborn s past t valid apt run lt some =
-    let sub : SubAt s t 0 = sub_of_node s (home_of s t) t 0 refl (home_node s t valid lt) in
+    let sub : SubAt s t 0 = sub_of_node s (home_of s t) t 0 refl (home_below s t valid lt) in
     let first : 0 < length (subs_at s t) = get_below (subs_at s t) 0 sub.sub (sub_here s t 0 sub) in
     let u = unborn_by s past t sub (no_turn_yet s past t 0 sub valid apt run some) first (stages_of_trees s past valid apt run t lt) in
     (u.home, u.held)

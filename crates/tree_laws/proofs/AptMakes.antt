@@ -7,6 +7,7 @@ use Rattle.std.proofs.lemmas.List.Elements.{recursion_from_All}
 use Rattle.tv_base.proofs.Truths.{left_true, right_true}
 use Rattle.tv_base.specs.declared.numbers.TreeNo.{TreeNo}
 use Rattle.tv_base.specs.declared.numbers.Version.{Version}
+use Rattle.tv_base.proofs.ByPlace.{get_some}
 use Rattle.commute_ops.specs.declared.kinds.TheConstants.{MOST_AMOUNT}
 use Rattle.letter_types.specs.declared.bodies.Body.{Body}
 use Rattle.letter_types.specs.declared.bodies.Body.TheVariants.{Root, Sub as SubLetter, Decide}
@@ -29,9 +30,9 @@ use Rattle.world_model.specs.Named.{is_named, is_strict_at, is_timely, tree_kind
 use Rattle.world_model.specs.Node.{Node}
 use Rattle.world_model.specs.Runs.{IsStepRun, in_flight, keeping_in, node_in}
 use Rattle.world_model.specs.Strict.{can_make_at}
-use Rattle.world_model.proofs.Bags.{tally-append}
+use Rattle.world_model.proofs.Bags.{tally-append, one_if_both, tally_most}
 use Rattle.world_model.proofs.Outstanding.{IsOutstanding}
-use Rattle.world_model.proofs.Scripts.{SubAt, get_below, get_some, node_here, sub_here, tree_below}
+use Rattle.world_model.proofs.Scripts.{SubAt, get_below, node_here, sub_here, tree_below}
 use Rattle.tree_laws.specs.Applied.{AppliedWhereDecided, DecidedOnce, applied_at, decisions_to, tells_decision}
 use Rattle.tree_laws.specs.Dids.{asks, letters_asking}
 use Rattle.tree_laws.specs.Effects.{effects}
@@ -40,9 +41,8 @@ use Rattle.tree_laws.proofs.AptBounds.{asked_node, effect_bound, tables_keep}
 use Rattle.tree_laws.proofs.AptStagesOwn.{sub_of_node}
 use Rattle.tree_laws.proofs.AptStagesSteps.{all_in_flight}
 use Rattle.tree_laws.proofs.AptTurns.{no_turn_yet, turns_at_most_once}
-use Rattle.tree_laws.proofs.AptVersions.{tally_less}
 use Rattle.tree_laws.proofs.AptWindows.{near_has_room}
-use Rattle.tree_laws.proofs.Counts.{one_here, one_load_more}
+use Rattle.tree_laws.proofs.Counts.{one_load_more}
 use Rattle.tree_laws.proofs.Gets.{gets_found}
 use Rattle.tree_laws.proofs.Loads.{trees_done, trees_most}
 use Rattle.tree_laws.proofs.NodeLoads.{StrictTree, kind_here, node_load_more, node_ops_fit, ops_fit_kind, plain_kind, strict_there}
@@ -200,7 +200,7 @@ decision_waits s past r p t v out to is =
       tally-append (told_at t.0 p) (in_flight s past) (kept_by s past s.nodes),
       tally-append g (in_flight s past) (kept_by s past s.nodes),
       all_in_flight (tells_decision t.0 true) s past (record { roots = λ u. refl; subs = λ u k w. refl; wakes = λ u k. refl }),
-      tally_less (told_at t.0 p) g (kept_by s past s.nodes) (λ l. told_less t.0 p l (l.to.0 == p)),
+      tally_most (told_at t.0 p) g (kept_by s past s.nodes) (λ l. told_less t.0 p l (l.to.0 == p)),
     ) where
       one_if_same : (n : ℕ) → one_if ((n == n) && true) ≡ 1
       one_if_same n = grind (arith, nat_tests)
@@ -277,10 +277,10 @@ makes_by : (s : ScriptData) (past : List Entry) (r : Letter) (p : ℕ) (body : B
     → can_make_at s p (keeping_in s past p).core body ≡ true
 makes_by s past r p (Root t) g lt out to is named timely =
     made_by s past p t.0 0 (Root t) (tree_kind_at s t.0) refl
-    (asked_of s past r p r.from.0 t.0 0 (Root t) g lt out is (one_here t.0 0) named refl) g
+    (asked_of s past r p r.from.0 t.0 0 (Root t) g lt out is (one_if_both t.0 0) named refl) g
 makes_by s past r p (SubLetter t k v) g lt out to is named timely =
     made_by s past p t.0 k.0 (SubLetter t k v) (tree_kind_at s t.0) refl
-    (asked_of s past r p r.from.0 t.0 k.0 (SubLetter t k v) g lt out is (one_here t.0 k.0) named refl) g
+    (asked_of s past r p r.from.0 t.0 k.0 (SubLetter t k v) g lt out is (one_if_both t.0 k.0) named refl) g
 makes_by s past r p (Decide t v commit) g lt out to is named timely = decision_made s past r p t v commit g lt out to is named timely
 makes_by s past r p _ g lt out to is named timely = refl
 

@@ -6,6 +6,7 @@ use Rattle.std.proofs.lemmas.Bool.Decides.{nat_tests}
 use Rattle.tv_base.specs.declared.numbers.SubNo.{SubNo}
 use Rattle.tv_base.specs.declared.numbers.TreeNo.{TreeNo}
 use Rattle.tv_base.specs.declared.numbers.Version.{Version}
+use Rattle.tx_trees.proofs.SubsOf.{home_below}
 use Rattle.letter_types.specs.declared.bodies.Body.{Body}
 use Rattle.letter_types.specs.declared.bodies.Body.TheVariants.{Root, Sub as SubLetter, Done, Go, Decided}
 use Rattle.letter_types.specs.declared.bodies.Notice.{Notice}
@@ -19,9 +20,9 @@ use Rattle.tx_trees.specs.Valid.{IsValid}
 use Rattle.world_model.proofs.Coordination.{IsCoordinated}
 use Rattle.world_model.specs.AllApt.{AllApt}
 use Rattle.world_model.specs.Counts.{one_if, tally}
-use Rattle.world_model.specs.Runs.{IsStepRun, Says, client_in, coordinator_in, keeping_in}
+use Rattle.world_model.specs.Runs.{IsStepRun, Says, client_in, keeping_in}
 use Rattle.world_model.specs.Strict.{CoreKeeping}
-use Rattle.world_model.specs.Tables.{client_table, coordinator_table}
+use Rattle.world_model.specs.Tables.{client_table}
 use Rattle.world_model.proofs.Cases.{Case, Coordinates, Keeps, NodeDoes, NodeKeeps, Submits, case}
 use Rattle.world_model.proofs.Scripts.{tree_below}
 use Rattle.world_model.proofs.Sends.{on}
@@ -31,7 +32,7 @@ use Rattle.tree_laws.proofs.AptStagesApart.{apart_leaves, client_none, coordinat
 use Rattle.tree_laws.proofs.AptStagesOwn.{Doing, ack_home, sub_of_node}
 use Rattle.tree_laws.proofs.AptStagesRows.{IsApart}
 use Rattle.tree_laws.proofs.AptStagesSteps.{Uncounted, does_leaves, keeps_leaves}
-use Rattle.tree_laws.proofs.AptSteps.{does_near, enters, home_node, none_strays, strays}
+use Rattle.tree_laws.proofs.AptSteps.{does_near, enters, none_strays, strays}
 use Rattle.tree_laws.proofs.Sent.{other_tree}
 
 -- A letter of no tree, of another tree than w, or one that tells a node what was decided.
@@ -159,12 +160,12 @@ pub coordinator_leaves : (s : ScriptData) (past : List Entry) (e : Entry) (w : �
     → w < length s.trees → e.actor.0 ≡ s.nodes → IsCoordinated s e → Leaves s past e w
 coordinator_leaves s past e w valid apt run lt at made =
     apart_leaves s past e w run.0 (enters s past e valid apt run) (none_strays s past valid apt.1 run.1) (none_misplaced s past valid apt.1 run.1)
-    (home_node s w valid lt) (omega (arith, at))
+    (home_below s w valid lt) (omega (arith, at))
     (λ f none. coordinator_none f s e made none)
 
 pub client_leaves : (s : ScriptData) (past : List Entry) (e : Entry) (w : ℕ) → IsValid s → AllApt s (e ∷ past) → IsStepRun s (e ∷ past)
     → w < length s.trees → e.actor.0 ≡ client_of s → Says (client_table s (client_in s past) e.took) e → Leaves s past e w
 client_leaves s past e w valid apt run lt at says =
     apart_leaves s past e w run.0 (enters s past e valid apt run) (none_strays s past valid apt.1 run.1) (none_misplaced s past valid apt.1 run.1)
-    (home_node s w valid lt) (omega (arith, at))
+    (home_below s w valid lt) (omega (arith, at))
     (λ f none. ap (λ (os : List Outgoing). tally (on f) os) says.0 ∙ client_none f s (client_in s past) e.took.body none)

@@ -23,10 +23,9 @@ use Rattle.tx_trees.specs.declared.parts.Sub.{Sub}
 use Rattle.tx_trees.specs.declared.parts.TreeKind.{TreeKind}
 use Rattle.tx_trees.specs.declared.parts.TreeKind.TheVariants.{Update, Read, Strict}
 use Rattle.world_model.proofs.Epochs.{ask_each, order_each}
-use Rattle.world_model.specs.Lossy.{is_lossy}
 use Rattle.world_model.specs.Asked.{asked_ops, asked_version, tree_part}
 use Rattle.world_model.specs.Children.{done_letter, sub_letter, sub_letters}
-use Rattle.world_model.specs.Client.{Client, client_finishes, client_row, next_after, nudge, submit, with_answer, with_end, wanted}
+use Rattle.world_model.specs.Client.{Client, client_finishes, client_row, next_after, nudge, submit, with_answer, with_end}
 use Rattle.world_model.specs.Core.{Core, Refusals}
 use Rattle.world_model.specs.Counts.{tally}
 use Rattle.world_model.specs.Done.{TreeOut, note_part, turned_if}
@@ -40,10 +39,10 @@ use Rattle.world_model.specs.Votes.{vote_of}
 use Rattle.world_model.proofs.Bags.{tally-append}
 use Rattle.world_model.proofs.Flows.{finish_none}
 use Rattle.world_model.proofs.Keepings.{of_kept}
-use Rattle.tree_laws.proofs.AptStagesRows.{noted_names}
 use Rattle.tree_laws.proofs.Noting.{Last, More, Noting, misses_root, noting}
 use Rattle.tree_laws.proofs.Turns.{answers_none, is_asking, releases_none, replies_none}
 use Rattle.world_model.proofs.Sends.{asked_each}
+use Rattle.world_model.proofs.Notices.{answer_noted_tree}
 
 -- a letter that tells a decision
 abbrev pub is_decide : Body → Bool
@@ -120,7 +119,7 @@ gone_by t k values hs a false miss is = let none : None ≡ Some a = rw miss at 
 noted_gone : (t : TreeNo) (k : SubNo) (values : Gets) (hs : OpenTrees) (a : Answered) → answer_noted t k values hs ≡ Some a
     → homes_noted t k values hs a.tree.0 ≡ None
 noted_gone t k values hs a is =
-    let its : a.tree ≡ t = noted_names t k values hs a is in
+    let its : a.tree ≡ t = answer_noted_tree t k values hs a is in
     ap (λ (u : TreeNo). homes_noted t k values hs u.0) its ∙ gone_by t k values hs a (misses t k hs) refl is
 
 -- a tree that isn't answered with a notice that was missing is open
@@ -176,7 +175,7 @@ part_rules s p from v raises e (Root t) st asks =
       acts = λ g of. omega (arith, of (acts.Born t v) refl, told_other g t k e.notice of);
       sends = λ f of. subs_other f t.0 v.0 0 0 (subs_at s t.0) of;
       gone = λ a is. noted_gone t k (values_of e.notice) hs a is;
-      rules = λ a is. noted_names t k (values_of e.notice) hs a is;
+      rules = λ a is. answer_noted_tree t k (values_of e.notice) hs a is;
       stays = λ u none is lt.
           noted_open t k (values_of e.notice) hs u is (misses_root t k (length (subs_at s t.0)) v st.homes lt) none;
     }
@@ -207,7 +206,7 @@ note_part_rules s from t k v notice c = record {
   acts = λ g of. refl;
   sends = λ f of. refl;
   gone = λ a is. noted_gone t k (values_of notice) c.node.homes a is;
-  rules = λ a is. noted_names t k (values_of notice) c.node.homes a is;
+  rules = λ a is. answer_noted_tree t k (values_of notice) c.node.homes a is;
   stays = λ u none is miss. noted_open t k (values_of notice) c.node.homes u is miss none;
 }
 

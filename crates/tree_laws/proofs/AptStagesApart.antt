@@ -7,6 +7,7 @@ use Rattle.tv_base.proofs.Truths.{left_true}
 use Rattle.tv_base.specs.declared.numbers.SubNo.{SubNo}
 use Rattle.tv_base.specs.declared.numbers.TreeNo.{TreeNo}
 use Rattle.tv_base.specs.declared.numbers.Version.{Version}
+use Rattle.tx_trees.proofs.SubsOf.{home_below}
 use Rattle.letter_types.specs.Kept.{kept_without, wakes}
 use Rattle.letter_types.specs.Steps.{Out, still}
 use Rattle.letter_types.specs.declared.bodies.Body.{Body}
@@ -20,11 +21,10 @@ use Rattle.tree_home.specs.HeldAnswers.{answer_when_acked}
 use Rattle.tree_home.specs.declared.homes.Answered.{Answered}
 use Rattle.tx_trees.specs.ScriptData.{ScriptData, client_of, home_of, node_of, subs_at, visited_by, visits}
 use Rattle.tx_trees.specs.Valid.{IsValid}
-use Rattle.tx_trees.specs.declared.parts.Tree.{Tree}
 use Rattle.tx_trees.specs.declared.parts.TreeKind.{TreeKind}
 use Rattle.tx_trees.specs.declared.parts.TreeKind.TheVariants.{Update, Read, Strict}
 use Rattle.world_model.proofs.Epochs.{ask_each, order_each}
-use Rattle.world_model.specs.Lossy.{is_lossy}
+use Rattle.tx_trees.specs.Counts.{is_lossy}
 use Rattle.world_model.proofs.Coordination.{IsCoordinated, OfCoordinator, coordinated_each}
 use Rattle.letter_types.specs.declared.bodies.What.{What}
 use Rattle.letter_types.specs.declared.bodies.What.TheVariants as whats
@@ -33,7 +33,6 @@ use Rattle.world_model.specs.AllApt.{AllApt}
 use Rattle.world_model.specs.Asked.{asked_ops, asked_version, tree_part}
 use Rattle.world_model.specs.Children.{done_letter, sub_letters}
 use Rattle.world_model.specs.Client.{advances_sent, Client, client_row, nudge, submit, with_answer, with_end, wanted}
-use Rattle.world_model.specs.Coordinator.{Coordinator}
 use Rattle.world_model.specs.Core.{Core}
 use Rattle.world_model.specs.Counts.{Each, one_if, tally}
 use Rattle.world_model.specs.Done.{TreeOut, note_part}
@@ -42,19 +41,17 @@ use Rattle.world_model.specs.Kept.{kept_in, outstanding}
 use Rattle.world_model.specs.Named.{is_named, is_strict_at, tree_kind_at}
 use Rattle.world_model.specs.Node.{Effect, Node}
 use Rattle.world_model.specs.Notices.{reply_letters, values_of}
-use Rattle.world_model.specs.Runs.{IsStepRun, MayFollow, client_in, coordinator_in, keeping_in}
+use Rattle.world_model.specs.Runs.{IsStepRun, MayFollow, client_in, keeping_in}
 use Rattle.world_model.specs.Reads.{getting}
 use Rattle.world_model.specs.Strict.{answered, core_by_kind, core_row, decided, locks_by, none_refuses, note_core, noted_vote, refused_there, release_letters, to_each, voting}
 use Rattle.world_model.specs.Updates.{touching}
 use Rattle.world_model.specs.Votes.{vote_of}
-use Rattle.world_model.specs.Tables.{coordinator_table}
 use Rattle.world_model.proofs.Bags.{one_if_most, sealed_tally, tally-append}
-use Rattle.world_model.proofs.Cases.{Case, Coordinates, Does, NodeDoes, NodeKeeps, Submits, case}
+use Rattle.world_model.proofs.Cases.{Case, Coordinates, Does, NodeDoes, NodeKeeps, Submits, case, apt_named}
 use Rattle.world_model.proofs.Every.{each_none}
 use Rattle.world_model.proofs.Flows.{submit_none}
-use Rattle.world_model.proofs.Orders.{OfOrders, coordinator_each}
 use Rattle.world_model.proofs.Outstanding.{done_apart, keeping_elsewhere, outstanding_first, outstanding_step, took_outstanding}
-use Rattle.world_model.proofs.Scripts.{get_below, tree_below}
+use Rattle.world_model.proofs.Scripts.{tree_below, strict_there}
 use Rattle.world_model.proofs.Sends.{on, subs_none}
 use Rattle.world_model.proofs.Visited.{visited_below}
 use Rattle.tree_laws.specs.Dids.{asks, replies_to, tells_done}
@@ -62,7 +59,7 @@ use Rattle.tree_laws.specs.Stages.{decides}
 use Rattle.tree_laws.proofs.AptStages.{Leaves}
 use Rattle.tree_laws.proofs.AptStagesOwn.{sub_of_node}
 use Rattle.tree_laws.proofs.AptStagesSteps.{decides_no_asking, done_flow, notes_by, told, turned_by}
-use Rattle.tree_laws.proofs.AptSteps.{Enters, NoneStrays, apt_named, home_node, outside, strayed, strays, wakes_none}
+use Rattle.tree_laws.proofs.AptSteps.{Enters, NoneStrays, outside, strayed, strays, wakes_none}
 use Rattle.tree_laws.proofs.Turns.{answers_none, releases_none, replies_none}
 
 -- a notice, or a letter of a decision
@@ -203,17 +200,13 @@ core_placed s p from Go c has = refl
 core_placed s p from _ c has = refl
 
 -- the home of an apt letter's tree is a node
-strict_there : (s : ScriptData) (t : ℕ) (found : Option Tree) → slice_get s.trees t ≡ found → is_strict_at s t ≡ true → t < length s.trees
-strict_there s t None is strict = let none : false ≡ true = rw (is, tree_kind_at, is_strict_at) at strict in absurd (cc none)
-strict_there s t (Some tree) is strict = get_below s.trees t tree is
-
 has_home : (s : ScriptData) (p from : ℕ) (body : Body) → IsValid s → p < s.nodes → is_named s p from body ≡ true → HasHome s body
 has_home s p from (SubLetter t k v) valid lt named =
     let test = left_true (node_of s t.0 k.0 == p) (nat_lt from s.nodes) named in
     let here : node_of s t.0 k.0 ≡ p = grind (arith, nat_tests) in
-    home_node s t.0 valid (tree_below s t.0 k.0 (sub_of_node s p t.0 k.0 here lt))
+    home_below s t.0 valid (tree_below s t.0 k.0 (sub_of_node s p t.0 k.0 here lt))
 has_home s p from (Decide t v commit) valid lt named =
-    home_node s t.0 valid
+    home_below s t.0 valid
     (strict_there s t.0 (slice_get s.trees t.0) refl
     (left_true (is_strict_at s t.0) (visits (subs_at s t.0) p && nat_lt from s.nodes) named))
 has_home s p from Go valid lt named = tt

@@ -31,7 +31,7 @@ use Rattle.world_model.specs.Named.{is_named, is_strict_at, suits}
 use Rattle.world_model.specs.Notices.{answer_noted, values_of}
 use Rattle.world_model.specs.Runs.{IsStepRun, MayFollow, keeping_in}
 use Rattle.world_model.specs.Strict.{answer_letters, core_row}
-use Rattle.world_model.proofs.Cases.{Does, does_number}
+use Rattle.world_model.proofs.Cases.{Does, does_number, apt_named}
 use Rattle.world_model.proofs.Scripts.{SubAt, get_below, sub_here, sub_there, tree_below}
 use Rattle.world_model.proofs.Sends.{on}
 use Rattle.tree_laws.specs.Dids.{asks, letters_asking, notices, replies_to, tells_done}
@@ -40,7 +40,7 @@ use Rattle.tree_laws.specs.Turns.{has_turn, turns}
 use Rattle.tree_laws.proofs.AptStages.{Notes, Settles, acks_stage, adds, notes_stage}
 use Rattle.tree_laws.proofs.AptStagesRows.{RowBegins, RowNotes, RowSettles, answer_quiet, core_begins, core_notes}
 use Rattle.tree_laws.proofs.AptStagesSteps.{Beside, decides_no_asking, does_beside, done_flow, notes_by, sent_by, told, turned_by}
-use Rattle.tree_laws.proofs.AptSteps.{Enters, apt_named, done_before}
+use Rattle.tree_laws.proofs.AptSteps.{Enters, done_before}
 use Rattle.tree_laws.proofs.AptTurns.{no_turn_yet, parent_before, sub_has_turns, tree_there, turns_at_most_once, turns_below_root}
 use Rattle.tree_laws.proofs.Answering.{one_here}
 use Rattle.tree_laws.proofs.Noting.{misses_root, noted_other, noted_same}

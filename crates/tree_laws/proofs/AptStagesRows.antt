@@ -11,7 +11,7 @@ use Rattle.letter_types.specs.declared.votes.Vote.{Vote}
 use Rattle.letter_types.specs.Steps.{Out}
 use Rattle.tree_home.proofs.Maps.{put_at-other, put_at-same}
 use Rattle.tree_home.specs.HeldAnswers.{HeldAnswers, acked_of, answer_when_acked, held_for, held_in, last_answer}
-use Rattle.tree_home.specs.Homes.{Gets, OpenTrees, answer_in, begun, home_in, misses}
+use Rattle.tree_home.specs.Homes.{Gets, OpenTrees, begun, home_in}
 use Rattle.tree_home.specs.declared.homes.Answered.{Answered}
 use Rattle.tree_home.specs.declared.homes.Held.{Held}
 use Rattle.tx_trees.specs.ScriptData.{ScriptData, client_of, home_of, subs_at, visited_by}
@@ -32,22 +32,13 @@ use Rattle.world_model.specs.Updates.{touching}
 use Rattle.world_model.specs.Votes.{vote_of}
 use Rattle.world_model.proofs.Bags.{tally-append}
 use Rattle.world_model.proofs.Sends.{on, subs_none}
+use Rattle.world_model.proofs.Notices.{answer_noted_tree}
 use Rattle.tree_laws.specs.Dids.{replies_to}
 use Rattle.tree_laws.specs.Stages.{decides}
-use Rattle.tree_laws.proofs.Answering.{answers_tree, one_here}
+use Rattle.tree_laws.proofs.Answering.{one_here}
 use Rattle.tree_laws.proofs.Noting.{noted_keeps_others, root_keeps_others}
 use Rattle.tree_laws.proofs.Sent.{not_here}
 use Rattle.tree_laws.proofs.Turns.{each_told, has_kind, releases_none, replies_none}
-
--- an answer names the tree that was noted
-names_by : (t : TreeNo) (k : SubNo) (values : Gets) (hs : OpenTrees) (a : Answered) (test : Bool) → misses t k hs ≡ test
-    → answer_noted t k values hs ≡ Some a → a.tree ≡ t
-names_by t k values hs a true miss is =
-    let here : answer_in t k values hs ≡ Some a = rw miss at is in answers_tree t k values hs a miss here
-names_by t k values hs a false miss is = let none : None ≡ Some a = rw miss at is in absurd (cc none)
-
-pub noted_names : (t : TreeNo) (k : SubNo) (values : Gets) (hs : OpenTrees) (a : Answered) → answer_noted t k values hs ≡ Some a → a.tree ≡ t
-noted_names t k values hs a is = names_by t k values hs a (misses t k hs) refl is
 
 -- A row leaves tree w as it is: its letters of decisions are as many as the letter was one.
 pub record Aside (w : ℕ) (body : Body) (hs : OpenTrees) (holds : HeldAnswers) (out : Out Core) : Type 0 where
@@ -93,7 +84,7 @@ part_aside w holds s p from v raises e (Root t) st ne =
     let n : ℕ = length (subs_at s t.0) in
     record {
       home = root_keeps_others t (record { 0 = w }) k (values_of e.notice) n v st.homes (λ same. ne (sym same));
-      names = λ a at. names_other w t a ne (noted_names t k (values_of e.notice) (begun t n v st.homes) a at);
+      names = λ a at. names_other w t a ne (answer_noted_tree t k (values_of e.notice) (begun t n v st.homes) a at);
       replies = subs_none (replies_to w) t.0 v.0 0 0 (subs_at s t.0) (λ u j x. refl);
       decides = subs_none (decides w) t.0 v.0 0 0 (subs_at s t.0) (λ u j x. refl);
     }
@@ -201,7 +192,7 @@ note_aside w s from t k v notice c ne =
     let noted : Core = record c { refusals = refused_there t k notice c } in
     let it : PartAside w hs o = record {
       home = noted_keeps_others t (record { 0 = w }) k (values_of notice) hs (λ same. ne (sym same));
-      names = λ a at. names_other w t a ne (noted_names t k (values_of notice) hs a at);
+      names = λ a at. names_other w t a ne (answer_noted_tree t k (values_of notice) hs a at);
       replies = refl;
       decides = refl;
     } in
@@ -306,7 +297,7 @@ answered_notes s t k values hs c o plain it =
             (refl, (replies ∙ ap (λ (found : Option Answered). tally (on (replies_to t.0)) (reply_letters client found)) (it.answered ∙ is), quiet));
         strict = λ a is strict. absurd (cc (plain, strict));
         plain = λ a is not.
-            (refl, (replies ∙ reply_here client t.0 o.answered a (it.answered ∙ is) (ap (λ (u : TreeNo). u.0) (noted_names t k values hs a is)), quiet));
+            (refl, (replies ∙ reply_here client t.0 o.answered a (it.answered ∙ is) (ap (λ (u : TreeNo). u.0) (answer_noted_tree t k values hs a is)), quiet));
       };
     }
 
@@ -327,7 +318,7 @@ decided_notes s t k values hs c o None strict at it = record {
 }
 decided_notes s t k values hs c o (Some a) strict at it =
     let told : Body = Decide a.tree a.version (none_refuses a.tree c.refusals) in
-    let its : a.tree ≡ t = noted_names t k values hs a (sym it.answered ∙ at) in
+    let its : a.tree ≡ t = answer_noted_tree t k values hs a (sym it.answered ∙ at) in
     let here : a.tree.0 ≡ t.0 = ap (λ (u : TreeNo). u.0) its in
     let n : ℕ = length (visited_by s a.tree.0) in
     let same : n ≡ length (visited_by s t.0) = ap (λ (u : ℕ). length (visited_by s u)) here in

@@ -5,10 +5,12 @@ use Rattle.std.specs.List.{AllByRecursion}
 use Rattle.std.proofs.lemmas.Bool.Decides.{nat_tests}
 use Rattle.std.proofs.lemmas.List.Elements.{recursion_from_All}
 use Rattle.tv_base.specs.declared.numbers.Version.{Version}
+use Rattle.tv_base.proofs.Chosen.{unless_most}
+use Rattle.tx_trees.proofs.SubsOf.{home_below}
 use Rattle.letter_types.specs.declared.acts.Act.{Act}
 use Rattle.letter_types.specs.declared.acts.Act.TheVariants as acts
 use Rattle.letter_types.specs.declared.bodies.Body.{Body}
-use Rattle.letter_types.specs.declared.bodies.Body.TheVariants.{Advanced, AskAsked, AskDone, Go, Reply, Root, Show, Sub as SubLetter, Sweep, Turn, Wake, Ask, Order, Wanted, AdvanceNo, Advance as AdvanceLetter}
+use Rattle.letter_types.specs.declared.bodies.Body.TheVariants.{Advanced, AskAsked, AskDone, Go, Reply, Root, Show, Sub as SubLetter, Sweep, Turn, Wake, Ask, Order, Wanted}
 use Rattle.letter_types.specs.declared.bodies.Notice.{Notice}
 use Rattle.letter_types.specs.declared.bodies.Notice.TheVariants.{Did as DidNotice}
 use Rattle.letter_types.specs.declared.entries.Entry.{Entry}
@@ -18,9 +20,9 @@ use Rattle.letter_types.specs.declared.kept.KeptLetter.{KeptLetter}
 use Rattle.letter_types.specs.declared.kept.Why.{Why}
 use Rattle.letter_types.specs.Kept.{kept_without, wakes}
 use Rattle.letter_types.specs.Steps.{Out, still}
-use Rattle.tx_trees.proofs.SubsOf.{all_at, found_subs, names_end, sub_nodes}
-use Rattle.tx_trees.specs.ScriptData.{ScriptData, client_of, home_of, node_of, sub_at, subs_at}
-use Rattle.tx_trees.specs.Valid.{IsTree, IsValid, NamesInOrder}
+use Rattle.tx_trees.proofs.SubsOf.{names_end, sub_nodes}
+use Rattle.tx_trees.specs.ScriptData.{ScriptData, client_of, home_of, subs_at}
+use Rattle.tx_trees.specs.Valid.{IsValid, NamesInOrder}
 use Rattle.tx_trees.specs.declared.parts.ScriptRow.{ScriptRow}
 use Rattle.tx_trees.specs.declared.parts.ScriptRow.TheVariants.{Tree as TreeRow, Advance, Settle, Lose}
 use Rattle.tx_trees.specs.declared.parts.Sub.{Sub}
@@ -28,18 +30,15 @@ use Rattle.world_model.specs.Keeping.{woken_by}
 use Rattle.world_model.specs.AllApt.{AllApt}
 use Rattle.world_model.specs.Children.{done_letter, sub_letters}
 use Rattle.world_model.specs.Client.{Client, advance_letter, advances_sent, client_finishes, client_row, next_after, nudge, rows_letters, submit, submitted, wanted, with_answer, with_end}
-use Rattle.world_model.specs.Epochs.{is_core_timely}
-use Rattle.world_model.specs.Lossy.{is_lossy}
 use Rattle.world_model.specs.Core.{Core}
 use Rattle.world_model.specs.Counts.{one_if, tally}
 use Rattle.world_model.specs.Done.{turned_if}
 use Rattle.world_model.specs.Kept.{done_by, keeps_letter, kept_in, of_done, outstanding}
 use Rattle.world_model.specs.Runs.{IsStepRun, MayFollow, Says, client_in, keeping_in}
-use Rattle.world_model.specs.Strict.{CoreKeeping, can_make_at, core_row, decides_near, is_core_apt, is_unheld}
+use Rattle.world_model.specs.Strict.{CoreKeeping, core_row}
 use Rattle.world_model.specs.Tables.{client_table}
-use Rattle.world_model.specs.Named.{is_named, is_new}
 use Rattle.world_model.proofs.Bags.{sealed_tally, tally-append}
-use Rattle.world_model.proofs.Cases.{Case, Coordinates, Does, Keeps, NodeDoes, NodeKeeps, Submits, case, does_number, keeps_number}
+use Rattle.world_model.proofs.Cases.{Case, Coordinates, Does, Keeps, NodeDoes, NodeKeeps, Submits, case, does_number, keeps_number, apt_named}
 use Rattle.world_model.proofs.EachOutstanding.{done_outstanding}
 use Rattle.world_model.proofs.Coordination.{IsCoordinated, IsOfCoordinator}
 use Rattle.world_model.proofs.Every.{each_map, each_none}
@@ -47,7 +46,6 @@ use Rattle.world_model.proofs.Flows.{client_kept, finish_none}
 use Rattle.world_model.proofs.Keepings.{OfKeepings, of_kept}
 use Rattle.world_model.proofs.Orders.{of}
 use Rattle.world_model.proofs.Outstanding.{done_apart, outstanding_first, outstanding_step, took_outstanding}
-use Rattle.world_model.proofs.Scripts.{get_some}
 use Rattle.tree_laws.proofs.Sent.{tally_take_le, tally_take_more}
 use Rattle.tree_laws.proofs.Turns.{OfTreeActs, OfTreeLetters, Works, core_works, done_for, is_tree_act, is_tree_letter, sent_for, work_version}
 use Rattle.world_model.proofs.Sends.{asked_each, advance_each}
@@ -87,15 +85,6 @@ pub record Enters (s : ScriptData) (past : List Entry) (e : Entry) : Type 0 wher
       → tally f (take (client_in s (e ∷ past)).next s.rows) ≡ tally f (take (client_in s past).next s.rows) + tally f rows
   pub known : (f : ScriptRow → ℕ) → tally f rows ≤ tally f s.rows
 
--- What is known of an apt letter: what it names belongs to the node.
-named_of : (a b c : Bool) → (a && (b && c)) ≡ true → b ≡ true
-named_of a b c is = grind arith
-
-pub apt_named : (s : ScriptData) (p : ℕ) (c : Core) (l : Letter) → is_core_apt s p c l ≡ true → is_named s p l.from.0 l.body ≡ true
-apt_named s p c l apt =
-    named_of _ (is_named s p l.from.0 l.body)
-    (is_new s c.node l.body && is_unheld l.body c.holds && (is_core_timely s c l.body && decides_near s c.node l.body && can_make_at s p c l.body)) apt
-
 -- Wakes are no tree's letters.
 wake_none : (f : Outgoing → ℕ) (b : Bool) (o : Outgoing) (os : List Outgoing) → f o ≡ 0 → tally f os ≡ 0
     → tally f (if b then o ∷ os else os) ≡ 0
@@ -110,15 +99,11 @@ wakes_none f test (x ∷ xs) none =
     wake_none f (test x.why) wake (wakes test xs) (none x) (wakes_none f test xs none)
 
 -- A node does a letter.
-none_if_le : (b : Bool) (n : ℕ) → (if b then 0 else n) ≤ n
-none_if_le true n = omega arith
-none_if_le false n = omega arith
-
 -- the letter that an entry does is outstanding before it
 pub done_before : (f : Letter → ℕ) (s : ScriptData) (past : List Entry) (e : Entry) → MayFollow s past e
     → of_done f s past e ≤ tally f (outstanding s past)
 done_before f s past e m =
-    omega (arith, none_if_le (keeps_letter s past e) (f (done_by s past e)), done_outstanding s past e m f)
+    omega (arith, unless_most (keeps_letter s past e) (f (done_by s past e)), done_outstanding s past e m f)
 
 pub does_near : (s : ScriptData) (past : List Entry) (e : Entry) (p : ℕ) (r : Letter) → MayFollow s past e → NoneStrays s past
     → Does s past e p r → strays s r.to.0 r.body ≡ 0
@@ -381,14 +366,6 @@ sent_near s v notice (SubLetter t k w) valid =
     )
 sent_near s v notice _ valid = refl
 
--- a tree's home is a node
-pub home_node : (s : ScriptData) (t : ℕ) → IsValid s → t < length s.trees → home_of s t < s.nodes
-home_node s t valid lt =
-    let tree = get_some s.trees t lt in
-    let root = get_some tree.0.subs 0 (all_at (IsTree s.nodes s.items) s.trees t tree.0 valid.trees tree.1).root in
-    let here : sub_at s t 0 ≡ Some root.0 = ap (λ (xs : List Sub). slice_get xs 0) (found_subs s t tree.0 tree.1) ∙ root.1 in
-    rw (here, home_of, node_of) (all_at (λ (x : Sub). x.node.0 < s.nodes) (subs_at s t) 0 root.0 (nodes_of s t valid) here)
-
 -- a row's letter
 abbrev row_strays : ScriptData → ScriptRow → ℕ
 row_strays s (TreeRow t) = one_if (not (nat_lt (home_of s t.0) s.nodes))
@@ -410,7 +387,7 @@ rows_near : (s : ScriptData) (i : ℕ) (rows : List ScriptRow) → IsValid s →
 rows_near s i [] valid names = refl
 rows_near s i (TreeRow t ∷ rows) valid names =
     let lt : t.0 < length s.trees = omega (arith, names.0, names_end (i + 1) (length s.trees) rows names.1) in
-    let below : home_of s t.0 < s.nodes = home_node s t.0 valid lt in
+    let below : home_of s t.0 < s.nodes = home_below s t.0 valid lt in
     let near : one_if (not (nat_lt (home_of s t.0) s.nodes)) ≡ 0 = grind (arith, nat_tests) in
     omega (arith, near, rows_near s (i + 1) rows valid names.1)
 rows_near s i (Advance ∷ rows) valid names = omega (arith, rows_near s i rows valid names)

@@ -6,6 +6,7 @@ use Rattle.std.proofs.lemmas.Bool.Decides.{nat_tests}
 use Rattle.tv_base.specs.declared.numbers.SubNo.{SubNo}
 use Rattle.tv_base.specs.declared.numbers.TreeNo.{TreeNo}
 use Rattle.tv_base.specs.declared.numbers.Version.{Version}
+use Rattle.tv_base.proofs.ByPlace.{get_some}
 use Rattle.letter_types.specs.declared.acts.Act.TheVariants as acts
 use Rattle.letter_types.specs.declared.bodies.Body.{Body}
 use Rattle.letter_types.specs.declared.bodies.Body.TheVariants.{Go, Root, Sub as SubLetter}
@@ -31,7 +32,7 @@ use Rattle.world_model.specs.Strict.{core_row}
 use Rattle.world_model.proofs.Bags.{tally-append}
 use Rattle.world_model.proofs.Flows.{outstanding_flow}
 use Rattle.world_model.proofs.Outstanding.{outstanding_first}
-use Rattle.world_model.proofs.Scripts.{SubAt, get_below, get_some, sub_here}
+use Rattle.world_model.proofs.Scripts.{SubAt, get_below, sub_here}
 use Rattle.world_model.proofs.Sends.{on}
 use Rattle.tree_laws.specs.Dids.{asks, is_born, is_row_of, letters_asking}
 use Rattle.tree_laws.specs.Turns.{BirthsAreTurns, RootsHaveTurns, SubsHaveTurns, TurnsComeOnce, has_turn, turns}

@@ -19,22 +19,20 @@ use Rattle.tx_trees.specs.declared.parts.ScriptRow.{ScriptRow}
 use Rattle.tx_trees.specs.declared.parts.ScriptRow.TheVariants.{Tree as TreeRow, Advance, Settle, Lose}
 use Rattle.tx_trees.specs.declared.parts.Sub.{Sub}
 use Rattle.board_rules.specs.Histories.{Place, places_at, places_of, version_in}
-use Rattle.board_rules.proofs.Places.{version_in-append, version_stays}
+use Rattle.board_rules.proofs.Places.{version_in-append, version_stays, places_more}
 use Rattle.world_model.specs.AllApt.{AllApt}
 use Rattle.world_model.specs.Children.{done_letter, sub_letters}
 use Rattle.world_model.specs.Counts.{one_if, tally}
 use Rattle.world_model.specs.Kept.{outstanding}
 use Rattle.world_model.specs.Notices.{act_of}
 use Rattle.world_model.specs.Runs.{IsStepRun, client_in}
-use Rattle.world_model.proofs.Bags.{one_if_most, one_if_same, tally-append}
+use Rattle.world_model.proofs.Bags.{one_if_most, one_if_same, tally-append, one_if_both, tally_most}
 use Rattle.world_model.proofs.Flows.{outstanding_flow}
 use Rattle.world_model.proofs.Outstanding.{outstanding_first}
 use Rattle.world_model.proofs.Sends.{on, roots_none}
 use Rattle.tree_laws.specs.Dids.{asks, is_born, is_row_of, letters_asking, roots_sent}
 use Rattle.tree_laws.proofs.AptSteps.{Enters, done_before, enters}
 use Rattle.tree_laws.proofs.AptTurns.{births_are_turns, born_of, roots_have_turns}
-use Rattle.tree_laws.proofs.Counts.{one_here}
-use Rattle.tree_laws.proofs.Histories.{places_more}
 use Rattle.tree_laws.proofs.Sent.{rooted_once, tally_take_le}
 use Rattle.tree_laws.proofs.Turns.{OfTreeActs, OfTreeLetters, done_for, is_tree_letter, sent_for}
 use Rattle.tree_laws.proofs.Counted.{births_in, placed, unborn}
@@ -76,10 +74,6 @@ misdated_less xs ys (SubLetter t k v) = no_more xs ys t.0 v (is_version (version
 misdated_less xs ys (Done t k v notice) = no_more xs ys t.0 v (is_version (version_in t.0 xs) v) refl
 misdated_less xs ys Go = omega arith
 misdated_less xs ys _ = omega arith
-
-pub tally_less : (f g : Letter → ℕ) (ls : List Letter) → ((l : Letter) → f l ≤ g l) → tally f ls ≤ tally g ls
-tally_less f g [] le = omega arith
-tally_less f g (l ∷ ls) le = omega (arith, le l, tally_less f g ls le)
 
 misdated_of : (xs : List Place) → OfTreeLetters (on (misdated xs))
 misdated_of xs o is = by o.body is where
@@ -209,7 +203,7 @@ done_in : (s : ScriptData) (past : List Entry) (e : Entry) (to : ℕ) (v : Versi
     → ((g : Act → ℕ) → OfTreeActs g → tally g e.acts ≡ tally g (done_for v notice body))
     → misdated (before past) body ≡ 0 → DoneIn (before past ++ places_at e) v body
 done_in s past e to v notice (Root t) valid apt run waits does dated =
-    root_version s past e t.0 v valid apt run.1 (omega (arith, waits t.0, one_here t.0 0))
+    root_version s past e t.0 v valid apt run.1 (omega (arith, waits t.0, one_if_both t.0 0))
     (omega (arith, does (is_born t.0) (born_of t.0), one_if_same t.0))
     (omega (arith, does (born_otherwise t.0 v) (otherwise_of t.0 v), told_version t.0 v t.0 notice, born_now t.0 v.0))
 done_in s past e to v notice (SubLetter t k w) valid apt run waits does dated =
@@ -236,7 +230,7 @@ dated_next s past e valid apt run dated =
       arith,
       dated,
       outstanding_flow (misdated zs) s past e (λ t k. refl) run.0,
-      tally_less (λ (l : Letter). misdated zs l.body) (λ (l : Letter). misdated (before past) l.body) (outstanding s past)
+      tally_most (λ (l : Letter). misdated zs l.body) (λ (l : Letter). misdated (before past) l.body) (outstanding s past)
           (λ l. misdated_less (before past) (places_at e) l.body),
       n.sends (on (misdated zs)) (misdated_of zs),
       sent_dated s zs n.version n.notice n.body (done_dated s past e valid apt.1 run dated n),

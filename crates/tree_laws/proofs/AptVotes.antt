@@ -7,6 +7,7 @@ use Rattle.std.proofs.lemmas.Bool.Decides.{nat_tests}
 use Rattle.tv_base.specs.declared.numbers.SubNo.{SubNo}
 use Rattle.tv_base.specs.declared.numbers.TreeNo.{TreeNo}
 use Rattle.tv_base.specs.declared.numbers.Version.{Version}
+use Rattle.tx_trees.proofs.SubsOf.{home_below}
 use Rattle.letter_types.specs.Steps.{Out}
 use Rattle.letter_types.specs.declared.acts.Act.{Act}
 use Rattle.letter_types.specs.declared.acts.Act.TheVariants as acts
@@ -30,11 +31,10 @@ use Rattle.world_model.specs.Core.{Core, Refusals, lesser, refused_by}
 use Rattle.world_model.specs.Counts.{one_if, tally}
 use Rattle.world_model.specs.Keeping.{KeepingNode}
 use Rattle.world_model.specs.Named.{is_strict_at, suits}
-use Rattle.world_model.specs.Runs.{IsStepRun, MayFollow, client_in, coordinator_in, in_flight, keeping_in}
+use Rattle.world_model.specs.Runs.{IsStepRun, MayFollow, client_in, in_flight, keeping_in}
 use Rattle.world_model.specs.Strict.{CoreKeeping, answer_letters, core_row, none_refuses, refusals_after, refused_there}
 use Rattle.world_model.proofs.Cases.{Keeps, does_number, keeps_number}
 use Rattle.world_model.proofs.Keepings.{of_kept}
-use Rattle.world_model.proofs.Orders.{no_acts}
 use Rattle.world_model.proofs.Outstanding.{done_apart, keeping_elsewhere, took_outstanding}
 use Rattle.world_model.proofs.Scripts.{SubAt, get_below, sub_here}
 use Rattle.world_model.proofs.Sends.{on}
@@ -50,7 +50,7 @@ use Rattle.tree_laws.proofs.AptStagesApart.{CountsNoOthers, NoneMisplaced, clien
 use Rattle.tree_laws.proofs.AptStagesOwn.{Doing, NoteAt, ack_home, asked, home_here, note_at, note_missed, root_home, root_unturned, sub_of_node, sub_place, turned_here, unborn_by}
 use Rattle.tree_laws.proofs.AptStagesRun.{stages_of_trees}
 use Rattle.tree_laws.proofs.AptStagesSteps.{CountsNoAsking, done_flow, sent_by}
-use Rattle.tree_laws.proofs.AptSteps.{home_node, outside}
+use Rattle.tree_laws.proofs.AptSteps.{outside}
 use Rattle.tree_laws.proofs.AptTurns.{no_turn_yet}
 use Rattle.tree_laws.proofs.AptVotesRows.{RowVotes, core_votes, is_no, no_for, no_told, refusal_after, tells_no}
 use Rattle.tree_laws.proofs.Answering.{one_here}
@@ -549,14 +549,14 @@ next_votes s past e w valid apt run lt (Kept p r k d) = votes_stay s past e w (k
 next_votes s past e w valid apt run lt (ByCoordinator at made) =
     let quiet = made.acts in
     votes_stay s past e w
-    (apart_leaves s past e w run.0 (none_misplaced s past valid apt.1 run.1) (home_node s w valid lt) (omega (arith, at))
+    (apart_leaves s past e w run.0 (none_misplaced s past valid apt.1 run.1) (home_below s w valid lt) (omega (arith, at))
     (coordinator_none (tells_no w) s e made (tells_no_others w))
     (ap (λ (xs : List Act). tally (votes_no w) xs) quiet) (ap (λ (xs : List Act). decides_any w xs) quiet))
 next_votes s past e w valid apt run lt (ByClient at says) =
     let none = λ (g : Act → ℕ) (is : g acts.Finished ≡ 0).
     ap (λ (xs : List Act). tally g xs) says.1 ∙ client_acts g s (client_in s past) e.took.body is in
     votes_stay s past e w
-    (apart_leaves s past e w run.0 (none_misplaced s past valid apt.1 run.1) (home_node s w valid lt) (omega (arith, at))
+    (apart_leaves s past e w run.0 (none_misplaced s past valid apt.1 run.1) (home_below s w valid lt) (omega (arith, at))
     (ap (λ (os : List Outgoing). tally (on (tells_no w)) os) says.0 ∙ client_none (tells_no w) s (client_in s past) e.took.body (tells_no_others w))
     (none (votes_no w) refl)
     (omega (

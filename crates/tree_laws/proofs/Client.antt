@@ -17,7 +17,7 @@ use Rattle.world_model.proofs.Scripts.{get_below}
 use Rattle.std.proofs.lemmas.List.{length-set, length-replicate}
 use Rattle.tv_base.specs.declared.numbers.TreeNo.{TreeNo}
 use Rattle.letter_types.specs.declared.bodies.Body.{Body}
-use Rattle.letter_types.specs.declared.bodies.Body.TheVariants.{Go, Reply, Advanced, Ask, Order}
+use Rattle.letter_types.specs.declared.bodies.Body.TheVariants.{Go, Reply, Advanced, Ask}
 use Rattle.letter_types.specs.Steps.{still, Out}
 use Rattle.world_model.specs.Runs.{client_in}
 use Rattle.world_model.proofs.Sends.{asked_each}

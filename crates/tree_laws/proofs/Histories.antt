@@ -8,15 +8,8 @@ use Rattle.letter_types.specs.declared.entries.Entry.{Entry}
 use Rattle.tx_trees.specs.ScriptData.{ScriptData}
 use Rattle.board_rules.specs.Histories.{Place, places_at, places_of}
 use Rattle.board_rules.specs.Moves.{AtEachAct, OneByOne}
-use Rattle.board_rules.proofs.Places.{places_of-append}
 use Rattle.world_model.specs.Runs.{IsStepRun}
 use Rattle.world_model.proofs.Bridge.{reverse_more}
-
--- the acts of a history, with those of one entry more
-pub places_more : (e : Entry) (past : List Entry) → places_of (reverse (e ∷ past)) ≡ places_of (reverse past) ++ places_at e
-places_more e past =
-    ap places_of (reverse_more e past) ∙ places_of-append (reverse past) (e ∷ [])
-    ∙ ap (λ (xs : List Place). places_of (reverse past) ++ xs) (append-nil (places_at e))
 
 -- up to an earlier entry
 pub earlier : (e : Entry) (past : List Entry) (n : ℕ) → n ≤ length (reverse past)

@@ -8,12 +8,10 @@ use Rattle.tx_trees.specs.Valid.{NamesInOrder}
 use Rattle.tx_trees.specs.declared.parts.ScriptRow.{ScriptRow}
 use Rattle.tx_trees.specs.declared.parts.ScriptRow.TheVariants.{Tree as TreeRow, Advance, Settle, Lose}
 use Rattle.tx_trees.specs.declared.parts.Sub.{Sub}
-use Rattle.letter_types.specs.declared.bodies.Body.TheVariants.{AdvanceNo, Advance as AdvanceLetter}
 use Rattle.world_model.specs.Counts.{tally, one_if}
 use Rattle.world_model.proofs.Bags.{tally-append}
 use Rattle.world_model.specs.Children.{sub_letters}
 use Rattle.world_model.specs.Client.{advance_letter, rows_letters}
-use Rattle.world_model.specs.Lossy.{is_lossy}
 use Rattle.world_model.proofs.Sends.{on, roots_none, advance_each}
 use Rattle.tree_laws.specs.Dids.{asks, roots_sent}
 

@@ -3,7 +3,7 @@ use Rattle.std.proofs.Common.{◌≡◌, ◌≢◌, zero, suc, ◌<◌, ℕ, ◌
 use Rattle.std.specs.Prelude.{if◌then◌else◌, slice_get, unsigned_abs}
 use Rattle.std.specs.List.{AllByRecursion}
 use Rattle.std.proofs.lemmas.Bool.Decides.{nat_tests}
-use Rattle.std.proofs.lemmas.Bool.{and_from}
+use Rattle.std.proofs.lemmas.Bool.{and_from, eqb-false}
 use Rattle.tv_base.specs.declared.numbers.ItemNo.{ItemNo}
 use Rattle.tv_base.specs.declared.numbers.Version.{Version}
 use Rattle.commute_ops.specs.Ops.{value_start}
@@ -192,9 +192,6 @@ pub touched_table : (rows : List ItemRow) (p : ℕ) (bound : ℕ → ℕ) (v : V
 touched_table rows p bound v os items ops most all = (ops_may rows p bound v os items ops most all, ops_table rows p bound v os items ops all)
 
 -- At the start.
-other_node : (n p : ℕ) → (n == p) ≡ false → n ≢ p
-other_node n p is = grind (arith, nat_tests)
-
 start_same_at : (p i x : ℕ) (bound : ℕ → ℕ) (r q : ItemRow) (rows : List ItemRow) → r ≡ q → q.node.0 ≡ p → i ≡ x
     → unsigned_abs q.initial ≤ bound x
     → (test : Bool) → (r.node.0 == p) ≡ test → ItemIn q.kind (bound x) (item_in (record { 0 = x }) (items_at p i (r ∷ rows)))
@@ -204,7 +201,7 @@ start_same_at p i x bound r q rows rq node ix most true is =
     rw is (rw here (subst (λ (z : ItemRow). HeldIn q.kind (bound x) ((record { 0 = 0 }, value_start z.kind z.initial) ∷ [])) (sym rq) good))
 start_same_at p i x bound r q rows rq node ix most false is =
     let at : r.node.0 ≡ p = ap (λ (z : ItemRow). z.node.0) rq ∙ node in
-    absurd (omega (arith, other_node r.node.0 p is))
+    absurd (omega (arith, eqb-false r.node.0 p is))
 
 start_later_at : (p i x : ℕ) (r : ItemRow) (rows : List ItemRow) → i < x → (test : Bool) → (r.node.0 == p) ≡ test
     → item_in (record { 0 = x }) (items_at p i (r ∷ rows)) ≡ item_in (record { 0 = x }) (items_at p (i + 1) rows)

@@ -19,8 +19,7 @@ use Rattle.letter_types.specs.declared.votes.Vote.{Vote}
 use Rattle.letter_types.specs.Steps.{Out}
 use Rattle.tree_home.specs.declared.homes.Answered.{Answered}
 use Rattle.tree_home.specs.HeldAnswers.{answer_when_acked}
-use Rattle.tx_trees.specs.ScriptData.{ScriptData, client_of, node_of, sub_at, subs_at, visited_by}
-use Rattle.tx_trees.specs.declared.parts.Tree.{Tree}
+use Rattle.tx_trees.specs.ScriptData.{ScriptData, client_of, node_of, subs_at, visited_by}
 use Rattle.tx_trees.specs.declared.parts.TreeKind.{TreeKind}
 use Rattle.tx_trees.specs.declared.parts.TreeKind.TheVariants.{Update, Read, Strict}
 use Rattle.world_model.proofs.Epochs.{ask_each, order_each}
@@ -37,6 +36,7 @@ use Rattle.world_model.specs.Strict.{answer_by, answer_letters, answered, core_b
 use Rattle.world_model.specs.Updates.{touching}
 use Rattle.world_model.specs.Votes.{vote_of}
 use Rattle.world_model.proofs.Bags.{tally-append}
+use Rattle.world_model.proofs.Scripts.{no_node}
 
 -- a letter that asks for a subtransaction, or brings its notice
 abbrev pub is_tree_letter : Body → Bool
@@ -252,10 +252,6 @@ note_works s from t k v notice c =
     (decided_works s u body noted o o.answered none) (answered_works s u body c o none)
 
 -- a subtransaction that a node is asked for is there, so its tree has a kind
-no_node : (s : ScriptData) (t k : ℕ) (found : Option Tree) → slice_get s.trees t ≡ found → tree_kind_at s t ≡ None → node_of s t k ≡ s.nodes
-no_node s t k None is none = rw (is, subs_at, sub_at, node_of) refl
-no_node s t k (Some tree) is none = let some : Some tree.kind ≡ None = rw (is, tree_kind_at) at none in absurd (cc some)
-
 pub has_kind : (s : ScriptData) (p t k : ℕ) → p < s.nodes → (node_of s t k == p) ≡ true → tree_kind_at s t ≡ None → ⊥
 has_kind s p t k lt here none =
     let same : node_of s t k ≡ p = grind (arith, nat_tests) in

@@ -48,7 +48,7 @@ strict_entries s =
 
 -- the further entries of a run whose coordinator forgets, at most: each time it takes the letter that makes it forget, asks
 -- every node and the client, of which each takes the question and tells it, and tells the client how many advancements have
--- ended; and what was done of the advancement under way may have to be done again, where no node has come to it: two orders,
+-- ended; and what was done of the advancement in progress may have to be done again, where no node has come to it: two orders,
 -- each of which every node takes and answers, and a round
 abbrev pub lossy_entries : ScriptData → ℕ
 lossy_entries s = loses_in s.rows * (10 * s.nodes + 4)

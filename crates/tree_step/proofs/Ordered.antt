@@ -10,7 +10,8 @@ use Rattle.node_versions.specs.declared.turns.Turns.{Turns}
 use Rattle.pair_counters.specs.Counts.{Counts, dropped_below}
 use Rattle.pair_counters.specs.Rows.{CounterRows, counts_of}
 use Rattle.item_versions.specs.Collecting.{collected_all, may_collect_all}
-use Rattle.version_collect.proofs.Collected.{IsWindowedTable-collected_all, may_collect_all-windowed}
+use Rattle.item_versions.proofs.Window.{may_collect_all-windowed}
+use Rattle.version_collect.proofs.Collected.{IsWindowedTable-collected_all}
 use Rattle.tree_step.specs.Node.{IsInWindow, state_of}
 use Rattle.tree_step.specs.declared.node.NodeParts.{NodeParts}
 

@@ -4,18 +4,14 @@ use Rattle.std.specs.Prelude.{All, if◌then◌else◌}
 use Rattle.std.proofs.Math.Seq.{take-append_seam, take-length}
 use Rattle.std.proofs.lemmas.List.{append-nil, length-append}
 use Rattle.item_versions.specs.Table.{pending}
-use Rattle.letter_types.specs.declared.bodies.Body.{Body}
-use Rattle.letter_types.specs.declared.bodies.Body.TheVariants.{Root, Sub as SubLetter}
 use Rattle.letter_types.specs.declared.entries.Outgoing.{Outgoing}
 use Rattle.pair_counters.specs.Counts.{Counts}
 use Rattle.pair_counters.specs.Rows.{counts_of}
-use Rattle.tv_base.specs.declared.numbers.Version.{Version}
 use Rattle.tx_trees.specs.ScriptData.{ScriptData, client_of}
-use Rattle.world_model.specs.Asked.{tree_done, tree_part}
-use Rattle.world_model.specs.Done.{TreeOut, counted_root, counted_sub, raised_if, replied, sub_done}
+use Rattle.world_model.specs.Done.{TreeOut, counted_root, counted_sub, raised_if, replied}
 use Rattle.world_model.specs.Notices.{reply_letters}
 use Rattle.tree_step.specs.Changes.{after_change, home_after, IsNodeStepOf, IsReplied, IsTreePartOf, MayChange, MayCount, MayDo, SendsRequests}
-use Rattle.tree_step.specs.Node.{Effect, Node, data_of}
+use Rattle.tree_step.specs.Node.{Node, data_of}
 use Rattle.tree_step.specs.inside.Sent.{MOST_SENT}
 use Rattle.tree_step.specs.declared.change.Change.{Change}
 use Rattle.tree_step.specs.declared.change.Change.TheVariants.{Still, Tree, Turn, Show, Sweep}

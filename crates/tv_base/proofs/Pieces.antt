@@ -6,15 +6,16 @@ use Rattle.std.proofs.Math.Seq.{take-add}
 use Rattle.std.specs.Io.KnownBytes.{Appends, Consumes}
 use Rattle.tv_base.specs.Outside.{HasTaken}
 
-rest_is : (d : ℕ) (t : List ℕ) → take (length t - d) (drop d t) ≡ drop d t
-rest_is d t = take_all (length t - d) (drop d t) (omega (arith, length-drop d t))
+-- all that is behind a place
+pub rest_whole : (d : ℕ) (t : List ℕ) → take (length t - d) (drop d t) ≡ drop d t
+rest_whole d t = take_all (length t - d) (drop d t) (omega (arith, length-drop d t))
 
 -- one more piece of the rest after d
 pub appends_more : (a b c : Option (List ℕ)) (d n : ℕ) (t : List ℕ) → Appends a b (take d t) → Appends b c (take n (take (length t - d) (drop d t))) → Appends a c (take (d + n) t)
 appends_more None b c d n t p q = tt
 appends_more (Some x) None c d n t p q = absurd p
 appends_more (Some x) (Some y) None d n t p q = absurd q
-appends_more (Some x) (Some y) (Some z) d n t p q = (rw rest_is at q) ∙ ap (λ (w : List ℕ). w ++ take n (drop d t)) p ∙ append_assoc x (take d t) (take n (drop d t)) ∙ ap (λ (w : List ℕ). x ++ w) (sym (take-add d n t))
+appends_more (Some x) (Some y) (Some z) d n t p q = (rw rest_whole at q) ∙ ap (λ (w : List ℕ). w ++ take n (drop d t)) p ∙ append_assoc x (take d t) (take n (drop d t)) ∙ ap (λ (w : List ℕ). x ++ w) (sym (take-add d n t))
 
 -- what a source in memory gave
 pub gave : (bytes buf back : List ℕ) (at n : ℕ) → at + n ≤ length bytes → n ≤ length buf → back ≡ take (at + n - at) (drop at bytes) → (n ≤ length (back ++ drop n buf)) × (drop at bytes ≡ take n (back ++ drop n buf) ++ drop (at + n) bytes)

@@ -1,13 +1,13 @@
 -- A valid script is built again from its own rows: each of its records meets no condition of refusal, since every limit
 -- that holds of the whole script holds of what is before the record.
-use Rattle.std.proofs.Common.{◌≡◌, ◌<◌, ◌≤◌, ◌+◌, ◌*◌, ℕ, Bool, true, false, List, [], ◌∷◌, ◌++◌, length, map, refl, sym, ap, ◌∙◌, subst, arith, length-append, append_assoc, cond, suc, zero}
+use Rattle.std.proofs.Common.{◌≡◌, ◌<◌, ◌≤◌, ◌+◌, ◌*◌, ℕ, Bool, true, false, List, [], ◌∷◌, ◌++◌, length, map, refl, sym, ap, ◌∙◌, subst, arith, length-append, append_assoc, cond, suc, zero, drop, take}
 use Rattle.std.specs.Prelude.{◌==◌, ◌&&◌, not, IsTrue, Option, Some, None, Result, Ok, nat_eq, nat_le, nat_lt, position, slice_get, unsigned_abs}
 use Rattle.std.specs.List.{AllByRecursion, IsDistinct, list_any, position_or_len}
 use Rattle.std.specs.Str.{bytes_eq}
-use Rattle.std.proofs.lemmas.Bool.{lt-ltb, or_from}
+use Rattle.std.proofs.lemmas.Bool.{lt-ltb, or_from, le-ltb, lt-leb}
 use Rattle.std.proofs.lemmas.Cmp.{nat_eq_equiv, nat_list_eq_equiv}
 use Rattle.std.proofs.lemmas.Grind.{common_steps}
-use Rattle.std.proofs.lemmas.List.{append-nil, map-append}
+use Rattle.std.proofs.lemmas.List.{append-nil, map-append, take-append-drop}
 use Rattle.std.proofs.lemmas.Nat.{mul-le}
 use Rattle.commute_ops.specs.declared.kinds.Kind.{Kind}
 use Rattle.commute_ops.specs.declared.kinds.Kind.TheVariants as kinds
@@ -36,7 +36,7 @@ use Rattle.script_parts.specs.declared.parts.TreeKind.TheVariants as trees
 use Rattle.script_parts.specs.declared.parts.Written.{Written}
 use Rattle.script_parts.specs.declared.why.Why.{Why}
 use Rattle.script_parts.proofs.Last.{last_count_is, last_kind_is, last_node_is, last_sub_is, last_subs_is}
-use Rattle.script_parts.proofs.Lists.{all-before, all-push, all-seam, distinct-before, distinct-front, last_of-seam, le_not, lt_not, on_last-seam, or_left, or_right, slice_get-seam, sum-append, sum-push}
+use Rattle.script_parts.proofs.Lists.{all-before, all-push, all-seam, distinct-before, distinct-front, last_of-seam, on_last-seam, or_left, or_right, slice_get-seam, sum-append, sum-push}
 use Rattle.script_parts.proofs.Named.{any-map, has_item, has_tree}
 use Rattle.script_parts.proofs.SubsOf.{names_end}
 use Rattle.tx_trees.proofs.Undoing.{crowded_not, last_may_fail_is, may_fail_is, none_any}
@@ -68,11 +68,11 @@ module _ (s : ScriptData) (h : IsValid s) where
       let new : list_any (bytes_eq r.name) (item_names acc) ≡ false =
       distinct-front bytes_eq nat_list_eq_equiv.symm (item_names acc) (item_names rest) r.name (subst (IsDistinct bytes_eq) names h.distinct_items) in
       record {
-        place = le_not s.nodes r.node.0 item.node;
+        place = lt-leb s.nodes r.node.0 item.node;
         start = may_start-from s.form r (omega (arith, h.loads (length acc) within, ap initial_load here)) item.bag;
         plain = item.name;
         free = sym (has_item r.name acc) ∙ new;
-        room = le_not 10000 (length acc) (omega (arith, h.few_items, ap length e, length-append acc (r ∷ rest)));
+        room = lt-leb 10000 (length acc) (omega (arith, h.few_items, ap length e, length-append acc (r ∷ rest)));
       }
 
   items_done : (acc rest : List ItemRow) → acc ++ rest ≡ s.items → items_added (record (fresh s.form s.nodes) { items = acc }) rest ≡ Ok (record (fresh s.form s.nodes) { items = s.items })
@@ -219,9 +219,9 @@ module _ (s : ScriptData) (h : IsValid s) where
         begun = refl;
         node = same_number (node_at k s.items) (last_node ts) node;
         kind = fits;
-        room = or_from _ _ (or_from _ _ (le_not 16 (last_count ts) (omega (arith, sub.few))) (le_not 200000 (all_ops ts) (omega (arith, h.limited.ops))))
-            (lt_not 64 (trees_puts k ts + one_put o.deed) (omega (arith, h.limited.puts k within, put_same o k refl)));
-        load = lt_not (most_amount s.form) (load k (with_rows s ts rs true) + magnitude o.deed) (omega (arith, h.loads k within, load_same o k refl));
+        room = or_from _ _ (or_from _ _ (lt-leb 16 (last_count ts) (omega (arith, sub.few))) (lt-leb 200000 (all_ops ts) (omega (arith, h.limited.ops))))
+            (le-ltb 64 (trees_puts k ts + one_put o.deed) (omega (arith, h.limited.puts k within, put_same o k refl)));
+        load = le-ltb (most_amount s.form) (load k (with_rows s ts rs true) + magnitude o.deed) (omega (arith, h.loads k within, load_same o k refl));
         once = once;
       }
     where
@@ -282,11 +282,11 @@ module _ (s : ScriptData) (h : IsValid s) where
       let one : if_update (last_kind ts) 1 ≡ if_update kind 1 = ap (λ (q : TreeKind). if_update q 1) (last_kind_is ts u last) in
       let pairs = mul-le (strict_trees ts) (update_subs ts + if_update (last_kind ts) 1) (strict_trees s.trees) (update_subs s.trees) (omega arith) (omega arith) in
       record {
-        place = le_not s.nodes x.node.0 sub.node;
+        place = lt-leb s.nodes x.node.0 sub.node;
         begun = refl;
-        earlier = le_not (last_subs ts) x.parent.0 (omega (arith, sub.parent));
-        room = or_from _ _ (or_from _ _ (le_not 64 (last_subs ts) (omega (arith, tree.few))) (le_not 100000 (all_subs ts) (omega (arith, h.limited.subs))))
-            (lt_not 1000000 (strict_trees ts * (update_subs ts + if_update (last_kind ts) 1)) (omega (arith, pairs, h.limited.pairs)));
+        earlier = lt-leb (last_subs ts) x.parent.0 (omega (arith, sub.parent));
+        room = or_from _ _ (or_from _ _ (lt-leb 64 (last_subs ts) (omega (arith, tree.few))) (lt-leb 100000 (all_subs ts) (omega (arith, h.limited.subs))))
+            (le-ltb 1000000 (strict_trees ts * (update_subs ts + if_update (last_kind ts) 1)) (omega (arith, pairs, h.limited.pairs)));
       }
 
   subs_done : (T Ts : List Tree) (name : List ℕ) (kind : TreeKind) (S X : List Sub) (rs : List ScriptRow) → T ++ tree_of name kind (S ++ X) ∷ Ts ≡ s.trees → 0 < length S
@@ -324,13 +324,13 @@ module _ (s : ScriptData) (h : IsValid s) where
       let places = mul-le s.nodes (length T + 1) s.nodes (length s.trees) (omega arith) (omega arith) in
       let pairs = mul-le (strict_trees T + one_strict kind) (update_subs T + if_update kind 1) (strict_trees s.trees) (update_subs s.trees) (omega arith) (omega arith) in
       record {
-        place = le_not s.nodes x.node.0 tree.subs.0.node;
+        place = lt-leb s.nodes x.node.0 tree.subs.0.node;
         plain = tree.name;
         free = sym (has_tree name T) ∙ new;
-        room = or_from _ _ (or_from _ _ (or_from _ _ (or_from _ _ (le_not 20000 (length T) (omega (arith, h.few_trees)))
-            (lt_not 320000 (s.nodes * (length T + 1)) (omega (arith, places, h.limited.places)))) (le_not 100000 (all_subs T) (omega (arith, h.limited.subs))))
-            (lt_not 1000 (strict_trees T + one_strict kind) (omega (arith, h.limited.strict))))
-            (lt_not 1000000 ((strict_trees T + one_strict kind) * (update_subs T + if_update kind 1)) (omega (arith, pairs, h.limited.pairs)));
+        room = or_from _ _ (or_from _ _ (or_from _ _ (or_from _ _ (lt-leb 20000 (length T) (omega (arith, h.few_trees)))
+            (le-ltb 320000 (s.nodes * (length T + 1)) (omega (arith, places, h.limited.places)))) (lt-leb 100000 (all_subs T) (omega (arith, h.limited.subs))))
+            (le-ltb 1000 (strict_trees T + one_strict kind) (omega (arith, h.limited.strict))))
+            (le-ltb 1000000 ((strict_trees T + one_strict kind) * (update_subs T + if_update kind 1)) (omega (arith, pairs, h.limited.pairs)));
       }
 
   rooted_done : (T Ts : List Tree) (name : List ℕ) (kind : TreeKind) (subs : List Sub) (rs : List ScriptRow) (b : Bool) → T ++ tree_of name kind subs ∷ Ts ≡ s.trees
@@ -386,13 +386,13 @@ module _ (s : ScriptData) (h : IsValid s) where
   advance_taken : (T : List Tree) (R rest : List ScriptRow) (b : Bool) → R ++ rows.Advance ∷ rest ≡ s.rows → adds_advance (with_rows s T R b) ≡ Ok (with_rows s T (R ++ rows.Advance ∷ []) false)
   advance_taken T R rest b e =
       let some : advances_in s.rows ≡ advances_in R + (1 + advances_in rest) = ap advances_in (sym e) ∙ advances_in-append R (rows.Advance ∷ rest) in
-      let few : nat_le 100 (advances_in R) ≡ false = le_not 100 (advances_in R) (omega (arith, h.limited.advances)) in
+      let few : nat_le 100 (advances_in R) ≡ false = lt-leb 100 (advances_in R) (omega (arith, h.limited.advances)) in
       rw few refl
 
   lose_taken : (T : List Tree) (R rest : List ScriptRow) (b : Bool) → R ++ rows.Lose ∷ rest ≡ s.rows → adds_lose (with_rows s T R b) ≡ Ok (with_rows s T (R ++ rows.Lose ∷ []) false)
   lose_taken T R rest b e =
       let some : loses_in s.rows ≡ loses_in R + (1 + loses_in rest) = ap loses_in (sym e) ∙ loses_in-append R (rows.Lose ∷ rest) in
-      let few : nat_le 100 (loses_in R) ≡ false = le_not 100 (loses_in R) (omega (arith, h.limited.loses)) in
+      let few : nat_le 100 (loses_in R) ≡ false = lt-leb 100 (loses_in R) (omega (arith, h.limited.loses)) in
       rw few refl
 
   -- the script with the first of its trees alone, the last of them as it was before it failed
@@ -462,7 +462,7 @@ module _ (s : ScriptData) (h : IsValid s) where
   unheavy T Ts t rs b e = none_any (λ (x : ℕ). nat_lt (most_amount s.form) (load x (with_rows s (T ++ t ∷ []) rs b))) 0 (length s.items) (λ x from lt.
       let all : trees_load x s.trees ≡ trees_load x T + (subs_load x t.subs + trees_load x Ts) = ap (trees_load x) (sym e) ∙ sum-append (λ (v : Tree). subs_load x v.subs) (trees_load x) (load_total x).trees T (t ∷ Ts) in
       let now = sum-push (λ (v : Tree). subs_load x v.subs) (trees_load x) (load_total x).trees T t in
-      lt_not (most_amount s.form) (load x (with_rows s (T ++ t ∷ []) rs b)) (omega (arith, h.loads x (omega arith))))
+      le-ltb (most_amount s.form) (load x (with_rows s (T ++ t ∷ []) rs b)) (omega (arith, h.loads x (omega arith))))
 
   -- a tree that was written as w
   written_done : (T Ts : List Tree) (t : Tree) (rs : List ScriptRow) (b : Bool) (w : Option Written) → t.written ≡ w → T ++ t ∷ Ts ≡ s.trees → MayHaveFailed s.form s.nodes s.items T t w
@@ -559,3 +559,8 @@ module _ (s : ScriptData) (h : IsValid s) where
       ∙ taken _ _ (λ u. picks_added u s.picks) done.1
       ∙ picked.1 in
       (last, built, record { form = refl; nodes = refl; items = refl; trees = refl; rows = refl; picks = refl })
+
+-- some of the rows ask for no more advancements than all
+pub asked_most : (n : ℕ) (rows : List ScriptRow) → advances_in (take n rows) ≤ advances_in rows
+asked_most n rows =
+    omega (arith, advances_in-append (take n rows) (drop n rows), ap advances_in (take-append-drop n rows))

@@ -3,7 +3,7 @@ use Rattle.std.proofs.Common.{◌≡◌, ◌<◌, ◌≤◌, ◌+◌, ◌*◌, �
 use Rattle.std.specs.Prelude.{◌&&◌, ◌||◌, not, if◌then◌else◌, IsTrue, Option, Some, None, nat_eq, nat_le, nat_lt, slice_get, unsigned_abs}
 use Rattle.std.specs.List.{AllByRecursion, IsDistinct, list_any}
 use Rattle.std.specs.Str.{bytes_eq}
-use Rattle.std.proofs.lemmas.Bool.{cases_eq, cases_lt, eqb-true}
+use Rattle.std.proofs.lemmas.Bool.{cases_eq, cases_lt, eqb-true, leb-false, ltb-false}
 use Rattle.std.proofs.lemmas.Cmp.{nat_eq_equiv, nat_list_eq_equiv}
 use Rattle.std.proofs.lemmas.Grind.{common_steps}
 use Rattle.std.proofs.lemmas.List.{append-nil, map-append}
@@ -36,7 +36,7 @@ use Rattle.script_parts.specs.declared.parts.TreeKind.{TreeKind}
 use Rattle.script_parts.specs.declared.parts.TreeKind.TheVariants as trees
 use Rattle.script_parts.specs.declared.parts.Written.{Written}
 use Rattle.script_parts.proofs.Last.{last_count_is, last_kind_is, last_node_is, last_sub_is, last_subs_is, length-on_last}
-use Rattle.script_parts.proofs.Lists.{all-last, all-on_last, all-push, all-weaker, distinct-push, last_of-on_last, last_of-seam, last_some, not_le, not_lt, on_last-seam, or_left, or_right, slice_get-seam, split_last, sum-push}
+use Rattle.script_parts.proofs.Lists.{all-last, all-on_last, all-push, all-weaker, distinct-push, last_of-on_last, last_of-seam, last_some, on_last-seam, or_left, or_right, slice_get-seam, split_last, sum-push}
 use Rattle.script_parts.proofs.Named.{any-map, has_item, has_tree}
 use Rattle.script_parts.proofs.SubsOf.{most_amount-small, most_nodes-small}
 use Rattle.script_parts.proofs.Totals.{all_subs-sum, load_other, load_same, load_total, op_total, put_other, put_same, put_total, strict-op, strict-sub, strict-sum, subs-op, subs-sub, total-op, total-sub, total-tree, update-op, update-sub, update-sum}
@@ -288,10 +288,10 @@ starts_empty f r e bag =
 pub valid_item : (s : ScriptData) (r : ItemRow) → MayAddItem s r → IsValid s → IsValid (with_item s r)
 valid_item s r may h =
     let more : length (s.items ++ r ∷ []) ≡ length s.items + 1 = omega (arith, length-append s.items (r ∷ [])) in
-    let few = not_le 10000 (length s.items) may.room in
+    let few = leb-false 10000 (length s.items) may.room in
     let idle = trees_before s.nodes s.items s.trees h.trees in
     let small = starts_small s.form r may.start in
-    let item : IsItem s.nodes r = record { node = not_le s.nodes r.node.0 may.place; bag = starts_empty s.form r may.start; name = may.plain; small = omega (arith, small, most_amount-small s.form) } in
+    let item : IsItem s.nodes r = record { node = leb-false s.nodes r.node.0 may.place; bag = starts_empty s.form r may.start; name = may.plain; small = omega (arith, small, most_amount-small s.form) } in
     let names : item_names (s.items ++ r ∷ []) ≡ item_names s.items ++ r.name ∷ [] = map-append (λ (x : ItemRow). x.name) s.items (r ∷ []) in
     let new : list_any (bytes_eq r.name) (item_names s.items) ≡ false = has_item r.name s.items ∙ may.free in
     let fresh : initial_load (slice_get (s.items ++ r ∷ []) (length s.items)) ≡ unsigned_abs r.initial = ap initial_load (slice_get-seam s.items [] r) in
@@ -348,11 +348,11 @@ trees_left nodes kind ts e =
     let f = or_left (a || b || c) d e in
     let g = or_left (a || b) c f in
     record {
-      trees = not_le 20000 (length ts) (or_left z y (or_left a b g));
-      places = not_lt 320000 (nodes * (length ts + 1)) (or_right z y (or_left a b g));
-      subs = not_le 100000 (all_subs ts) (or_right a b g);
-      strict = not_lt 1000 (strict_trees ts + one_strict kind) (or_right (a || b) c f);
-      pairs = not_lt 1000000 ((strict_trees ts + one_strict kind) * (update_subs ts + if_update kind 1)) (or_right (a || b || c) d e);
+      trees = leb-false 20000 (length ts) (or_left z y (or_left a b g));
+      places = ltb-false 320000 (nodes * (length ts + 1)) (or_right z y (or_left a b g));
+      subs = leb-false 100000 (all_subs ts) (or_right a b g);
+      strict = ltb-false 1000 (strict_trees ts + one_strict kind) (or_right (a || b) c f);
+      pairs = ltb-false 1000000 ((strict_trees ts + one_strict kind) * (update_subs ts + if_update kind 1)) (or_right (a || b || c) d e);
     }
 
 pub valid_tree : (s : ScriptData) (name : List ℕ) (kind : TreeKind) (node : NodeNo) → MayAddTree s name kind node → IsValid s → IsValid (with_tree s name kind node)
@@ -367,7 +367,7 @@ valid_tree s name kind node may h =
     let root : IsSub s.nodes s.items kind 0 x = record {
       root = λ _. refl;
       parent = λ p. omega arith;
-      node = not_le s.nodes node.0 may.place;
+      node = leb-false s.nodes node.0 may.place;
       few = omega arith;
       ops = tt;
       amounts = tt;
@@ -421,9 +421,9 @@ subs_left ts e =
     let c = are_many (strict_trees ts) (update_subs ts + if_update (last_kind ts) 1) in
     let f = or_left (a || b) c e in
     record {
-      tree = not_le 64 (last_subs ts) (or_left a b f);
-      subs = not_le 100000 (all_subs ts) (or_right a b f);
-      pairs = not_lt 1000000 (strict_trees ts * (update_subs ts + if_update (last_kind ts) 1)) (or_right (a || b) c e);
+      tree = leb-false 64 (last_subs ts) (or_left a b f);
+      subs = leb-false 100000 (all_subs ts) (or_right a b f);
+      pairs = ltb-false 1000000 (strict_trees ts * (update_subs ts + if_update (last_kind ts) 1)) (or_right (a || b) c e);
     }
 
 pub valid_sub : (s : ScriptData) (parent : ℕ) (node : NodeNo) → MayAddSub s parent node → IsValid s → IsValid (with_sub s parent node)
@@ -431,8 +431,8 @@ valid_sub s parent node may h =
     let x : Sub = record { parent = record { 0 = parent }; node = node; ops = [] } in
     let some = h.begun may.begun in
     let left = subs_left s.trees may.room in
-    let earlier = not_le (last_subs s.trees) parent may.earlier in
-    let place = not_le s.nodes node.0 may.place in
+    let earlier = leb-false (last_subs s.trees) parent may.earlier in
+    let place = leb-false s.nodes node.0 may.place in
     let len = length-on_last (push_sub x) s.trees in
     let names = names-on_last (push_sub x) s.trees (λ t. refl) in
     let strict = strict-sub s.trees x some in
@@ -498,9 +498,9 @@ ops_left k deed ts e =
     let c = nat_lt 64 (trees_puts k ts + one_put deed) in
     let f = or_left (a || b) c e in
     record {
-      sub = not_le 16 (last_count ts) (or_left a b f);
-      ops = not_le 200000 (all_ops ts) (or_right a b f);
-      puts = not_lt 64 (trees_puts k ts + one_put deed) (or_right (a || b) c e);
+      sub = leb-false 16 (last_count ts) (or_left a b f);
+      ops = leb-false 200000 (all_ops ts) (or_right a b f);
+      puts = ltb-false 64 (trees_puts k ts + one_put deed) (or_right (a || b) c e);
     }
 
 abbrev kind_in : Option ItemRow → Kind
@@ -536,7 +536,7 @@ valid_op s k deed may h =
     let some = h.begun may.begun in
     let left = ops_left k deed s.trees may.room in
     let node = eqb-true (node_at k s.items) (last_node s.trees) may.node in
-    let small = not_lt (most_amount s.form) (load k s + magnitude deed) may.load in
+    let small = ltb-false (most_amount s.form) (load k s + magnitude deed) may.load in
     let root = some_last_subs s.nodes s.items s.trees h.trees some in
     let len = length-on_last (on_last_sub (push_op o)) s.trees in
     let names = names-on_last (on_last_sub (push_op o)) s.trees (λ t. refl) in

@@ -3,9 +3,10 @@ use Rattle.std.proofs.Common.{◌≡◌, ◌<◌, ◌≤◌, ◌+◌, ◌*◌, �
 use Rattle.std.specs.Prelude.{◌==◌, ◌||◌, not, if◌then◌else◌, IsTrue, Option, Some, None, nat_lt}
 use Rattle.std.specs.List.{AllByRecursion, IsDistinct}
 use Rattle.std.specs.Str.{bytes_eq}
-use Rattle.std.proofs.lemmas.Bool.{and_from, cases_eq, or_from}
+use Rattle.std.proofs.lemmas.Bool.{and_from, cases_eq, or_from, le-ltb, ltb-false}
 use Rattle.std.proofs.lemmas.Grind.{common_steps}
 use Rattle.tv_base.proofs.Truths.{at_most, left_true, right_true}
+use Rattle.tv_base.proofs.Chosen.{if_zero}
 use Rattle.commute_ops.specs.declared.kinds.Op.TheVariants as ops
 use Rattle.script_parts.specs.Adding.{any_from, are_crowded, are_many, failed_tree, is_heavy, last_may_fail, last_of, last_subs, last_tree_subs, may_fail, on_last, with_failed}
 use Rattle.script_parts.specs.Counts.{all_ops, all_subs, if_update, one_put, one_strict, ops_puts, strict_trees, subs_ops, subs_puts, trees_puts, update_subs}
@@ -36,7 +37,7 @@ use Rattle.script_parts.specs.declared.parts.TreeKind.{TreeKind}
 use Rattle.script_parts.specs.declared.parts.TreeKind.TheVariants as trees
 use Rattle.script_parts.specs.declared.parts.Written.{Written}
 use Rattle.script_parts.proofs.Last.{last_at, last_subs_is, last_tree_subs_is, length-on_last}
-use Rattle.script_parts.proofs.Lists.{last_weight, all-last, all-on_last, all-weaker, last_of-on_last, last_of-seam, last_some, lt_not, not_lt, or_left, or_right, split_last, sum-replaced}
+use Rattle.script_parts.proofs.Lists.{last_weight, all-last, all-on_last, all-weaker, last_of-on_last, last_of-seam, last_some, or_left, or_right, split_last, sum-replaced}
 use Rattle.script_parts.proofs.SubsOf.{most_amount-small, only_update}
 use Rattle.tx_trees.proofs.Stays.{failed-last, last_written_is, names-on_last, op_within}
 use Rattle.script_parts.proofs.Loading.{all_light, not_heavy}
@@ -81,8 +82,8 @@ fails_adds t e = right_true (is_update t.kind) (subs_add t.subs) e
 
 pub crowded_not : (ts : List Tree) → last_subs ts ≤ 64 → all_subs ts ≤ 100000 → all_ops ts ≤ 200000 → strict_trees ts * update_subs ts ≤ 1000000 → are_crowded ts ≡ false
 crowded_not ts tree subs ops pairs =
-    or_from _ _ (or_from _ _ (or_from _ _ (lt_not 64 (last_subs ts) tree) (lt_not 100000 (all_subs ts) subs)) (lt_not 200000 (all_ops ts) ops))
-    (lt_not 1000000 (strict_trees ts * update_subs ts) pairs)
+    or_from _ _ (or_from _ _ (or_from _ _ (le-ltb 64 (last_subs ts) tree) (le-ltb 100000 (all_subs ts) subs)) (le-ltb 200000 (all_ops ts) ops))
+    (le-ltb 1000000 (strict_trees ts * update_subs ts) pairs)
 
 pub record RoomLeft (ts : List Tree) : Type 0 where
   pub tree : last_subs ts ≤ 64
@@ -99,10 +100,10 @@ room_left ts e =
     let f = or_left (a || b || c) d e in
     let g = or_left (a || b) c f in
     record {
-      tree = not_lt 64 (last_subs ts) (or_left a b g);
-      subs = not_lt 100000 (all_subs ts) (or_right a b g);
-      ops = not_lt 200000 (all_ops ts) (or_right (a || b) c f);
-      pairs = not_lt 1000000 (strict_trees ts * update_subs ts) (or_right (a || b || c) d e);
+      tree = ltb-false 64 (last_subs ts) (or_left a b g);
+      subs = ltb-false 100000 (all_subs ts) (or_right a b g);
+      ops = ltb-false 200000 (all_ops ts) (or_right (a || b) c f);
+      pairs = ltb-false 1000000 (strict_trees ts * update_subs ts) (or_right (a || b || c) d e);
     }
 
 -- a tree of `add` operations has no `put`, and neither has its undone form
@@ -115,14 +116,10 @@ add_no_put deeds.Get e = refl
 add_no_put (deeds.Set a) e = refl
 add_no_put (deeds.Draw a) e = refl
 
-none_here : (b : Bool) (n : ℕ) → n ≡ 0 → (if b then n else 0) ≡ 0
-none_here true n e = e
-none_here false n e = refl
-
 ops_no_put : (x : ℕ) (os : List SubOp) → ops_add os ≡ true → ops_puts x os ≡ 0
 ops_no_put x [] e = refl
 ops_no_put x (o ∷ os) e =
-    omega (arith, none_here (o.item.0 == x) (one_put o.deed) (add_no_put o.deed (left_true (is_add o.deed) (ops_add os) e)), ops_no_put x os (right_true (is_add o.deed) (ops_add os) e))
+    omega (arith, if_zero (o.item.0 == x) (one_put o.deed) (add_no_put o.deed (left_true (is_add o.deed) (ops_add os) e)), ops_no_put x os (right_true (is_add o.deed) (ops_add os) e))
 
 pub subs_no_put : (x : ℕ) (ss : List Sub) → subs_add ss ≡ true → subs_puts x ss ≡ 0
 subs_no_put x [] e = refl
@@ -250,7 +247,7 @@ valid_failed s k may h =
       few_trees = omega (arith, h.few_trees);
       items = h.items;
       trees = all-on_last (IsTree s.nodes s.items) f s.trees h.trees step;
-      loads = λ x lt. not_lt (most_amount s.form) (load x (with_failed s k))
+      loads = λ x lt. ltb-false (most_amount s.form) (load x (with_failed s k))
           (any_none (λ (y : ℕ). nat_lt (most_amount s.form) (load y (with_failed s k))) 0 (length s.items) x may.light (omega arith) (omega arith));
       rows = rw len h.rows;
       begun = λ e. absurd cc;
@@ -385,9 +382,9 @@ crowded_tree ts n is lt =
 
 pub crowded_last : (ts : List Tree) (b : Bool) → last_subs ts ≤ 64 → all_subs ts ≤ 100000 → all_ops ts ≤ 200000 → b ≡ are_many (strict_trees ts) (update_subs ts) → b ≡ are_crowded ts
 crowded_last ts b tree subs ops e =
-    e ∙ sym (ap (λ (x : Bool). x || nat_lt 100000 (all_subs ts) || nat_lt 200000 (all_ops ts) || are_many (strict_trees ts) (update_subs ts)) (lt_not 64 (last_subs ts) tree)
-    ∙ ap (λ (x : Bool). false || x || nat_lt 200000 (all_ops ts) || are_many (strict_trees ts) (update_subs ts)) (lt_not 100000 (all_subs ts) subs)
-    ∙ ap (λ (x : Bool). false || false || x || are_many (strict_trees ts) (update_subs ts)) (lt_not 200000 (all_ops ts) ops))
+    e ∙ sym (ap (λ (x : Bool). x || nat_lt 100000 (all_subs ts) || nat_lt 200000 (all_ops ts) || are_many (strict_trees ts) (update_subs ts)) (le-ltb 64 (last_subs ts) tree)
+    ∙ ap (λ (x : Bool). false || x || nat_lt 200000 (all_ops ts) || are_many (strict_trees ts) (update_subs ts)) (le-ltb 100000 (all_subs ts) subs)
+    ∙ ap (λ (x : Bool). false || false || x || are_many (strict_trees ts) (update_subs ts)) (le-ltb 200000 (all_ops ts) ops))
 
 -- how many there are with the undone form
 pub record Sizes (s : ScriptData) (k : ℕ) (expanded : List Sub) : Type 0 where
@@ -471,12 +468,12 @@ module _ (s : Inside) (k : ℕ) (expanded : List Sub) (q : IsFailing s k expande
       let small : (x : ℕ) → x < length s.totals.items → get_or s.totals.items x 0 ≤ most = λ x lt. omega (arith, h.totals x (omega (arith, h.len)), h.valid.loads x (omega (arith, h.len))) in
       same_answer (subs_heavy most now expanded) (is_heavy d)
       (λ light.
-      none_any (λ (x : ℕ). nat_lt most (load x d)) 0 (length s.items.items) (λ x from lt. lt_not most (load x d)
+      none_any (λ (x : ℕ). nat_lt most (load x d)) 0 (length s.items.items) (λ x from lt. le-ltb most (load x d)
       (omega (arith, t.loads x (omega arith), all_light s.totals.items now (last_tree_subs s.trees.items) expanded most r small light x (omega (arith, h.len))))))
       (λ light.
       not_heavy most now expanded within (λ x lt.
       let here : x < length s.items.items = omega (arith, t.len) in
-      omega (arith, t.loads x here, not_lt most (load x d) (any_none (λ (y : ℕ). nat_lt most (load y d)) 0 (length s.items.items) x light (omega arith) (omega (arith, here))))))
+      omega (arith, t.loads x here, ltb-false most (load x d) (any_none (λ (y : ℕ). nat_lt most (load y d)) 0 (length s.items.items) x light (omega arith) (omega (arith, here))))))
 
   -- what was done with the totals, by what a script keeps
   pub own_totals : (most : ℕ) (off on : List Sub) (now : List ℕ) (b : Bool) → most ≡ most_amount s.form → off ≡ last_tree_subs s.trees.items → on ≡ expanded → Reloads most s.totals.items now off on b

@@ -24,24 +24,23 @@ use Rattle.world_model.specs.Core.{Core}
 use Rattle.world_model.specs.Counts.{one_if, tally}
 use Rattle.world_model.specs.Named.{is_named, is_strict_at, tree_kind_at}
 use Rattle.world_model.specs.Notices.{act_of}
-use Rattle.world_model.specs.Runs.{IsStepRun, client_in, coordinator_in, keeping_in}
+use Rattle.world_model.specs.Runs.{IsStepRun, client_in, keeping_in}
 use Rattle.world_model.specs.Strict.{notice_by}
 use Rattle.world_model.specs.Votes.{vote_of}
-use Rattle.world_model.proofs.Cases.{Case, Coordinates, NodeDoes, NodeKeeps, Submits, case}
-use Rattle.world_model.proofs.Orders.{no_acts}
+use Rattle.world_model.proofs.Cases.{Case, Coordinates, NodeDoes, NodeKeeps, Submits, case, apt_named}
 use Rattle.world_model.proofs.Outstanding.{IsOutstanding}
 use Rattle.world_model.proofs.Scripts.{get_below}
+use Rattle.world_model.proofs.Bags.{one_if_and}
 use Rattle.board_rules.specs.Stands.{votes_yes}
 use Rattle.tree_laws.specs.Applied.{applied_at, decided_as, decisions_to, noes, votes_no}
 use Rattle.tree_laws.proofs.AptVotes.{decided_by_votes}
 use Rattle.tree_laws.specs.Stages.{StageAt, Answered, Gathers, Holds, Unborn}
 use Rattle.tree_laws.specs.Turns.{has_turn, turns}
-use Rattle.tree_laws.proofs.AptApplied.{applied_where_decided, less_and}
+use Rattle.tree_laws.proofs.AptApplied.{applied_where_decided}
 use Rattle.tree_laws.proofs.AptDecided.{Once, decided_any, once_in_run}
 use Rattle.tree_laws.proofs.AptMakes.{decision_waits}
 use Rattle.tree_laws.proofs.AptRulings.{client_acts}
 use Rattle.tree_laws.proofs.AptStagesRun.{stages_of_trees}
-use Rattle.tree_laws.proofs.AptSteps.{apt_named}
 use Rattle.tree_laws.proofs.NodeLoads.{strict_there}
 use Rattle.value_laws.specs.VoteLocks.{yeses_at}
 use Rattle.value_laws.proofs.RowActs.{asked_acts, is_lasting, keeping_lasts, lasting, lasting_acts, row_lasts, tally_lasting}
@@ -102,7 +101,7 @@ vote_turn s q t k u j (Yes values) node =
       yes_here s q t u.0 j.0 k ((u.0 == t) && (j.0 == k)) node refl,
       tail_in (q == node_of s t k) (one_if ((u.0 == t) && (j.0 == k))),
     )
-vote_turn s q t k u j (No cause) node = omega (arith, less_and (u.0 == t) (j.0 == k))
+vote_turn s q t k u j (No cause) node = omega (arith, one_if_and (u.0 == t) (j.0 == k))
 
 asked_turn : (s : ScriptData) (c : Core) (q t k : ℕ) (u : TreeNo) (j : SubNo) (body : Body) (kind : Option TreeKind)
     → tree_kind_at s u.0 ≡ kind → is_strict_at s t ≡ true → node_of s u.0 j.0 ≡ q → HasVoted s q t k (asked_acts s c u j body kind)

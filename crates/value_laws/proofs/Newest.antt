@@ -45,19 +45,18 @@ use Rattle.world_model.specs.Node.{Node}
 use Rattle.world_model.specs.Runs.{IsStepRun, keeping_in, node_in}
 use Rattle.world_model.specs.Strict.{CoreKeeping, core_keeping, core_row, meets}
 use Rattle.world_model.specs.Votes.{mode_wanted, newer_at, newer_by, newer_in, wanted_by}
-use Rattle.world_model.proofs.Cases.{Case, Coordinates, Does, Keeps, NodeDoes, NodeKeeps, Submits, case, does_number}
+use Rattle.world_model.proofs.Cases.{Case, Coordinates, Does, Keeps, NodeDoes, NodeKeeps, Submits, case, does_number, apt_named}
 use Rattle.world_model.proofs.Keepings.{of_kept}
 use Rattle.world_model.proofs.Outstanding.{IsOutstanding, keeping_elsewhere}
 use Rattle.world_model.proofs.Scripts.{get_below}
 use Rattle.board_rules.specs.Histories.{Place, places_at, places_of, version_in}
-use Rattle.board_rules.proofs.Places.{version_stays}
+use Rattle.board_rules.proofs.Places.{version_stays, places_more}
 use Rattle.tree_laws.specs.Dids.{asks}
 use Rattle.tree_laws.proofs.AptItems.{Applies, Changes, Collects, Follows, Raises, Rests, Shows, Touches, core_changes}
 use Rattle.tree_laws.proofs.AptDecisions.{dated_here}
-use Rattle.tree_laws.proofs.AptSteps.{apt_named, done_before}
+use Rattle.tree_laws.proofs.AptSteps.{done_before}
 use Rattle.tree_laws.proofs.AptVersions.{before, version_is}
 use Rattle.tree_laws.proofs.AptWindows.{apt_timely}
-use Rattle.tree_laws.proofs.Histories.{places_more}
 use Rattle.tree_laws.proofs.NodeLoads.{plain_kind}
 use Rattle.tree_laws.proofs.Seen.{raised_low}
 use Rattle.tree_laws.proofs.Tables.{collected_of, item_collected}
@@ -70,7 +69,6 @@ use Rattle.value_laws.proofs.HeldItems.{collected_most, commit_other, none_newer
 use Rattle.value_laws.proofs.HoldRows.{HoldComes, IsNoDecision, Stood, Taken, apart_none, hold_comes}
 use Rattle.value_laws.proofs.VoteLocks.{has_some, vote_locks_stand}
 use Rattle.world_model.proofs.Epochs.{order_timely}
-use Rattle.world_model.specs.Epochs.{is_core_timely}
 
 -- An update that meets no lock marks no item that is held.
 other_item : (a b : ℕ) (x y : Bool) → x ≡ true → y ≡ true → ((a == b) && (x && y)) ≡ false → (b == a) ≡ false

@@ -49,13 +49,13 @@ use Rattle.world_model.proofs.Every.{each_map, each_none, node_kept}
 use Rattle.world_model.proofs.Keepings.{of_kept}
 use Rattle.board_rules.specs.Histories.{Place, places_at, version_in}
 use Rattle.board_rules.specs.Worth.{first_value}
+use Rattle.board_rules.proofs.Places.{places_more}
 use Rattle.tree_laws.specs.Carried.{CarriesVersion}
 use Rattle.tree_laws.specs.SeenAt.{seen_at}
 use Rattle.tree_laws.proofs.AptDecisions.{dated_here, letters_carry_versions, misdecided}
 use Rattle.tree_laws.proofs.AptItems.{Applies, Changes, Collects, Follows, Raises, Rests, Shows, Touches, core_changes}
 use Rattle.tree_laws.proofs.AptVersions.{DoneIn, before, is_right, is_version, still_by, version_is}
 use Rattle.tree_laws.proofs.AptWindows.{apt_timely, nodes_in_window}
-use Rattle.tree_laws.proofs.Histories.{places_more}
 use Rattle.tree_laws.proofs.NodeLoads.{StrictTree, node_ops_fit, strict_there}
 use Rattle.tree_laws.proofs.Seen.{raised_low, start_shows}
 use Rattle.tree_laws.proofs.Turns.{work_version}

@@ -7,7 +7,7 @@ use Rattle.tv_base.specs.declared.numbers.Version.{Version}
 use Rattle.tv_base.proofs.Truths.{left_true, right_true}
 use Rattle.item_versions.specs.Item.{Held, CanCollect, collected, seen}
 use Rattle.item_versions.specs.Table.{Table, IsHeldTable}
-use Rattle.item_versions.specs.Window.{IsWindowed, IsWindowedTable}
+use Rattle.item_versions.specs.Window.{IsWindowedTable}
 use Rattle.item_versions.proofs.Holding.{none-past}
 use Rattle.item_versions.proofs.Order.{IsHeld-collected}
 use Rattle.item_versions.proofs.Seen.{seen-collected}
@@ -89,14 +89,3 @@ IsWindowedTable-collected_all low f (e ∷ es) le win = (
   IsWindowed-collected low f e.1 le (CanCollect-windowed low f e.1 win.0 le) win.0,
   IsWindowedTable-collected_all low f es le win.1,
 )
-
-may-windowed : (low : ℕ) (f : Version) (h : Held) → IsWindowed low h → low ≤ f.0 → may_collect f h ≡ true
-may-windowed low f [] win le = absurd (omega (arith, win.least.0))
-may-windowed low f (x ∷ xs) win le = let first = win.least.1 in grind (arith, nat_tests)
-
--- a windowed table may be collected to its low version, and to any later one
-pub may_collect_all-windowed : (low : ℕ) (f : Version) (t : Table) → low ≤ f.0 → IsWindowedTable low t
-    → may_collect_all f t ≡ true
-may_collect_all-windowed low f [] le win = refl
-may_collect_all-windowed low f (e ∷ es) le win =
-    rw (may-windowed low f e.1 win.0 le) (may_collect_all-windowed low f es le win.1)

@@ -4,13 +4,13 @@ use Rattle.std.specs.Prelude.{slice_get, slice_set, IfSome}
 use Rattle.std.specs.List.{remove}
 use Rattle.std.proofs.lemmas.List.{length-append, length-reverse}
 use Rattle.tv_base.specs.declared.numbers.Stamp.{Stamp}
+use Rattle.tv_base.proofs.ByPlace.{get_some}
 use Rattle.letter_types.specs.declared.entries.Letter.{Letter}
 use Rattle.letter_types.specs.declared.entries.StepOut.{StepOut}
 use Rattle.letter_types.specs.declared.entries.Entry.{Entry}
 use Rattle.letter_types.specs.Letters.{sealed}
 use Rattle.tx_trees.specs.ScriptData.{ScriptData}
 use Rattle.tx_trees.specs.Valid.{IsValid}
-use Rattle.world_model.proofs.Scripts.{get_some}
 use Rattle.world_model.proofs.Addressees.{may_reach}
 use Rattle.world_model.proofs.SmallCounts.{small_counts}
 use Rattle.world_core.specs.declared.actor.ActorState.{ActorState}

@@ -17,7 +17,7 @@ use Rattle.letter_types.specs.Letters.{sealed}
 use Rattle.letter_types.specs.Steps.{Out, made}
 use Rattle.tx_trees.specs.ScriptData.{ScriptData, client_of}
 use Rattle.tx_trees.specs.Valid.{IsValid}
-use Rattle.world_model.specs.Lossy.{is_lossy}
+use Rattle.tx_trees.specs.Counts.{is_lossy}
 use Rattle.world_model.specs.Runs.{MayFollow, Moves, AtNode, AtCoordinator, AtRestarting, AtClient, Says, actor_in, coordination_in, coordinator_in, restarting_in, in_flight}
 use Rattle.world_model.proofs.Gone.{unique}
 use Rattle.world_model.proofs.Addressees.{addressed}

@@ -74,7 +74,7 @@ fn start_coordination(alloc: Global, script: &Script) -> ActorState
     ensures script { IsFor script.now result }
 {
     let nodes = script.nodes();
-    if script.loses() > 0 {
+    if script.is_lossy() {
         ActorState::Restarting(Restarting::new(alloc, nodes))
     } else {
         ActorState::Coordinator(Coordinator::new(alloc, nodes))

@@ -8,9 +8,10 @@ use Rattle.letter_types.specs.declared.entries.Posting.{Posting}
 use Rattle.letter_types.specs.Letters.{go, own, find_id, letters_of}
 use Rattle.letter_types.specs.Postal.{IsMessageRun, delivery_of, letters_sent}
 use Rattle.letter_types.specs.Steps.{Out}
+use Rattle.letter_types.proofs.Postings.{entry_at, posting_at}
 use Rattle.script_parts.specs.ScriptData.{ScriptData, client_of}
 use Rattle.world_model.specs.Restarting.{start_restarting}
-use Rattle.world_model.specs.Lossy.{is_lossy}
+use Rattle.script_parts.specs.Counts.{is_lossy}
 use Rattle.world_model.specs.Keeping.{KeepingNode, keeping_row, start_keeping}
 use Rattle.world_model.specs.Coordinator.{start_coordinator}
 use Rattle.world_model.specs.Client.{start_client}
@@ -26,17 +27,6 @@ pub record IsPostalEntry (client : ℕ) (h : List Entry) : Type 0 where
   pub once : (j k : ℕ) (e f : Entry) → j < k → slice_get h j ≡ Some e → slice_get h k ≡ Some f → (e.took.id ≡ f.took.id → ⊥)
   pub addressee : (k : ℕ) (e : Entry) → slice_get h k ≡ Some e → e.took.to.0 ≡ e.actor.0
   pub known : (k : ℕ) (e : Entry) → slice_get h k ≡ Some e → e.actor.0 < client + 1
-
-posting_at : (h : List Entry) (k : ℕ) (e : Entry) → slice_get h k ≡ Some e → slice_get (map delivery_of h) k ≡ Some (delivery_of e)
-posting_at [] k e at = absurd (grind arith)
-posting_at (x ∷ h) zero e at = let same : x ≡ e = grind arith in ap (λ (y : Entry). Some (delivery_of y)) same
-posting_at (x ∷ h) (suc k) e at = posting_at h k e at
-
-pub entry_at : (h : List Entry) (k : ℕ) (p : Posting) → slice_get (map delivery_of h) k ≡ Some p
-    → (e : Entry) × (slice_get h k ≡ Some e) × (delivery_of e ≡ p)
-entry_at [] k p at = absurd (grind arith)
-entry_at (x ∷ h) zero p at = (x, refl, grind arith)
-entry_at (x ∷ h) (suc k) p at = entry_at h k p at
 
 abbrev Came : ℕ → List Entry → ℕ → Letter → Type 0
 Came client h k l =

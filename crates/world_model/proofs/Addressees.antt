@@ -19,7 +19,7 @@ use Rattle.script_parts.specs.Valid.{IsValid}
 use Rattle.script_parts.specs.declared.parts.ScriptRow.{ScriptRow}
 use Rattle.script_parts.specs.declared.parts.ScriptRow.TheVariants.{Tree as TreeRow, Settle, Advance, Lose}
 use Rattle.world_model.specs.Restarting.{Restarting, restarting_row, start_restarting}
-use Rattle.world_model.specs.Lossy.{is_lossy}
+use Rattle.script_parts.specs.Counts.{is_lossy}
 use Rattle.world_model.specs.Client.{Client, advances_sent, client_row, nudge, rows_letters, submit, submitted, wanted, with_answer, with_end}
 use Rattle.world_model.specs.Coordinator.{Coordinator, coordinator_row, start_coordinator}
 use Rattle.world_model.specs.Counts.{Each}

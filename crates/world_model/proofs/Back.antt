@@ -10,7 +10,7 @@ use Rattle.letter_types.specs.declared.entries.Entry.{Entry}
 use Rattle.letter_types.specs.Letters.{go, own, same_id, find_id, drop_id, letters_of}
 use Rattle.script_parts.specs.ScriptData.{ScriptData, client_of}
 use Rattle.world_model.specs.Restarting.{start_restarting}
-use Rattle.world_model.specs.Lossy.{is_lossy}
+use Rattle.script_parts.specs.Counts.{is_lossy}
 use Rattle.world_model.specs.Keeping.{keeping_row, start_keeping}
 use Rattle.world_model.specs.Coordinator.{start_coordinator}
 use Rattle.world_model.specs.Tables.{NodeData, CoordinatorData, RestartingData, ClientData, client_table, coordinator_table, restarting_table}
@@ -19,9 +19,9 @@ use Rattle.world_model.specs.Counts.{tally, one_if}
 use Rattle.world_model.proofs.Bags.{tally-drop}
 use Rattle.world_model.proofs.Bridge.{reverse_more, own_more, node_after, coordinator_after, restarting_after, client_after}
 use Rattle.world_model.proofs.Actors.{IsTableRun, world_of_tables, node_data_after, coordinator_data_after, restarting_data_after, client_data_after}
-use Rattle.world_model.proofs.Gone.{apart_from, same_is, of_id, found_one, Gone, gone_now, gone}
+use Rattle.world_model.proofs.Gone.{apart_from, of_id, found_one, Gone, gone_now, gone}
 use Rattle.letter_types.specs.Steps.{Out}
-use Rattle.letter_types.proofs.Ids.{same_id-self}
+use Rattle.letter_types.proofs.Ids.{same_id-self, id_is}
 use Rattle.world_model.specs.Client.{start_client}
 
 -- where a letter in flight comes from
@@ -79,7 +79,7 @@ not_the_taken : (s : ScriptData) (past : List Entry) (e : Entry) (l : Letter) �
     → find_id l.id (in_flight s (e ∷ past)) ≡ Some l → (b : Bool) → same_id l.id e.took.id ≡ b → same_id l.id e.took.id ≡ false
 not_the_taken s past e l run at false is = is
 not_the_taken s past e l run at true is =
-    let none : tally (of_id l.id) (in_flight s (e ∷ past)) ≡ 0 = subst (λ (i : LetterId). tally (of_id i) (in_flight s (e ∷ past)) ≡ 0) (sym (same_is l.id e.took.id is)) (gone_now s past e run).1 in
+    let none : tally (of_id l.id) (in_flight s (e ∷ past)) ≡ 0 = subst (λ (i : LetterId). tally (of_id i) (in_flight s (e ∷ past)) ≡ 0) (sym (id_is l.id e.took.id is)) (gone_now s past e run).1 in
     let one : of_id l.id l ≡ 1 = ap one_if (found_one l.id (in_flight s (e ∷ past)) l at) in
     absurd (omega (arith, tally-drop (of_id l.id) l.id (in_flight s (e ∷ past)) l at))
 

@@ -1,5 +1,6 @@
 -- Sums over the letters in flight.
-use Rattle.std.proofs.Common.{◌≡◌, ℕ, ◌+◌, ◌≤◌, ◌==◌, Bool, true, false, List, ◌∷◌, ◌++◌, refl, ap, arith, Some, []}
+use Rattle.std.proofs.Common.{◌≡◌, ℕ, ◌+◌, ◌≤◌, ◌==◌, Bool, true, false, List, ◌∷◌, ◌++◌, refl, ap, arith, Some, [], ◌≢◌, ◌&&◌}
+use Rattle.std.proofs.lemmas.Bool.Decides.{nat_tests}
 use Rattle.tv_base.proofs.Truths.{same_test}
 use Rattle.letter_types.specs.declared.entries.LetterId.{LetterId}
 use Rattle.letter_types.specs.declared.entries.Letter.{Letter}
@@ -10,7 +11,7 @@ use Rattle.script_parts.specs.ScriptData.{ScriptData}
 use Rattle.world_model.specs.Runs.{in_flight, MayFollow}
 use Rattle.world_model.specs.Counts.{tally, one_if}
 
--- a test counts for one at most, and that of a number and itself for one
+-- a test counts for one at most, and that of a number and itself for one; so does each of two
 
 pub one_if_most : (b : Bool) → one_if b ≤ 1
 one_if_most true = omega arith
@@ -18,6 +19,20 @@ one_if_most false = omega arith
 
 pub one_if_same : (t : ℕ) → one_if (t == t) ≡ 1
 one_if_same t = ap one_if (same_test t)
+
+pub one_if_other : (a b : ℕ) → a ≢ b → one_if (a == b) ≡ 0
+one_if_other a b ne = grind (arith, nat_tests)
+
+pub one_if_both : (a b : ℕ) → one_if ((a == a) && (b == b)) ≡ 1
+one_if_both a b = grind (arith, nat_tests)
+
+pub one_if_and : (a b : Bool) → one_if (a && b) ≤ one_if a
+one_if_and true b = one_if_most b
+one_if_and false b = omega arith
+
+pub tally_most : {X : Type 0} (f g : X → ℕ) (xs : List X) → ((x : X) → f x ≤ g x) → tally f xs ≤ tally g xs
+tally_most f g [] le = omega arith
+tally_most f g (x ∷ xs) le = omega (arith, le x, tally_most f g xs le)
 
 pub tally-append : {X : Type 0} (f : X → ℕ) (xs ys : List X) → tally f (xs ++ ys) ≡ tally f xs + tally f ys
 tally-append f [] ys = omega arith

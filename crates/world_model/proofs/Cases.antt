@@ -3,6 +3,7 @@
 use Rattle.std.proofs.Common.{◌≡◌, ℕ, ◌<◌, ◌==◌, ◌&&◌, Bool, true, false, List, [], ◌∷◌, ◌++◌, refl, ap, subst, ◌∙◌, arith, Option, Some, None}
 use Rattle.std.specs.Prelude.{if◌then◌else◌, nat_lt, is_some}
 use Rattle.std.proofs.lemmas.Bool.Decides.{nat_tests}
+use Rattle.std.proofs.lemmas.Bool.{and_parts}
 use Rattle.letter_types.specs.declared.entries.Entry.{Entry}
 use Rattle.letter_types.specs.declared.entries.Letter.{Letter}
 use Rattle.letter_types.specs.Kept.{brought, kept_without, wakes, with_called}
@@ -12,10 +13,13 @@ use Rattle.world_model.proofs.Coordination.{IsCoordinated, of_forgetting, of_rem
 use Rattle.world_model.specs.Keeping.{KeepingNode, brought_row, is_apt_at, is_apt_brought, keeping_row, kept_row, woken_by}
 use Rattle.world_model.specs.Kept.{done_by, done_of, keeps_letter, kept_in, of_done, stays_of}
 use Rattle.world_model.specs.Runs.{AtClient, AtCoordinator, AtNode, AtRestarting, MayFollow, Moves, Says, client_in, keeping_in}
-use Rattle.world_model.specs.Strict.{CoreKeeping, core_keeping, core_row, is_core_apt}
+use Rattle.world_model.specs.Strict.{CoreKeeping, core_keeping, core_row, is_core_apt, can_make_at, decides_near, is_unheld}
 use Rattle.world_model.specs.Tables.{client_table}
 use Rattle.world_model.proofs.Outstanding.{keeping_here}
 use Rattle.world_model.specs.AllApt.{WasApt}
+use Rattle.world_model.specs.Epochs.{is_core_timely}
+use Rattle.world_model.specs.Core.{Core}
+use Rattle.world_model.specs.Named.{is_named, is_new}
 
 -- letter r is brought to node p, is addressed to it, and is apt there
 pub record Brings (s : ScriptData) (past : List Entry) (e : Entry) (p : ℕ) (r : Letter) : Type 0 where
@@ -53,11 +57,6 @@ pub data Case (s : ScriptData) (past : List Entry) (e : Entry) : Type 0 where
   Submits : e.actor.0 ≡ client_of s → Says (client_table s (client_in s past) e.took) e → Case s past e
 
 -- the row of a letter that is brought and apt
-both_true : (a b : Bool) → (a && b) ≡ true → (a ≡ true) × (b ≡ true)
-both_true true true is = (refl, refl)
-both_true true false is = absurd (cc is)
-both_true false b is = absurd (cc is)
-
 apt_row : (s : ScriptData) (p : ℕ) (l r : Letter) (n : KeepingNode) → is_apt_at s p n r ≡ true
     → brought_row (is_core_apt s p) s p l n (Some r) ≡ kept_row s p l r n (core_keeping s n.core r.body)
 apt_row s p l r n apt = rw apt refl
@@ -66,7 +65,7 @@ brings_of : (s : ScriptData) (past : List Entry) (e : Entry) (r : Letter) → e.
     → brought (kept_in s past e.actor.0) e.took e.took.body ≡ Some r → is_apt_at s e.actor.0 (keeping_in s past e.actor.0) r ≡ true
     → Brings s past e e.actor.0 r
 brings_of s past e r lt is apt =
-    let parts = both_true (r.to.0 == e.actor.0) (is_core_apt s e.actor.0 (keeping_in s past e.actor.0).core r) apt in
+    let parts = and_parts (r.to.0 == e.actor.0) (is_core_apt s e.actor.0 (keeping_in s past e.actor.0).core r) apt in
     record { at = refl; below = lt; brings = is; to = (let here = parts.0 in grind (arith, nat_tests)); apt = parts.1 }
 
 case_by : (s : ScriptData) (past : List Entry) (e : Entry) (r : Letter) (o : Option CoreKeeping) → Brings s past e e.actor.0 r
@@ -151,3 +150,12 @@ pub keeps_number : (f : Letter → ℕ) (s : ScriptData) (past : List Entry) (e 
     → Keeps s past e p r k → of_done f s past e ≡ 0
 keeps_number f s past e p r k d =
     ap (λ (b : Bool). if b then 0 else f (done_by s past e)) (brought_stays s past e p r (Some k) d.brings d.keeps)
+
+-- what an apt letter names belongs to the node
+and_middle : (a b c : Bool) → (a && (b && c)) ≡ true → b ≡ true
+and_middle a b c is = grind arith
+
+pub apt_named : (s : ScriptData) (p : ℕ) (c : Core) (l : Letter) → is_core_apt s p c l ≡ true → is_named s p l.from.0 l.body ≡ true
+apt_named s p c l apt =
+    and_middle _ (is_named s p l.from.0 l.body)
+    (is_new s c.node l.body && is_unheld l.body c.holds && (is_core_timely s c l.body && decides_near s c.node l.body && can_make_at s p c l.body)) apt

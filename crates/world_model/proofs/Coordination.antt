@@ -8,7 +8,7 @@ use Rattle.letter_types.specs.declared.entries.Entry.{Entry}
 use Rattle.letter_types.specs.declared.entries.Outgoing.{Outgoing}
 use Rattle.script_parts.specs.ScriptData.{ScriptData, client_of}
 use Rattle.world_model.specs.Counts.{Each}
-use Rattle.world_model.specs.Lossy.{is_lossy}
+use Rattle.script_parts.specs.Counts.{is_lossy}
 use Rattle.world_model.specs.Runs.{Says, coordinator_in, restarting_in}
 use Rattle.world_model.specs.Tables.{coordinator_table, restarting_table}
 use Rattle.world_model.proofs.Every.{each_map}

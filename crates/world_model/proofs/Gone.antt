@@ -18,12 +18,6 @@ use Rattle.world_model.proofs.Bridge.{reverse_more}
 pub apart_from : (i j k : LetterId) → same_id i j ≡ false → same_id j k ≡ true → same_id i k ≡ false
 apart_from i j k ne eq = grind (arith, nat_tests)
 
-pub same_is : (i j : LetterId) → same_id i j ≡ true → i ≡ j
-same_is i j is =
-    let a : i.stamp.0 ≡ j.stamp.0 = grind (arith, nat_tests) in
-    let b : i.place ≡ j.place = grind (arith, nat_tests) in
-    ap (λ (n : ℕ). record { stamp = record { 0 = n }; place = i.place }) a ∙ ap (λ (n : ℕ). record { stamp = j.stamp; place = n }) b
-
 -- the letters of an id
 abbrev pub of_id : LetterId → Letter → ℕ
 of_id id l = one_if (same_id id l.id)

@@ -8,18 +8,18 @@ use Rattle.tv_base.proofs.Truths.{same_test}
 use Rattle.tv_base.proofs.ByPlace.{slice_get_left, slice_get_last, slice_get_split}
 use Rattle.letter_types.specs.declared.entries.LetterId.{LetterId}
 use Rattle.letter_types.specs.declared.entries.Letter.{Letter}
-use Rattle.letter_types.specs.declared.entries.Outgoing.{Outgoing}
 use Rattle.letter_types.specs.declared.entries.Entry.{Entry}
-use Rattle.letter_types.specs.Letters.{go, own, same_id, find_id, drop_id, sealed, letters_of}
+use Rattle.letter_types.specs.Letters.{go, own, same_id, find_id, drop_id, letters_of}
 use Rattle.letter_types.specs.Steps.{Out}
+use Rattle.letter_types.proofs.Ids.{id_is, none_sealed, sealed_stamp}
 use Rattle.script_parts.specs.ScriptData.{ScriptData, client_of}
 use Rattle.world_model.specs.Restarting.{start_restarting}
-use Rattle.world_model.specs.Lossy.{is_lossy}
+use Rattle.script_parts.specs.Counts.{is_lossy}
 use Rattle.world_model.specs.Keeping.{KeepingNode, keeping_row, start_keeping}
 use Rattle.world_model.specs.Coordinator.{start_coordinator}
 use Rattle.world_model.specs.Tables.{client_table, coordinator_table, restarting_table}
 use Rattle.world_model.specs.Runs.{IsRunOf, after, IsWorldRun, in_flight, keeping_in, coordinator_in, restarting_in, client_in, Says, Moves, AtNode, AtCoordinator, AtRestarting, AtClient, MayFollow, IsStepRun}
-use Rattle.world_model.proofs.Gone.{apart_from, same_is}
+use Rattle.world_model.proofs.Gone.{apart_from}
 use Rattle.world_model.proofs.Bridge.{reverse_more, postal_less, run_less, node_after, coordinator_after, restarting_after, client_after}
 use Rattle.world_model.proofs.Actors.{IsPostalEntry, RowsRun, IsTableRun, table_run}
 use Rattle.world_model.specs.Client.{start_client}
@@ -61,25 +61,6 @@ none_dropped_at id i x xs false is false at none rest = grind arith
 none_dropped : (id i : LetterId) (xs : List Letter) → find_id id xs ≡ None → find_id id (drop_id i xs) ≡ None
 none_dropped id i [] none = refl
 none_dropped id i (x ∷ xs) none = none_dropped_at id i x xs (same_id i x.id) refl (same_id id x.id) refl none (none_dropped id i xs)
-
-none_sealed : (id : LetterId) (stamp actor place : ℕ) (os : List Outgoing) → id.stamp.0 ≢ stamp
-    → find_id id (sealed stamp actor place os) ≡ None
-none_sealed id stamp actor place [] ne = refl
-none_sealed id stamp actor place (o ∷ os) ne =
-    let no : same_id id (record { stamp = record { 0 = stamp }; place = place }) ≡ false = grind (arith, nat_tests) in
-    rw no (none_sealed id stamp actor (place + 1) os ne)
-
-sealed_stamp_at : (id : LetterId) (stamp actor place : ℕ) (os : List Outgoing) (l : Letter)
-    → find_id id (sealed stamp actor place os) ≡ Some l
-    → (b : Bool) → (id.stamp.0 == stamp) ≡ b → id.stamp.0 ≡ stamp
-sealed_stamp_at id stamp actor place os l at true is = grind (arith, nat_tests)
-sealed_stamp_at id stamp actor place os l at false is =
-    let none : find_id id (sealed stamp actor place os) ≡ None = none_sealed id stamp actor place os (grind (arith, nat_tests)) in
-    absurd (grind arith)
-
-sealed_stamp : (id : LetterId) (stamp actor place : ℕ) (os : List Outgoing) (l : Letter)
-    → find_id id (sealed stamp actor place os) ≡ Some l → id.stamp.0 ≡ stamp
-sealed_stamp id stamp actor place os l at = sealed_stamp_at id stamp actor place os l at (id.stamp.0 == stamp) refl
 
 -- a letter in flight is no newer than the last entry
 none_newer : (s : ScriptData) (past : List Entry) (id : LetterId) → IsStepRun s past → length past < id.stamp.0
@@ -129,7 +110,7 @@ sent_at s (e ∷ past) j f l at found =
     ]
 
 id_apart_by : (i j : LetterId) → i ≢ j → (b : Bool) → same_id i j ≡ b → same_id i j ≡ false
-id_apart_by i j ne true is = absurd (ne (same_is i j is))
+id_apart_by i j ne true is = absurd (ne (id_is i j is))
 id_apart_by i j ne false is = is
 
 not_taken : (past : List Entry) (id : LetterId) → ((j : ℕ) (f : Entry) → slice_get (reverse past) j ≡ Some f → f.took.id ≢ id)

@@ -24,7 +24,7 @@ pub asked_more : (v : ℕ) (os : List Outgoing) (o : Outgoing) (n : Numbers)
 asked_more v os o n = ap (λ (qs : List ℕ). asked_all v qs n) (addressees-append os o)
     ∙ asked_all-append v o.to.0 (addressees os) n
 
-one_at : (f : ℕ → ℕ → ℕ) (v q w r : ℕ) (b : Bool) → ((w == v) && (r == q)) ≡ b
+pub one_at : (f : ℕ → ℕ → ℕ) (v q w r : ℕ) (b : Bool) → ((w == v) && (r == q)) ≡ b
     → (if b then f w r + 1 else f w r) ≤ f w r + 1
 one_at f v q w r true is = omega arith
 one_at f v q w r false is = omega arith

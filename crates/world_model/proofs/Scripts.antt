@@ -1,9 +1,11 @@
 -- What a valid script says of a subtransaction and of an item.
-use Rattle.std.proofs.Common.{◌≡◌, ℕ, zero, suc, ◌<◌, List, ◌∷◌, length, refl, subst, arith, Some, []}
+use Rattle.std.proofs.Common.{◌≡◌, ℕ, zero, suc, ◌<◌, List, ◌∷◌, length, refl, subst, arith, Some, [], None, Option, false, sym, true, ◌∙◌}
 use Rattle.std.specs.Prelude.{slice_get}
+use Rattle.tv_base.proofs.ByPlace.{get_some}
 use Rattle.script_parts.specs.ScriptData.{ScriptData, subs_at, sub_at, node_of, ops_of}
 use Rattle.script_parts.specs.declared.parts.Sub.{Sub}
 use Rattle.script_parts.specs.declared.parts.Tree.{Tree}
+use Rattle.world_model.specs.Named.{is_strict_at, tree_kind_at}
 
 -- subtransaction k of tree t
 pub record SubAt (s : ScriptData) (t k : ℕ) : Type 0 where
@@ -11,11 +13,6 @@ pub record SubAt (s : ScriptData) (t k : ℕ) : Type 0 where
   pub at : slice_get s.trees t ≡ Some tree
   pub sub : Sub
   pub here : slice_get tree.subs k ≡ Some sub
-
-pub get_some : {X : Type 0} (xs : List X) (k : ℕ) → k < length xs → (x : X) × (slice_get xs k ≡ Some x)
-get_some [] k lt = absurd (omega arith)
-get_some (x ∷ xs) zero lt = (x, refl)
-get_some (x ∷ xs) (suc k) lt = get_some xs k (omega arith)
 
 pub get_below : {X : Type 0} (xs : List X) (k : ℕ) (x : X) → slice_get xs k ≡ Some x → k < length xs
 get_below [] k x at = absurd (cc at)
@@ -47,3 +44,13 @@ sub_below s t k c = rw (subs_here s t k c) (get_below c.tree.subs k c.sub c.here
 
 pub tree_below : (s : ScriptData) (t k : ℕ) → SubAt s t k → t < length s.trees
 tree_below s t k c = get_below s.trees t c.tree c.at
+
+-- a strict tree is one of the script's
+pub strict_there : (s : ScriptData) (t : ℕ) (o : Option Tree) → slice_get s.trees t ≡ o → is_strict_at s t ≡ true → t < length s.trees
+strict_there s t None at is = absurd (let none : false ≡ true = sym (rw (at, is_strict_at, tree_kind_at) refl) ∙ is in cc none)
+strict_there s t (Some u) at is = get_below s.trees t u at
+
+-- where there is no tree, no node is asked for its subtransactions
+pub no_node : (s : ScriptData) (t k : ℕ) (found : Option Tree) → slice_get s.trees t ≡ found → tree_kind_at s t ≡ None → node_of s t k ≡ s.nodes
+no_node s t k None is none = rw (is, subs_at, sub_at, node_of) refl
+no_node s t k (Some tree) is none = let some : Some tree.kind ≡ None = rw (is, tree_kind_at) at none in absurd (cc some)

@@ -12,7 +12,7 @@ use Rattle.script_parts.specs.ScriptData.{ScriptData}
 use Rattle.script_parts.specs.declared.parts.ScriptRow.{ScriptRow}
 use Rattle.script_parts.specs.declared.parts.ScriptRow.TheVariants.{Tree as TreeRow, Advance, Settle, Lose}
 use Rattle.script_parts.specs.declared.parts.Sub.{Sub}
-use Rattle.world_model.specs.Lossy.{is_lossy}
+use Rattle.script_parts.specs.Counts.{is_lossy}
 use Rattle.world_model.specs.Children.{sub_letters}
 use Rattle.world_model.specs.Client.{Client, advance_letter, client_row, rows_letters, wanted}
 use Rattle.world_model.specs.Counts.{Each, tally}

@@ -13,7 +13,7 @@ use Rattle.pair_counters.specs.Numbers.{AllBelow, Numbers}
 use Rattle.script_parts.specs.ScriptData.{ScriptData}
 use Rattle.script_parts.specs.Valid.{IsValid}
 use Rattle.world_model.specs.Restarting.{start_restarting}
-use Rattle.world_model.specs.Lossy.{is_lossy}
+use Rattle.script_parts.specs.Counts.{is_lossy}
 use Rattle.world_model.specs.Coordinator.{start_coordinator}
 use Rattle.world_model.specs.Core.{Core}
 use Rattle.world_model.specs.Keeping.{Aptness, KeepingNode, brought_row, is_apt_there, keeping_row, kept_row}
@@ -24,7 +24,6 @@ use Rattle.world_model.specs.Taking.{CountsBelow, MOST_COUNTED}
 use Rattle.world_model.proofs.Back.{actor_leads}
 use Rattle.world_model.proofs.CoreCounts.{Grew, core_grew, stays}
 use Rattle.world_model.proofs.KeptThere.{IsCoreKeeping, OfKeeping, core_keeps}
-use Rattle.world_model.proofs.Orders.{row_plain}
 
 -- what a node's row makes of its counters
 abbrev RowGrew : KeepingNode → Out KeepingNode → Type 0

@@ -10,7 +10,7 @@ use Rattle.letter_types.specs.declared.bodies.Body.TheVariants.{Go, Root, Reply,
 use Rattle.letter_types.specs.declared.entries.Outgoing.{Outgoing}
 use Rattle.letter_types.specs.Steps.{Out, still}
 use Rattle.tv_base.specs.declared.numbers.Version.{Version}
-use Rattle.world_model.specs.Lossy.{is_lossy}
+use Rattle.script_parts.specs.Counts.{is_lossy}
 
 -- how many rows are submitted, which trees are answered, how many advancements have ended, whether all is finished
 pub record Client : Type 0 where

@@ -10,7 +10,7 @@ use Rattle.letter_types.specs.Steps.{Out, still}
 use Rattle.script_parts.specs.ScriptData.{ScriptData}
 use Rattle.world_model.specs.Advancing.{to_coordinator}
 use Rattle.world_model.specs.Core.{Core, in_core}
-use Rattle.world_model.specs.Lossy.{is_lossy}
+use Rattle.script_parts.specs.Counts.{is_lossy}
 use Rattle.world_model.specs.Node.{Node}
 use Rattle.world_model.specs.Named.{is_timely}
 use Rattle.world_model.specs.Apt.{is_widely_timely, row}
@@ -36,7 +36,7 @@ is_of_remembering (Shown v) = true
 is_of_remembering (Swept v) = true
 is_of_remembering _ = false
 
--- a letter that the script's coordinator has
+-- a letter that is none of the other kind of coordinator, which the script doesn't run
 abbrev pub is_of_coordinator : ScriptData → Body → Bool
 is_of_coordinator s body = if is_lossy s then not (is_of_remembering body) else not (is_of_forgetting body)
 

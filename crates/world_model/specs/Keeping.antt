@@ -40,7 +40,8 @@ abbrev pub is_apt_brought : ScriptData → ℕ → KeepingNode → Option Letter
 is_apt_brought s p n None = false
 is_apt_brought s p n (Some r) = is_apt_at s p n r
 
--- what a letter wakes at a core: an order of a coordinator that forgets what the order does for which it stands, if it does that
+-- what a letter wakes at a core: an order of a coordinator that forgets wakes what the order wakes for which it stands, if
+-- it takes effect, and else nothing
 abbrev pub woken_by : Core → Body → Why → Bool
 woken_by c (Order e what v) w = is_obeyed_now e what v c && wakes_by (plain_order what v) w
 woken_by c body w = wakes_by body w

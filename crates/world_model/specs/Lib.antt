@@ -21,7 +21,6 @@ pub mod Coordinator
 pub mod Restarting
 pub mod Client
 pub mod Core
-pub mod Lossy
 pub mod Epochs
 pub mod Decisions
 pub mod Strict

@@ -68,7 +68,7 @@ orders _ c = []
 abbrev pub enter : RestartPhase → Restarting → Out Restarting
 enter phase c = record { state = in_restart_phase phase c; sent = orders phase c; acts = [] }
 
--- the phase in which no advancement is under way: turning begins where one more is wanted than have ended
+-- the phase in which no advancement is in progress: turning begins where one more is wanted than have ended
 abbrev pub next_advance : ℕ → ℕ → RestartPhase
 next_advance wanted ended = if nat_lt ended wanted then Doing ToTurn else Idle
 

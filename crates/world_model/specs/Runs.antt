@@ -13,7 +13,7 @@ use Rattle.world_model.specs.Coordinator.{Coordinator, start_coordinator}
 use Rattle.world_model.specs.Client.{Client, start_client}
 use Rattle.world_model.specs.Tables.{ActorData, NodeData, CoordinatorData, RestartingData, ClientData, start_actor, actor_row, wide_actor_row, coordinator_table, restarting_table, client_table}
 use Rattle.world_model.specs.Restarting.{Restarting, start_restarting}
-use Rattle.world_model.specs.Lossy.{is_lossy}
+use Rattle.script_parts.specs.Counts.{is_lossy}
 
 -- The public shape: the letters went as letters do, and each actor's own entries, in order, are a run of its table.
 

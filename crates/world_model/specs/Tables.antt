@@ -7,7 +7,7 @@ use Rattle.world_model.specs.Keeping.{KeepingNode, keeping_row, start_keeping, w
 use Rattle.world_model.specs.Coordinator.{Coordinator, start_coordinator, coordinator_row}
 use Rattle.world_model.specs.Restarting.{Restarting, restarting_row, start_restarting}
 use Rattle.world_model.specs.Client.{Client, start_client, client_row}
-use Rattle.world_model.specs.Lossy.{is_lossy}
+use Rattle.script_parts.specs.Counts.{is_lossy}
 
 -- the state of an actor, as its table sees it
 pub data ActorData : Type 0 where

@@ -9,13 +9,13 @@ use Rattle.letter_types.specs.declared.entries.Entry.{Entry}
 use Rattle.script_parts.specs.declared.parts.Sub.{Sub}
 use Rattle.script_parts.specs.ScriptData.{ScriptData, node_of, sub_at, subs_at, visits}
 use Rattle.script_parts.specs.Valid.{IsValid}
+use Rattle.script_parts.proofs.SubsOf.{sub_node_below}
 use Rattle.world_model.specs.Runs.{IsStepRun}
 use Rattle.board_rules.specs.Histories.{IsWhole, Place, applies, was_applied}
 use Rattle.board_rules.proofs.ActTests.{applies_as_one}
 use Rattle.board_rules.proofs.Positions.{act_found, found_all}
 use Rattle.board_rules.proofs.Rules.{applying}
 use Rattle.board_rules.proofs.Wholes.{whole_applied}
-use Rattle.phase_laws.proofs.Brought.{sub_node_below}
 use Rattle.tree_laws.specs.Applied.{applied_at, decided_as}
 use Rattle.tree_laws.proofs.Acts.{any_counted, counted_any}
 use Rattle.tree_laws.proofs.AptApplied.{applied_where_decided}

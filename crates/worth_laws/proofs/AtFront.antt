@@ -19,8 +19,8 @@ use Rattle.board_rules.proofs.Rules.{IsItemAt}
 use Rattle.board_rules.proofs.Stays.{IsStill, made_stays}
 use Rattle.board_rules.proofs.Votes.{AreQuiet, is_quiet, rules_before}
 use Rattle.board_rules.proofs.Wholes.{version_more, whole_more}
+use Rattle.board_rules.proofs.Places.{places_more}
 use Rattle.tree_laws.proofs.AptVersions.{before}
-use Rattle.tree_laws.proofs.Histories.{places_more}
 use Rattle.value_laws.proofs.RowActs.{is_lasting, lasting}
 use Rattle.run_laws.proofs.Closed.{none_came}
 use Rattle.run_laws.proofs.Reached.{now_below}

@@ -4,6 +4,7 @@ use Rattle.tv_base.specs.declared.numbers.Version.{Version}
 use Rattle.letter_types.specs.declared.entries.Entry.{Entry}
 use Rattle.script_parts.specs.ScriptData.{ScriptData, node_of, subs_at}
 use Rattle.script_parts.specs.Valid.{IsValid}
+use Rattle.script_parts.proofs.SubsOf.{has_root}
 use Rattle.world_model.specs.Runs.{IsStepRun}
 use Rattle.board_rules.specs.Histories.{Place, commits, version_in, was_committed}
 use Rattle.board_rules.specs.Moves.{decides_as}
@@ -14,7 +15,6 @@ use Rattle.board_rules.proofs.Positions.{ActAt, found_all}
 use Rattle.board_rules.proofs.Precedence.{vote}
 use Rattle.board_rules.proofs.Rules.{FollowsRules, deciding, yes_vote}
 use Rattle.board_rules.proofs.Wholes.{born_version, strict_there, version_more}
-use Rattle.strict_laws.proofs.MeantRows.{root_below}
 use Rattle.tree_laws.proofs.AptVersions.{before}
 use Rattle.rule_laws.proofs.Rules.{follows_rules}
 use Rattle.worth_laws.specs.Gets.{CommitsStand, StandsFrom}
@@ -39,7 +39,7 @@ born_before_commit : (s : ScriptData) (zs : List Place) (t : ℕ) → IsValid s 
     → (w : Version) × (version_in t zs ≡ Some w)
 born_before_commit s zs t valid rules c =
     let d = deciding s zs c.place c.node t true rules.acts c.at in
-    let some : 0 < length (subs_at s t) = root_below s t valid (strict_there s t d.strict) in
+    let some : 0 < length (subs_at s t) = has_root s t valid (strict_there s t d.strict) in
     let y = vote s zs c.place c.node t 0 (node_of s t 0) rules.acts c.at some refl in
     let b = born_version (version_in t (take y.place zs)) (yes_vote s zs y.place (node_of s t 0) t 0 rules.acts y.at).born in
     (b.0, version_more t y.place b.0 zs b.1)

@@ -35,7 +35,7 @@ use Rattle.world_model.proofs.Outstanding.{keeping_elsewhere}
 use Rattle.board_rules.specs.Histories.{Place, places_at, version_in}
 use Rattle.board_rules.specs.Stands.{newest_of, version_or_zero, written_by}
 use Rattle.board_rules.specs.Worth.{changes, ops_change, subs_change}
-use Rattle.board_rules.proofs.Places.{version_stays}
+use Rattle.board_rules.proofs.Places.{version_stays, places_more}
 use Rattle.strict_laws.proofs.ByActs.{kind_updates}
 use Rattle.phase_laws.proofs.Balance.{apt_low_rises}
 use Rattle.tree_laws.specs.Carried.{CarriesVersion}
@@ -45,7 +45,6 @@ use Rattle.tree_laws.proofs.AptItems.{Applies, Changes, Collects, Follows, Raise
 use Rattle.tree_laws.proofs.AptStagesOwn.{Doing}
 use Rattle.tree_laws.proofs.AptSteps.{enters}
 use Rattle.tree_laws.proofs.AptVersions.{before}
-use Rattle.tree_laws.proofs.Histories.{places_more}
 use Rattle.value_laws.proofs.Newest.{both}
 use Rattle.value_laws.proofs.RowActs.{lasting, lasting_acts, row_lasts}
 use Rattle.run_laws.proofs.EveryApt.{all_apt}

@@ -9,13 +9,14 @@ use Rattle.tv_base.specs.declared.numbers.ItemNo.{ItemNo}
 use Rattle.tv_base.specs.declared.numbers.SubNo.{SubNo}
 use Rattle.tv_base.specs.declared.numbers.TreeNo.{TreeNo}
 use Rattle.tv_base.specs.declared.numbers.Version.{Version}
+use Rattle.tv_base.proofs.Truths.{or_none}
 use Rattle.commute_ops.specs.declared.kinds.Op.{Op}
 use Rattle.commute_ops.specs.declared.value.Value.{Value}
 use Rattle.item_versions.specs.Collecting.{collected_all}
 use Rattle.item_versions.specs.Item.{Held, above, below, collected, holds, may_touch, put_value, touched}
 use Rattle.item_versions.specs.Table.{Table, item_in, may_touch_in, replaced, updated, valued}
 use Rattle.item_versions.specs.Window.{in_window}
-use Rattle.item_versions.proofs.History.{holds-above, holds-touched}
+use Rattle.item_versions.proofs.History.{holds-above, holds-touched, holds-append, holds-below}
 use Rattle.item_versions.proofs.Holding.{IsHeld-item_in}
 use Rattle.letter_types.specs.declared.acts.Act.{Act}
 use Rattle.letter_types.specs.declared.acts.Act.TheVariants as acts
@@ -67,18 +68,10 @@ touched_holds w v op [] may = absurd (cc may)
 touched_holds w v op (x ∷ xs) may = holds-touched w v op x xs
 
 -- so does a value that is put
-holds_append : (w : Version) (xs ys : Held) → holds w (xs ++ ys) ≡ (holds w xs || holds w ys)
-holds_append w [] ys = refl
-holds_append w (x ∷ xs) ys = let rest = holds_append w xs ys in grind (arith, nat_tests)
-
-holds_below : (w v : Version) (xs : Held) → holds w (below v xs) ≡ (ltb w.0 v.0 && holds w xs)
-holds_below w v [] = grind (arith, nat_tests)
-holds_below w v (x ∷ xs) = let rest = holds_below w v xs in grind (arith, nat_tests)
-
 put_holds : (w v : Version) (y : Value) (h : Held) → holds w (put_value v y h) ≡ (v.0 == w.0 || holds w h)
 put_holds w v y h =
-    let joined = holds_append w (below v h) ((v, y) ∷ above v h) in
-    let lower = holds_below w v h in
+    let joined = holds-append w (below v h) ((v, y) ∷ above v h) in
+    let lower = holds-below w v h in
     let upper = holds-above w v h in
     joined
     ∙ (let e : (holds w (below v h) || (v.0 == w.0 || holds w (above v h))) ≡ (v.0 == w.0 || holds w h) = rw (lower, upper) (grind (arith, nat_tests)) in
@@ -121,14 +114,10 @@ made_holds w v n x (Draw a) items may = absurd (cc may)
 join : (a b c d : Bool) → ((a && b) || ((a && c) || d)) ≡ ((a && (c || b)) || d)
 join a b c d = grind (arith, nat_tests)
 
-none_more : (a b : Bool) → b ≡ ((a && false) || b)
-none_more true b = refl
-none_more false b = refl
-
 -- of the versions of an item operations in version v add v, where one of them changes the item
 pub ops_hold : (w v : Version) (x : ItemNo) (os : List SubOp) (items : Table) → can_touch v os items ≡ true
     → holds_in w x (table_after_ops v os items) ≡ ((v.0 == w.0 && ops_change x.0 os) || holds_in w x items)
-ops_hold w v x [] items can = none_more (v.0 == w.0) (holds_in w x items)
+ops_hold w v x [] items can = or_none (v.0 == w.0) (holds_in w x items)
 ops_hold w v x (o ∷ os) items can =
     let parts = and_parts (may_make v o.item o.deed items) (can_touch v os (table_after_deed v o.item o.deed items)) can in
     ops_hold w v x os (table_after_deed v o.item o.deed items) parts.1
@@ -186,7 +175,7 @@ over_holds low w v o x items true is near has =
     ap (λ (t : Table). holds_in w x t) made
     ∙ replaced_holds w v o.item x new h items at (put_holds w v (after_deed o.deed found.0) h) true is
 over_holds low w v o x items false is near has =
-    ap (holds_of w) (written_other v o x (seen_in v o.item items) items is) ∙ none_more (v.0 == w.0) (holds_in w x items)
+    ap (holds_of w) (written_other v o x (seen_in v o.item items) items is) ∙ or_none (v.0 == w.0) (holds_in w x items)
 
 all_true : (a b : Bool) → b ≡ true → a ≡ (a && b)
 all_true true b is = sym is
@@ -204,13 +193,13 @@ op_holds low w v o x items true is reads near has =
     over_holds low w v o x items (o.item.0 == x.0) refl near has
     ∙ ap (λ (b : Bool). (v.0 == w.0 && b) || holds_in w x items) (all_true (o.item.0 == x.0) (changes o.deed) (over_changes o.deed is))
 op_holds low w v o x items false is reads near has =
-    none_more (v.0 == w.0) (holds_in w x items)
+    or_none (v.0 == w.0) (holds_in w x items)
     ∙ ap (λ (b : Bool). (v.0 == w.0 && b) || holds_in w x items) (all_false (o.item.0 == x.0) (changes o.deed) (ap changes (reads is)))
 
 pub commit_holds : (low : ℕ) (w v : Version) (x : ItemNo) (os : List SubOp) (items : Table) → AreNear low items → in_window low v.0 ≡ true
     → AllByRecursion (λ (o : SubOp). IsOfCommit o.deed) os → HasItem x items
     → holds_in w x (applied_in v os items) ≡ ((v.0 == w.0 && ops_change x.0 os) || holds_in w x items)
-commit_holds low w v x [] items near within reads has = none_more (v.0 == w.0) (holds_in w x items)
+commit_holds low w v x [] items near within reads has = or_none (v.0 == w.0) (holds_in w x items)
 commit_holds low w v x (o ∷ os) items near within reads has =
     commit_holds low w v x os (overwritten_in v o items) (over_near low v o items (overwrites o.deed) within near) within reads.1
     (op_has v o x items (overwrites o.deed) has)

@@ -34,7 +34,7 @@ use Rattle.world_model.proofs.Cases.{Case, Coordinates, Keeps, NodeDoes, NodeKee
 use Rattle.world_model.proofs.Every.{node_kept}
 use Rattle.world_model.proofs.Keepings.{of_kept}
 use Rattle.board_rules.specs.Histories.{Place, places_at, places_of, version_in}
-use Rattle.board_rules.proofs.Places.{version_stays}
+use Rattle.board_rules.proofs.Places.{version_stays, places_more}
 use Rattle.phase_laws.proofs.Balance.{apt_low_rises}
 use Rattle.tree_laws.specs.Carried.{CarriesVersion}
 use Rattle.tree_laws.proofs.AptDecisions.{dated_here}
@@ -42,7 +42,6 @@ use Rattle.tree_laws.proofs.AptStagesOwn.{Doing}
 use Rattle.tree_laws.proofs.AptSteps.{enters}
 use Rattle.tree_laws.proofs.AptVersions.{before}
 use Rattle.tree_laws.proofs.AptWindows.{apt_timely, nodes_in_window}
-use Rattle.tree_laws.proofs.Histories.{places_more}
 use Rattle.tree_laws.proofs.NodeLoads.{StrictTree, node_ops_fit, strict_there}
 use Rattle.tree_laws.proofs.Seen.{seen_of}
 use Rattle.tree_laws.proofs.Turns.{work_version}

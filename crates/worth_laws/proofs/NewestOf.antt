@@ -10,9 +10,8 @@ use Rattle.script_parts.specs.ScriptData.{ScriptData, ops_of, subs_at, updates}
 use Rattle.board_rules.specs.Histories.{Place, places_at, version_in}
 use Rattle.board_rules.specs.Stands.{newest_of, version_or_zero, written_by, written_in}
 use Rattle.board_rules.specs.Worth.{ops_change, subs_change}
-use Rattle.board_rules.proofs.Places.{version_stays}
+use Rattle.board_rules.proofs.Places.{version_stays, places_more}
 use Rattle.tree_laws.proofs.AptVersions.{before}
-use Rattle.tree_laws.proofs.Histories.{places_more}
 use Rattle.value_laws.proofs.RowActs.{is_lasting, lasting}
 use Rattle.rule_laws.proofs.Fronts.{place_of, placed}
 use Rattle.rule_laws.proofs.YesVotes.{fold_most}

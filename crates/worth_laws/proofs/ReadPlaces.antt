@@ -9,9 +9,7 @@ use Rattle.tv_base.proofs.ByPlace.{slice_get_left}
 use Rattle.letter_types.specs.declared.entries.Entry.{Entry}
 use Rattle.script_parts.specs.ScriptData.{ScriptData, reads}
 use Rattle.script_parts.specs.Valid.{IsValid}
-use Rattle.world_model.specs.Coordinator.{Coordinator}
-use Rattle.world_model.specs.Runs.{IsStepRun, coordinator_in}
-use Rattle.world_model.proofs.Nexts.{MadeByCoordinator}
+use Rattle.world_model.specs.Runs.{IsStepRun}
 use Rattle.board_rules.specs.Histories.{Place, is_whole_in, places_at, places_of, version_in}
 use Rattle.board_rules.specs.Moves.{AtEachAct}
 use Rattle.board_rules.specs.Rules.{is_writer}

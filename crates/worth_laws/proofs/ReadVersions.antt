@@ -2,15 +2,13 @@
 use Rattle.std.proofs.Common.{◌≡◌, ◌⊎◌, inl, inr, ℕ, ◌<◌, ◌≤◌, true, false, List, [], ◌∷◌, reverse, sym, ap, ◌∙◌, arith, Some}
 use Rattle.std.specs.Prelude.{not}
 use Rattle.tv_base.specs.declared.numbers.Version.{Version}
-use Rattle.world_model.specs.declared.phase.Phase.{Phase}
-use Rattle.world_model.specs.declared.phase.Phase.TheVariants.{Idle, Turning, Counting, Paused, Showing, Sweeping}
 use Rattle.letter_types.specs.declared.entries.Entry.{Entry}
 use Rattle.script_parts.specs.ScriptData.{ScriptData, reads}
 use Rattle.script_parts.specs.Valid.{IsValid}
 use Rattle.board_rules.specs.Histories.{places_at, version_in}
-use Rattle.world_model.specs.Runs.{IsStepRun, coordinator_in, node_in}
+use Rattle.board_rules.proofs.Places.{places_more}
+use Rattle.world_model.specs.Runs.{IsStepRun}
 use Rattle.tree_laws.proofs.AptVersions.{before}
-use Rattle.tree_laws.proofs.Histories.{places_more}
 use Rattle.run_laws.specs.Shown.{WritersAreWhole}
 use Rattle.run_laws.proofs.Closed.{rises}
 use Rattle.run_laws.proofs.EveryBirth.{birth_at}

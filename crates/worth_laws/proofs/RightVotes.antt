@@ -26,6 +26,7 @@ use Rattle.world_model.specs.Named.{tree_kind_at}
 use Rattle.world_model.specs.Reads.{got_by_deed, gets, seen_in, with_get}
 use Rattle.world_model.specs.Runs.{keeping_in, node_in}
 use Rattle.world_model.specs.Votes.{cause_in, voted}
+use Rattle.world_model.proofs.Bags.{one_if_both}
 use Rattle.board_rules.specs.Histories.{places_at, version_in}
 use Rattle.board_rules.specs.Right.{IsRightVote, IsShown, gets_among, is_get, with_worths}
 use Rattle.board_rules.specs.Stands.{conflict_of}
@@ -34,7 +35,6 @@ use Rattle.tree_laws.specs.Turns.{has_turn}
 use Rattle.tree_laws.proofs.AptDecisions.{dated_here}
 use Rattle.tree_laws.proofs.AptStagesOwn.{Doing}
 use Rattle.tree_laws.proofs.AptVersions.{before}
-use Rattle.tree_laws.proofs.Counts.{one_here}
 use Rattle.rule_laws.proofs.Fronts.{front, placed}
 use Rattle.rule_laws.proofs.Lasts.{AsksIn, cause_there}
 use Rattle.rule_laws.proofs.Turns.{born_before}
@@ -85,7 +85,7 @@ yes_is_right s past e j p r t k g asks of values given at free =
     let ops : asked_ops s r.body ≡ os = asked_same s t k r.body asks in
     let n = no_cause s c t v os (ap (cause_in c.locks c.node.items t v) (sym ops) ∙ free) in
     let none : conflict_of s (before past) p t.0 os ≡ None = sym (conflict_met s past e p r t k g asks of) ∙ n.met in
-    let one : has_turn t.0 k.0 a ≡ 1 = one_here t.0 k.0 in
+    let one : has_turn t.0 k.0 a ≡ 1 = one_if_both t.0 k.0 in
     let right : values ≡ with_worths (λ (x : ℕ). worth s (reverse past) x v.0) (gets_among os) =
     given ∙ ap (λ (xs : List SubOp). gets v xs c.node.items) ops
     ∙ gets_worth (λ (x : ℕ). worth s (reverse past) x v.0) v os c.node.items

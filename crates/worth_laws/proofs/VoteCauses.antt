@@ -35,6 +35,7 @@ use Rattle.world_model.specs.Reads.{gets, seen_in}
 use Rattle.world_model.specs.Runs.{IsStepRun, keeping_in, node_in}
 use Rattle.world_model.specs.Strict.{notice_by}
 use Rattle.world_model.specs.Votes.{cause_in, conflict_by, greatest_version, newer_by, newer_in, short_at, short_in, voted, wanted_by}
+use Rattle.world_model.proofs.Bags.{one_if_both}
 use Rattle.board_rules.specs.Histories.{Place, places_at, version_in}
 use Rattle.board_rules.specs.Stands.{cause_of, conflict_of, newer_of, newest_of, short_of, version_or_zero}
 use Rattle.board_rules.specs.Worth.{worth}
@@ -45,7 +46,6 @@ use Rattle.tree_laws.proofs.AptDecisions.{dated_here}
 use Rattle.tree_laws.proofs.AptStagesOwn.{Doing}
 use Rattle.tree_laws.proofs.AptVersions.{before}
 use Rattle.tree_laws.proofs.AptWindows.{tables_ascend}
-use Rattle.tree_laws.proofs.Counts.{one_here}
 use Rattle.tree_laws.proofs.Histories.{at_each_act_more}
 use Rattle.value_laws.proofs.HeldItems.{greatest_from}
 use Rattle.value_laws.proofs.RowActs.{is_lasting, lasting}
@@ -180,8 +180,8 @@ voted_names s past e j a t k (Some cause) values is so = subst (NamesHere s past
 
 vote_lasts : (t : TreeNo) (k : SubNo) (o : Option Cause) (values : List (ItemNo × Value))
     → (is_lasting (act_of t k (notice_by (voted o values))) ≡ true) × (has_turn t.0 k.0 (act_of t k (notice_by (voted o values))) ≡ 1)
-vote_lasts t k None values = (refl, one_here t.0 k.0)
-vote_lasts t k (Some cause) values = (refl, one_here t.0 k.0)
+vote_lasts t k None values = (refl, one_if_both t.0 k.0)
+vote_lasts t k (Some cause) values = (refl, one_if_both t.0 k.0)
 
 lasting_names : (s : ScriptData) (past : List Entry) (e : Entry) (j : ℕ) (a : Act) → slice_get e.acts j ≡ Some a → Lasts s past e j a
     → NamesHere s past e j a

@@ -24,8 +24,8 @@ use Rattle.board_rules.proofs.Shown.{closed_if_whole}
 use Rattle.board_rules.proofs.Stays.{IsStill, closed_worth_stays}
 use Rattle.board_rules.proofs.TreeSubs.{touches}
 use Rattle.board_rules.proofs.Wholes.{version_more, whole_all, whole_applied, whole_done, whole_later}
+use Rattle.board_rules.proofs.Places.{places_more}
 use Rattle.tree_laws.proofs.AptVersions.{before}
-use Rattle.tree_laws.proofs.Histories.{places_more}
 use Rattle.run_laws.proofs.Closed.{none_came, run_before}
 use Rattle.run_laws.proofs.Reached.{now_below}
 use Rattle.run_laws.proofs.Wholes.{born_with}

@@ -22,7 +22,7 @@ use Rattle.board_rules.specs.Serial.{is_version}
 use Rattle.board_rules.specs.Worth.{is_written, may_write, ops_change, subs_change, trees_write, writes}
 use Rattle.board_rules.proofs.ActTests.{applies_as, applies_as_is, as_commits, commits_as, does_is}
 use Rattle.board_rules.proofs.ClosedWorth.{applied_as_commit}
-use Rattle.board_rules.proofs.ItemAt.{item_at}
+use Rattle.board_rules.proofs.ItemAt.{item_at, changed_in}
 use Rattle.board_rules.proofs.Once.{same_tests}
 use Rattle.board_rules.proofs.Positions.{ActAt, found_all, there_all}
 use Rattle.board_rules.proofs.Precedence.{act_node, decision}
@@ -42,15 +42,6 @@ use Rattle.worth_laws.specs.Written.{was_written, act_writes, writes_in}
 use Rattle.worth_laws.proofs.HeldNewest.{tree_changes}
 
 -- From an act to its tree.
--- subtransactions of which one changes the item
-subs_change_at : (x k : ℕ) (subs : List Sub) (sub : Sub) → slice_get subs k ≡ Some sub → ops_change x sub.ops ≡ true
-    → subs_change x subs ≡ true
-subs_change_at x k [] sub at is = absurd (cc at)
-subs_change_at x zero (y ∷ subs) sub at is =
-    let same : y ≡ sub = cc at in
-    or_left (ops_change x y.ops) (subs_change x subs) (ap (λ (z : Sub). ops_change x z.ops) same ∙ is)
-subs_change_at x (suc k) (y ∷ subs) sub at is = or_right (ops_change x y.ops) (subs_change x subs) (subs_change_at x k subs sub at is)
-
 -- trees of which one writes
 trees_write_at : (h : List Entry) (x w i n : ℕ) (ts : List Tree) (t : ℕ) (tree : Tree) → slice_get ts n ≡ Some tree → t ≡ i + n
     → writes h x w t tree ≡ true → trees_write h x w i ts ≡ true
@@ -93,7 +84,7 @@ did_to s h x w t k up version change =
     let (sub, here, on) = ops_found x (sub_at s t k) change in
     let there : slice_get tree.subs k ≡ Some sub =
     sym (ap (λ (o : Option Tree). slice_get (elim o [ Some z ↦ z.subs | None ↦ [] ]) k) at) ∙ here in
-    tree_writes s h x w t tree at version (update_may h t tree.kind kind) (subs_change_at x k tree.subs sub there on)
+    tree_writes s h x w t tree at version (update_may h t tree.kind kind) (changed_in x k tree.subs sub there on)
 
 -- the Applied of a commit: its tree was decided to commit
 was_decided : (s : ScriptData) (zs : List Place) (i q : ℕ) (t : TreeNo) → AreByRule s zs

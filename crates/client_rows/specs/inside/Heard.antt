@@ -6,7 +6,7 @@ use Rattle.letter_types.specs.declared.bodies.Body.{Body}
 use Rattle.letter_types.specs.declared.bodies.Body.TheVariants.{Go, Reply, Advanced, Ask}
 use Rattle.letter_types.specs.Steps.{Out, still}
 use Rattle.world_model.specs.Client.{Client, submit, wanted}
-use Rattle.world_model.specs.Lossy.{is_lossy}
+use Rattle.tx_trees.specs.Counts.{is_lossy}
 use Rattle.client_rows.specs.News.{client_with_news, sent_first}
 use Rattle.client_rows.specs.declared.news.News.{News}
 use Rattle.client_rows.specs.declared.news.News.TheVariants.{Begun, Answered, Ended, EndedTo}

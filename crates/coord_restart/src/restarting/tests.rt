@@ -299,7 +299,7 @@ const PLACES: [([u64; 3], [u64; 3], u32, Sent); 5] = [
             (1, Said::Order(1, What::Turn, 3)),
         ],
     ),
-    // Nothing is under way.
+    // Nothing is in progress.
     (
         [2, 1, 1],
         [2, 1, 1],

@@ -25,7 +25,7 @@ use Rattle.strict_step.specs.declared.state.NodeCore.{NodeCore}
 use Rattle.core_step.specs.Plans.{IsPlanWhere}
 use Rattle.core_step.specs.declared.plan.CorePlan.{CorePlan}
 
--- whether a letter of this sender and body is apt at node p, where the script's coordinator has it
+-- whether a letter of this sender and body is apt at node p, where the script's kind of coordinator allows it
 abbrev pub apt_by : ScriptData → ℕ → ℕ → Core → Body → Bool
 apt_by s p from c body =
     (has_strict s || not (is_of_strict body))
@@ -33,7 +33,7 @@ apt_by s p from c body =
     && (is_new s c.node body && is_unheld body c.holds
     && (is_core_timely s c body && decides_near s c.node body && can_make_at s p c body)))
 
--- what a core does with a letter that the script's coordinator has is planned
+-- what a core does with a letter that the script's kind of coordinator allows is planned
 abbrev pub IsOwnPlan : ScriptData → Letter → NodeCore → CorePlan → Type 0
 IsOwnPlan s l n plan = IsPlanWhere (apt_by s l.to.0 l.from.0 (core_of n) l.body) s l n plan
 

@@ -57,8 +57,8 @@ waking_out body n o = record {
   acts = o.acts;
 }
 
--- a letter that wakes what an order of a coordinator that forgets does: the one for which the order stands, if it takes
--- effect, and else the order, which as a letter wakes none
+-- a letter that wakes just what an order of a coordinator that forgets wakes: the order for which it stands, if it takes
+-- effect; else the order itself, which wakes nothing
 abbrev pub waking_order : ℕ → What → Version → Core → Body
 waking_order e what v c = if is_obeyed_now e what v c then plain_order what v else Order e what v
 

@@ -1,5 +1,5 @@
 use Rattle.std.proofs.Common.{sym}
-use Rattle.core_step.proofs.Ordering.{far_order, old_order, order_plan}
+use Rattle.core_step.proofs.Ordering.{far_order, order_plan}
 use Rattle.core_step.proofs.orders.plan_order.Goals as goal
 
 pub returns-then-not-can_obey : goal.returns-then-not-can_obey

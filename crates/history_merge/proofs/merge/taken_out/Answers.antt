@@ -3,9 +3,10 @@ use Rattle.std.specs.Prelude.{slice_get, slice_set, vec_len}
 use Rattle.std.specs.declared.collections.VecDeque.{VecDeque}
 use Rattle.std.proofs.lemmas.List.{length-map, map-set}
 use Rattle.std.proofs.lemmas.Option.{slice_get_within}
+use Rattle.tv_base.proofs.ByPlace.{get_map}
 use Rattle.letter_types.specs.declared.entries.Entry.{Entry}
 use Rattle.history_merge.specs.inside.Taking.{FirstHas}
-use Rattle.history_merge.proofs.Merges.{at_map, at_place, first_of, none_more}
+use Rattle.history_merge.proofs.Merges.{at_place, first_of, none_more}
 use Rattle.history_merge.proofs.merge.taken_out.Goals as goal
 
 pub returns-then-is_first-clause-taken : goal.returns-then-is_first-clause-taken
@@ -18,7 +19,7 @@ returns-then-is_first-clause-taken c =
     let inside : a < length old = search rules in
     let there : d ≡ get_or old a d = c.index_mut-list.ensures.value in
     let here : slice_get old a ≡ Some d = at_place old a d inside there in
-    let row : slice_get (map items_of old) a ≡ Some d.items = at_map items_of old a d here in
+    let row : slice_get (map items_of old) a ≡ Some d.items = get_map items_of old a d here in
     let popped : d.items ≡ c.in_ok-entry.entry ∷ c.pop_front.new.self.items = c.in_ok-entry.ensures.items in
     let at_first : Some c.index.result.now ≡ Some d = sym (at_place old a c.index.result.now inside c.index.ensures) ∙ here in
     let one : c.index.result.now ≡ d = cc at_first in
@@ -39,7 +40,7 @@ loop-actor-preserved c =
     let old = c.loop-actor.lists.items in
     let d = c.index.result.now in
     let inside : a < length old = search rules in
-    let row : slice_get (map items_of old) a ≡ Some d.items = at_map items_of old a d (at_place old a d inside c.index.ensures) in
+    let row : slice_get (map items_of old) a ≡ Some d.items = get_map items_of old a d (at_place old a d inside c.index.ensures) in
     let there = subst (λ (l : List (VecDeque Entry Global)). slice_get (map items_of l) a ≡ Some d.items) i.same row in
     record {
       same = i.same;

@@ -45,8 +45,8 @@ pub returns-then-not-len_fits : goal.returns-then-not-len_fits
 returns-then-not-len_fits c =
     later_wrong c.args.script.now (fields_of c.args.row.now) _ _ _ _ _ c.form.ensures c.field.ensures c.in-Some.ensures c.len_fits.ensures c.len.ensures c.if-not-len_fits.true
 
-pub lose_row_of-requires : goal.lose_row_of-requires
-lose_row_of-requires c = second_loses c.args.script.now (fields_of c.args.row.now) _ _ _ c.form.ensures c.field.ensures c.in-Some.ensures c.in-Lose.is
+pub add_lose-requires : goal.add_lose-requires
+add_lose-requires c = second_loses c.args.script.now (fields_of c.args.row.now) _ _ _ c.form.ensures c.field.ensures c.in-Some.ensures c.in-Lose.is
 
 pub fail_row_of-requires : goal.fail_row_of-requires
 fail_row_of-requires c = second_fails c.args.script.now (fields_of c.args.row.now) _ _ _ c.form.ensures c.field.ensures c.in-Some.ensures c.in-Fail.is

@@ -1,2 +1,1 @@
-use Rattle.step_tests.proofs.Fresh.{keeping_ready}
 use Rattle.step_tests.proofs.nodes.keeping_for.Goals as goal

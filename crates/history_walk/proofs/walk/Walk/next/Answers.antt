@@ -1,8 +1,9 @@
 use Rattle.std.proofs.Common.{◌-◌, List, ℕ, drop, length, refl, subst, sym, take}
+use Rattle.tv_base.proofs.Pieces.{rest_whole}
 use Rattle.letter_types.specs.declared.entries.Entry.{Entry}
 use Rattle.history_walk.specs.Walks.{WalkData, ComesBehind}
 use Rattle.history_walk.specs.inside.Finding.{entry_with}
-use Rattle.history_walk.proofs.NextEntry.{goes_on, letters_added, rest_whole, unposted, unread}
+use Rattle.history_walk.proofs.NextEntry.{goes_on, letters_added, unposted, unread}
 use Rattle.history_walk.proofs.walk.Walk.next.Goals as goal
 
 pub returns-in_default-clause-text : goal.returns-in_default-clause-text

@@ -1,6 +1,7 @@
 use Rattle.std.proofs.Common.{sym, ◌∙◌}
 use Rattle.letter_types.specs.Kept.{wakes_by}
-use Rattle.kept_letters.proofs.Calling.{none_woken, wakes_none}
+use Rattle.letter_types.proofs.Ids.{none_woken}
+use Rattle.kept_letters.proofs.Calling.{wakes_none}
 use Rattle.kept_letters.proofs.kept.KeptLetters.wakes.Goals as goal
 
 pub returns-in-None : goal.returns-in-None
