@@ -1,7 +1,7 @@
 -- Subtransactions of a tree, by their numbers.
 use Rattle.std.proofs.Common.{◌≡◌, ◌<◌, ◌≤◌, ◌^◌, ◌∙◌, ◌∷◌, [], List, Bool, true, false, ℕ, zero, suc, length, get_or, refl, sym, ap, arith}
 use Rattle.std.specs.Prelude.{decimal, nat_lt, is_some, IsTrue, Option, Some, None, slice_get}
-use Rattle.std.proofs.lemmas.Bool.{lt-ltb, ltb-true}
+use Rattle.std.proofs.lemmas.Bool.{lt-ltb, ltb-true, le-ltb}
 use Rattle.std.proofs.lemmas.Option.{slice_get-get_or}
 use Rattle.tv_base.specs.declared.numbers.SubNo.{SubNo}
 use Rattle.tv_base.specs.declared.numbers.TreeNo.{TreeNo}
@@ -9,7 +9,6 @@ use Rattle.tx_trees.specs.ScriptData.{ScriptData, sub_at, subs_at}
 use Rattle.tx_trees.specs.Valid.{IsValid}
 use Rattle.tx_trees.specs.declared.parts.Sub.{Sub}
 use Rattle.tx_trees.specs.declared.parts.Tree.{Tree}
-use Rattle.tx_trees.proofs.Lists.{lt_not}
 use Rattle.tx_trees.proofs.SubsOf.{few_subs, found_subs}
 use Rattle.history_text.specs.Printable.{IsHalfWord, IsSubOf}
 use Rattle.history_words.specs.Words.{HasTree, name_of_tree}
@@ -18,7 +17,7 @@ use Rattle.history_words.proofs.OneToOne.{tree_one}
 
 -- what is at a place, by the length
 is_there : {X : Type 0} (xs : List X) (k : ℕ) → nat_lt k (length xs) ≡ is_some (slice_get xs k)
-is_there [] k = lt_not k 0 (omega arith)
+is_there [] k = le-ltb k 0 (omega arith)
 is_there (x ∷ xs) zero = lt-ltb 0 (length (x ∷ xs)) (omega arith)
 is_there (x ∷ xs) (suc k) = grind (arith, is_there xs k)
 

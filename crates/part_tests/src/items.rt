@@ -55,8 +55,8 @@ fn an_item_is_touched_and_collected(rt: HostRuntime) -> Result<(), Fail> {
     assert!(rt; holds(&item, &[(0, 1), (1, 10), (2, 12)]));
     collect(&mut item, 1)?;
     assert!(rt; holds(&item, &[(1, 10), (2, 12)]));
-    touch(alloc, &mut item, 3, 8)?;
-    assert!(rt; holds(&item, &[(1, 10), (2, 12), (3, 20)]));
+    touch(alloc, &mut item, 3, 0)?;
+    assert!(rt; holds(&item, &[(1, 10), (2, 12), (3, 12)]));
     Ok(())
 }
 

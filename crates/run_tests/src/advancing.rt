@@ -1,7 +1,7 @@
 // Whole runs of scripts whose versions advance, each letter taken as a picker chooses.
 
 use crate::common::{held_at, script_of, take};
-use letter_types::LetterId;
+use letter_types::{Body, LetterId};
 use report_text::report;
 use sim_runner::{Hold, Newest, Picks, Starve, simulate_by};
 use std::alloc::Global;
@@ -71,6 +71,10 @@ fn a_letter_held_back_holds_the_version(rt: HostRuntime) -> Result<(), Fail> {
     };
     let history = simulate_by(rt.alloc(), &script, &mut Hold(id))?;
     assert_eq!(rt; history.items().len(), 44);
+    // The verdict is no: the last row of the round comes, and nothing is sent.
+    let verdict = history.items().get(14).ok_or("entry 15")?;
+    assert!(rt; matches!(verdict.took.body, Body::AskedRow { .. }));
+    assert_eq!(rt; verdict.sent.items().len(), 0);
     let held = history.items().get(15).ok_or("entry 16")?;
     assert!(rt; held.took.id == id);
     let text = report(rt.alloc(), &script, &history)?;

@@ -2,13 +2,13 @@
 use Rattle.std.proofs.Common.{◌≡◌, ◌+◌, ◌/◌, ◌%◌, ◌<◌, ◌≤◌, ◌∙◌, ◌∷◌, ◌++◌, [], List, Bool, true, false, ℕ, zero, suc, refl, ap, arith}
 use Rattle.std.specs.Prelude.{◌==◌, nat_le, Ok}
 use Rattle.std.proofs.lemmas.Bool.Decides.{nat_tests}
+use Rattle.std.proofs.lemmas.Bool.{lt-leb}
 use Rattle.tx_trees.proofs.Stays.{advances-settle}
 use Rattle.tx_trees.specs.Adding.{adds_advance, advances_in, with_row}
 use Rattle.tx_trees.specs.ScriptData.{ScriptData}
 use Rattle.tx_trees.specs.declared.parts.ScriptRow.{ScriptRow}
 use Rattle.tx_trees.specs.declared.parts.ScriptRow.TheVariants as rows
 use Rattle.tx_trees.specs.declared.parts.Tree.{Tree}
-use Rattle.tx_trees.proofs.Lists.{le_not}
 use Rattle.tx_trees.proofs.Rebuilding.{advances_in-append}
 use Rattle.script_gen.specs.Generated.{advances_behind, rows_up_to}
 use Rattle.script_gen.specs.inside.Within.{HasTrees, with_begun}
@@ -47,5 +47,5 @@ few_behind seed j s now t few has made =
 pub advance_taken : (s t : ScriptData) → advances_in s.rows < 100 → t ≡ with_row s rows.Settle → adds_advance t ≡ Ok (with_row t rows.Advance)
 advance_taken s t few e =
     let count : advances_in t.rows ≡ advances_in s.rows = ap (λ (z : ScriptData). advances_in z.rows) e ∙ advances-settle s.rows in
-    let less : nat_le 100 (advances_in t.rows) ≡ false = le_not 100 (advances_in t.rows) (omega (arith, count, few)) in
+    let less : nat_le 100 (advances_in t.rows) ≡ false = lt-leb 100 (advances_in t.rows) (omega (arith, count, few)) in
     rw less refl

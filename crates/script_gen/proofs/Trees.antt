@@ -2,7 +2,7 @@
 use Rattle.std.proofs.Common.{◌≡◌, ◌+◌, ◌*◌, ◌/◌, ◌%◌, ◌<◌, ◌≤◌, ◌∙◌, ◌∷◌, ◌++◌, [], List, Bool, true, false, ℕ, zero, suc, length, refl, sym, ap, subst, arith, length-append}
 use Rattle.std.specs.Prelude.{◌&&◌, ◌||◌, ◌==◌, not, nat_le, nat_lt, Option, Some, None, slice_get, unsigned_abs}
 use Rattle.std.specs.Str.{bytes_eq}
-use Rattle.std.proofs.lemmas.Bool.{le-leb}
+use Rattle.std.proofs.lemmas.Bool.{le-leb, le-ltb, lt-leb}
 use Rattle.std.proofs.lemmas.Bool.Decides.{nat_tests}
 use Rattle.std.proofs.lemmas.Int.{ints}
 use Rattle.std.proofs.lemmas.List.Folds.{list_any-append}
@@ -30,7 +30,7 @@ use Rattle.tx_trees.specs.declared.parts.Tree.{Tree}
 use Rattle.tx_trees.specs.declared.parts.TreeKind.{TreeKind}
 use Rattle.tx_trees.specs.declared.parts.TreeKind.TheVariants as kinds
 use Rattle.tx_trees.proofs.Last.{last_count_is, last_kind_is, last_node_is, last_sub_is, last_subs_is}
-use Rattle.tx_trees.proofs.Lists.{last_of-seam, le_not, lt_not, on_last-seam, slice_get-seam, sum-push}
+use Rattle.tx_trees.proofs.Lists.{last_of-seam, on_last-seam, slice_get-seam, sum-push}
 use Rattle.tx_trees.proofs.Totals.{all_subs-sum, load_total, op_total, put_total, strict-sum}
 use Rattle.script_gen.specs.Draws.{after_draws}
 use Rattle.tv_base.specs.Draws.{next_draw, upper_bits}
@@ -81,11 +81,11 @@ nothing_times z u e = subst (λ (k : ℕ). k * u ≤ 1000000) (sym e) (omega ari
 tree_limits : (len subs z u : ℕ) → len < 20000 → subs < 100000 → z ≡ 0
     → (nat_le 20000 len || nat_lt 320000 (4 * (len + 1)) || nat_le 100000 subs || nat_lt 1000 z || nat_lt 1000000 (z * u)) ≡ false
 tree_limits len subs z u few less none =
-    let a : nat_le 20000 len ≡ false = le_not 20000 len few in
-    let b : nat_lt 320000 (4 * (len + 1)) ≡ false = lt_not 320000 (4 * (len + 1)) (omega arith) in
-    let c : nat_le 100000 subs ≡ false = le_not 100000 subs less in
-    let d : nat_lt 1000 z ≡ false = lt_not 1000 z (omega (arith, none)) in
-    let e : nat_lt 1000000 (z * u) ≡ false = lt_not 1000000 (z * u) (nothing_times z u none) in
+    let a : nat_le 20000 len ≡ false = lt-leb 20000 len few in
+    let b : nat_lt 320000 (4 * (len + 1)) ≡ false = le-ltb 320000 (4 * (len + 1)) (omega arith) in
+    let c : nat_le 100000 subs ≡ false = lt-leb 100000 subs less in
+    let d : nat_lt 1000 z ≡ false = le-ltb 1000 z (omega (arith, none)) in
+    let e : nat_lt 1000000 (z * u) ≡ false = le-ltb 1000000 (z * u) (nothing_times z u none) in
     rw (a, b, c, d, e) refl
 
 pub tree_may : (s : ScriptData) (j d : ℕ) → HasRoomForTree j s → MayAddTree s (tree_name j) (kind_by d) (let q : NodeNo = record { 0 = home_by d } in q)
@@ -96,7 +96,7 @@ tree_may s j d room =
     = tree_limits (length s.trees) (all_subs s.trees) (strict_trees s.trees + one_strict (kind_by d)) (update_subs s.trees + if_update (kind_by d) 1)
     (omega arith) (omega (arith, room.subs)) (omega (arith, room.strict, not_strict d)) in
     record {
-      place = subst (λ (n : ℕ). nat_le n (home_by d) ≡ false) (sym room.nodes) (le_not 4 (home_by d) (omega arith));
+      place = subst (λ (n : ℕ). nat_le n (home_by d) ≡ false) (sym room.nodes) (lt-leb 4 (home_by d) (omega arith));
       plain = name_plain 116 j refl (omega arith);
       free = room.free;
       room = subst (λ (n : ℕ). has_no_tree_left n (kind_by d) s.trees ≡ false) (sym room.nodes) left;
@@ -111,9 +111,9 @@ tree_begun s j x room =
 
 sub_limits : (len subs z u : ℕ) → len < 64 → subs < 100000 → z ≡ 0 → (nat_le 64 len || nat_le 100000 subs || nat_lt 1000000 (z * u)) ≡ false
 sub_limits len subs z u few less none =
-    let a : nat_le 64 len ≡ false = le_not 64 len few in
-    let c : nat_le 100000 subs ≡ false = le_not 100000 subs less in
-    let e : nat_lt 1000000 (z * u) ≡ false = lt_not 1000000 (z * u) (nothing_times z u none) in
+    let a : nat_le 64 len ≡ false = lt-leb 64 len few in
+    let c : nat_le 100000 subs ≡ false = lt-leb 100000 subs less in
+    let e : nat_lt 1000000 (z * u) ≡ false = le-ltb 1000000 (z * u) (nothing_times z u none) in
     rw (a, c, e) refl
 
 sub_may : (s : ScriptData) (j : ℕ) (t : Tree) (parent node : ℕ) → HasRoomForTree j s → one_strict t.kind ≡ 0 → length t.subs ≤ 3 → parent < length t.subs → node < 4
@@ -125,9 +125,9 @@ sub_may s j t parent node room plain few less at =
     let subs : all_subs trees ≡ all_subs s.trees + length t.subs = sum-push (λ (one : Tree). length one.subs) all_subs all_subs-sum s.trees t in
     let strict : strict_trees trees ≡ strict_trees s.trees + one_strict t.kind = sum-push (λ (one : Tree). one_strict one.kind) strict_trees strict-sum s.trees t in
     record {
-      place = subst (λ (n : ℕ). nat_le n node ≡ false) (sym room.nodes) (le_not 4 node at);
+      place = subst (λ (n : ℕ). nat_le n node ≡ false) (sym room.nodes) (lt-leb 4 node at);
       begun = refl;
-      earlier = le_not (last_subs trees) parent (omega (arith, count, less));
+      earlier = lt-leb (last_subs trees) parent (omega (arith, count, less));
       room = sub_limits (last_subs trees) (all_subs trees) (strict_trees trees) (update_subs trees + if_update (last_kind trees) 1)
           (omega (arith, count, few)) (omega (arith, subs, room.subs, room.few, few)) (omega (arith, strict, room.strict, plain));
     }
@@ -202,9 +202,9 @@ same_node a b c ea eb = grind (arith, nat_tests)
 
 op_limits : (a b c : ℕ) → a ≡ 0 → b < 200000 → c ≡ 0 → (nat_le 16 a || nat_le 200000 b || nat_lt 64 c) ≡ false
 op_limits a b c none less puts =
-    let ea : nat_le 16 a ≡ false = le_not 16 a (omega (arith, none)) in
-    let eb : nat_le 200000 b ≡ false = le_not 200000 b less in
-    let ec : nat_lt 64 c ≡ false = lt_not 64 c (omega (arith, puts)) in
+    let ea : nat_le 16 a ≡ false = lt-leb 16 a (omega (arith, none)) in
+    let eb : nat_le 200000 b ≡ false = lt-leb 200000 b less in
+    let ec : nat_lt 64 c ≡ false = le-ltb 64 c (omega (arith, puts)) in
     rw (ea, eb, ec) refl
 
 none_strict : (kind : TreeKind) (b : Bool) → one_strict kind ≡ 0 → (is_strict kind && b) ≡ false
@@ -242,7 +242,7 @@ op_may s j name kind ss p q k deed room plain few small none less at fits size p
       room = op_limits (last_count trees) (all_ops trees) (trees_puts k trees + one_put deed) (last_count_is trees b sub)
           (omega (arith, ops, its_ops, room.ops, room.few, few)) (omega (arith, puts, its_puts, room.puts k, none, put));
       load = subst (λ (f : Form). nat_lt (most_amount f) (load k (with_begun s j t) + magnitude deed) ≡ false) (sym room.form)
-          (lt_not 1000000000000000 (load k (with_begun s j t) + magnitude deed) most);
+          (le-ltb 1000000000000000 (load k (with_begun s j t) + magnitude deed) most);
       once = ap (λ (o : Option Tree). elim o as (λ (z : Option Tree). Bool) [ None ↦ false | Some one ↦ is_strict one.kind && touch k one.subs ]) last
           ∙ none_strict kind (touch k t.subs) plain;
     }

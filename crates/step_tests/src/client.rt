@@ -12,8 +12,6 @@ use tx_trees::Script;
 
 const TWO_TREES: &[u8] = b"nodes,2\nupdate,s,1\nupdate,t,0\n";
 
-const SETTLED_TWICE: &[u8] = b"nodes,2\nupdate,s,1\nadvance\nsettle\nupdate,t,0\nsettle\n";
-
 // The run begins.
 fn go() -> Letter {
     letter(3, 3, Body::Go)
@@ -28,12 +26,6 @@ fn reply(alloc: Global, tree: u32) -> Letter {
         answer,
     };
     letter(0, 3, body)
-}
-
-// An advancement has ended.
-fn advanced() -> Letter {
-    let version = Version(1);
-    letter(2, 3, Body::Advanced { version })
 }
 
 // The tree of the Root at a place of what is sent, and to whom it goes.
@@ -69,7 +61,6 @@ enum Seen {
     Nothing,
     Nudge,
     NudgeAndFinished,
-    SecondRoot,
     Other,
 }
 
@@ -78,7 +69,6 @@ fn seen_in(step: &Step) -> Seen {
     match step.given.sent.items() {
         [] if acts.is_empty() => Seen::Nothing,
         [only] => match (&only.body, acts) {
-            (Body::Root { tree: TreeNo(1) }, []) if only.to == ActorNo(0) => Seen::SecondRoot,
             (Body::Nudge, []) if only.to == ActorNo(2) => Seen::Nudge,
             (Body::Nudge, [Act::Finished]) if only.to == ActorNo(2) => Seen::NudgeAndFinished,
             _ => Seen::Other,
@@ -124,51 +114,5 @@ fn the_last_answer_finishes_once(rt: HostRuntime) -> Result<(), Fail> {
         hear(alloc, &script, &mut client, reply(alloc, 2))?,
         Seen::Nothing
     );
-    Ok(())
-}
-
-#[test]
-fn a_settle_row_waits_for_answers_and_ends(rt: HostRuntime) -> Result<(), Fail> {
-    let alloc = rt.alloc();
-    let script = script_of(alloc, SETTLED_TWICE)?;
-    let mut client = Client::new(alloc, &script)?;
-    hear(alloc, &script, &mut client, go())?;
-    assert_eq!(rt; client.next(), 2);
-    assert_eq!(rt;
-        hear(alloc, &script, &mut client, reply(alloc, 0))?,
-        Seen::Nudge
-    );
-    assert_eq!(rt; client.next(), 2);
-    assert_eq!(rt;
-        hear(alloc, &script, &mut client, advanced())?,
-        Seen::SecondRoot
-    );
-    assert_eq!(rt; client.next(), 4);
-    assert_eq!(rt;
-        hear(alloc, &script, &mut client, reply(alloc, 1))?,
-        Seen::NudgeAndFinished
-    );
-    assert_eq!(rt; client.next(), 5);
-    Ok(())
-}
-
-#[test]
-fn a_settle_row_holds_back_the_rows_behind_it(rt: HostRuntime) -> Result<(), Fail> {
-    let alloc = rt.alloc();
-    let script = script_of(alloc, SETTLED_TWICE)?;
-    let mut client = Client::new(alloc, &script)?;
-    hear(alloc, &script, &mut client, go())?;
-    assert_eq!(rt;
-        hear(alloc, &script, &mut client, advanced())?,
-        Seen::Nothing
-    );
-    assert_eq!(rt;
-        hear(alloc, &script, &mut client, reply(alloc, 1))?,
-        Seen::Nudge
-    );
-    assert_eq!(rt; client.next(), 2);
-    hear(alloc, &script, &mut client, reply(alloc, 0))?;
-    assert_eq!(rt; client.next(), 5);
-    assert!(rt; client.finished());
     Ok(())
 }

@@ -1,4 +1,5 @@
-//! Tests of actors' steps: what a node and the client do with a letter, and a home with a notice or an acknowledgement.
+//! Tests of calls that no run makes: a step over a node's parts, the client's step, and a home with a notice or an
+//! acknowledgement.
 #![tactic(auto)]
 
 #[cfg(test)]

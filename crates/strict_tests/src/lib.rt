@@ -1,4 +1,5 @@
-//! Tests of strict trees: locks, votes and kept letters, and whole worlds that run scripts with strict trees.
+//! Tests of what strict trees use at a node: locks, votes, decisions and kept letters. Whole runs with strict trees are
+//! cases of the program.
 #![tactic(auto)]
 
 #[cfg(test)]
@@ -6,10 +7,4 @@ mod kept;
 #[cfg(test)]
 mod locks;
 #[cfg(test)]
-mod rows;
-#[cfg(test)]
 mod votes;
-#[cfg(test)]
-mod words;
-#[cfg(test)]
-mod worlds;

@@ -1,14 +1,12 @@
-use crate::rows::{Row, script_of};
-use crate::words::item_line;
-use commute_ops::{Amount, SumValue, Value};
-use item_versions::ItemTable;
+use commute_ops::{Amount, Kind, SumValue, Value};
+use item_versions::{Item, ItemTable};
 use letter_types::{Cause, Vote};
 use nc_commit::{Decision, apply_decision, may_apply_decision, vote};
 use nc_locks::{Locks, Mode};
 use std::alloc::Global;
 use std::test::Fail;
-use tv_base::{ItemNo, NodeNo, Seq, SubNo, TreeNo, Version};
-use tx_trees::{Deed, Sub, SubOp, TreeKind};
+use tv_base::{ItemNo, Name, NodeNo, Seq, SubNo, TreeNo, Version};
+use tx_trees::{Deed, Form, ItemRow, Script, Sub, SubOp, TreeKind};
 
 /// Item 4 with this number in version 0.
 fn table(alloc: Global, number: Amount) -> Result<ItemTable, Fail> {
@@ -86,18 +84,37 @@ fn a_conflict_comes_before_the_other_causes(rt: HostRuntime) -> Result<(), Fail>
 }
 
 /// A sum of 6 at node 0, and a strict tree that draws 4 from it.
-const ONE_DRAW: [Row; 3] = [
-    Row::Item(b'a', 0, 6),
-    Row::Tree(b'k', TreeKind::Strict, 0),
-    Row::Op(b'a', Deed::Draw(4)),
-];
+fn one_draw(alloc: Global) -> Result<Script, Fail> {
+    let mut script = Script::new(alloc, Form::One, 1);
+    let item = Name::new(b"a").ok_or("a name")?;
+    let tree = Name::new(b"k").ok_or("a name")?;
+    let _item = script.add_item(ItemRow {
+        name: item,
+        node: NodeNo(0),
+        kind: Kind::Sum,
+        initial: 6,
+    })?;
+    let _tree = script.add_tree(tree, TreeKind::Strict, NodeNo(0))?;
+    script.add_op(&item, Deed::Draw(4))?;
+    Ok(script)
+}
+
+/// Whether the item holds just these versions, with these sums.
+fn holds(item: &Item, want: &[(u64, Amount)]) -> bool {
+    let held = item.held();
+    held.len() == want.len()
+        && held.iter().zip(want).all(|(entry, want)| entry.0.0 == want.0
+            && matches!(&entry.1, Value::Sum(sum) if sum.0 == want.1))
+}
 
 // A commit lowers what is seen, in the tree's version, and an abort leaves it; both free the tree's locks alone.
 #[test]
 fn a_decision_is_applied_and_frees_the_locks(rt: HostRuntime) -> Result<(), Fail> {
     let alloc = rt.alloc();
-    let script = script_of(alloc, 1, &ONE_DRAW)?;
-    for (commit, line) in [(true, "item 0 0:6 1:2\n"), (false, "item 0 0:6\n")] {
+    let script = one_draw(alloc)?;
+    let lowered = [(0, 6), (1, 2)];
+    let same = [(0, 6)];
+    for (commit, want) in [(true, lowered.as_slice()), (false, same.as_slice())] {
         let mut items = ItemTable::new(alloc);
         items.add(ItemNo(0), Value::Sum(SumValue(6)))?;
         let mut locks = Locks::new(alloc);
@@ -113,7 +130,7 @@ fn a_decision_is_applied_and_frees_the_locks(rt: HostRuntime) -> Result<(), Fail
         }
         apply_decision(alloc, &mut locks, &mut items, decision, &script, NodeNo(0))?;
         let item = items.item(ItemNo(0)).ok_or("the item")?;
-        assert_eq!(rt; item_line(alloc, 0, item.held())?.as_str(), line);
+        assert!(rt; holds(item, want));
         assert!(rt; locks.met(TreeNo(9), &[(ItemNo(0), Mode::Hold)]).is_none());
         assert!(rt; locks.met(TreeNo(9), &[(ItemNo(5), Mode::Hold)]).is_some());
     }

@@ -1,1 +1,0 @@
-use Rattle.step_tests.proofs.nodes.keeping_for.Goals as goal
