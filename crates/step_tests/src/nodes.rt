@@ -1,4 +1,4 @@
-ghost use Rattle.std.specs.Prelude.{IfOk};
+ghost use Rattle.std.specs.Prelude.{◌<◌, IfOk};
 ghost use Rattle.tree_step.specs.Node.{IsReady};
 
 use crate::builders::{letter, script_of};
@@ -12,7 +12,7 @@ use std::alloc::Global;
 use std::test::Fail;
 use tree_home::Homes;
 use tree_step::{NodeParts, is_due};
-use tv_base::{ActorNo, ItemNo, SubNo, TreeNo, Version};
+use tv_base::{ActorNo, ItemNo, NoMemory, SubNo, TreeNo, Version};
 use tx_trees::Script;
 use update_step::run_update;
 
@@ -20,15 +20,13 @@ use update_step::run_update;
 const TWO_TREES: &[u8] =
     b"nodes,2\nitem,a,0,sum,10\nitem,b,1,sum,10\nupdate,t,0\nadd,a,5\nsub,0,1\nadd,b,7\nread,r,0\nget,a\n";
 
-// The node that a letter goes to, with its item at 10, as a run begins.
-fn node_for(alloc: Global, script: &Script, letter: &Letter) -> Result<NodeParts, Fail>
-    ensures { IfOk result (λ node. IsReady script.now letter.now.to.0 node) }
+// A node with its item at 10, as a run begins.
+fn first_node(alloc: Global, script: &Script, at: ActorNo) -> Result<NodeParts, NoMemory>
+    requires { at.0 < script.now.nodes }
+    ensures { IfOk result (λ node. IsReady script.now at.0 node) }
 {
-    if letter.to.0 >= script.nodes() {
-        return Err("to no node".into());
-    }
     let mut items = ItemTable::new(alloc);
-    items.add(ItemNo(letter.to.0 as u32), Value::Sum(SumValue(10)))?;
+    items.add(ItemNo(at.0 as u32), Value::Sum(SumValue(10)))?;
     Ok(NodeParts {
         turns: Turns {
             update: Version(1),
@@ -39,6 +37,16 @@ fn node_for(alloc: Global, script: &Script, letter: &Letter) -> Result<NodeParts
         counters: Counters::new(script.nodes()),
         homes: Homes::new(alloc),
     })
+}
+
+// The node that a letter goes to.
+fn node_for(alloc: Global, script: &Script, letter: &Letter) -> Result<NodeParts, Fail>
+    ensures { IfOk result (λ node. IsReady script.now letter.now.to.0 node) }
+{
+    if letter.to.0 >= script.nodes() {
+        return Err("to no node".into());
+    }
+    Ok(first_node(alloc, script, letter.to)?)
 }
 
 // What is seen of an item's sum in a version, or 0.
