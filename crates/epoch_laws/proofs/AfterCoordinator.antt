@@ -40,10 +40,10 @@ of_node s from to Go meant = tt
 of_node s from to _ meant = tt
 
 -- The letters that are left were right, and come from where they should.
-abbrev pub WasRight : ScriptData → List Entry → Letter → Type 0
+abbrev WasRight : ScriptData → List Entry → Letter → Type 0
 WasRight s past l = IsOfNode s l.from.0 l.body × IsRight s past l.from.0 l.to.0 l.body
 
-pub were_right : (s : ScriptData) (past : List Entry) (e : Entry) → IsValid s → IsStepRun s past → IsGood s past
+were_right : (s : ScriptData) (past : List Entry) (e : Entry) → IsValid s → IsStepRun s past → IsGood s past
     → Each (WasRight s past) (left_of s past e)
 were_right s past e valid run good =
     let P = λ (l : Letter). IsOfNode s l.from.0 l.body in
@@ -54,7 +54,7 @@ were_right s past e valid run good =
     (each_waits (IsLetterMeant s) s past (letters_are_meant s past valid run))) good.letters)
 
 -- what is sent is right
-abbrev pub AreSentRight : ScriptData → List Entry → Entry → Type 0
+abbrev AreSentRight : ScriptData → List Entry → Entry → Type 0
 AreSentRight s past e = Each (λ (o : Outgoing). (i : LetterId) → IsRight s (e ∷ past) e.actor.0 o.to.0 o.body) e.sent
 
 abbrev pub AreRight : ScriptData → List Entry → Type 0

@@ -1,7 +1,6 @@
 -- An entry of the coordinator leaves nodes and the client, and letters that it doesn't take.
-use Rattle.std.proofs.Common.{◌≡◌, ◌≢◌, ◌⊎◌, inl, inr, ℕ, zero, suc, ◌+◌, ◌<◌, ◌≤◌, ◌==◌, ◌&&◌, Bool, true, false, List, [], ◌∷◌, refl, sym, ap, subst, ◌∙◌, arith}
+use Rattle.std.proofs.Common.{◌≡◌, ◌⊎◌, inl, inr, ℕ, zero, suc, ◌+◌, ◌<◌, ◌≤◌, ◌==◌, List, [], ◌∷◌, refl, sym, ap, subst, ◌∙◌, arith}
 use Rattle.std.specs.Prelude.{take}
-use Rattle.std.proofs.lemmas.Bool.Decides.{nat_tests}
 use Rattle.letter_types.specs.Letters.{drop_id, letters_of}
 use Rattle.letter_types.specs.declared.bodies.Body.{Body}
 use Rattle.letter_types.specs.declared.bodies.Body.TheVariants.{Go, Obeyed, Order}
@@ -18,7 +17,7 @@ use Rattle.world_model.specs.Coordinator.{to_nodes}
 use Rattle.world_model.specs.Counts.{Each, tally}
 use Rattle.world_model.specs.Keeping.{KeepingNode}
 use Rattle.world_model.specs.Runs.{MayFollow, client_in, in_flight, keeping_in, restarting_in}
-use Rattle.world_model.proofs.Bags.{tally-append, tally-drop, one_if_and, one_if_both, one_if_other, one_if_same, tally_most}
+use Rattle.world_model.proofs.Bags.{tally-append, tally-drop, one_if_and, one_if_both, one_if_other, one_if_same}
 use Rattle.world_model.proofs.Every.{each_append, each_map, each_none, each_sealed, each_zero}
 use Rattle.world_model.proofs.Flows.{client_kept}
 use Rattle.world_model.proofs.Outstanding.{keeping_elsewhere}
@@ -85,11 +84,6 @@ order_most e q from to (Order d what v) = one_if_and (d == e) (to == q)
 order_most e q from to (Obeyed d what v) = omega arith
 order_most e q from to Go = omega arith
 order_most e q from to _ = omega arith
-
-pub orders_most : (s : ScriptData) (past : List Entry) (e q : ℕ) → going (order_to e q) s past ≤ going (token e) s past
-orders_most s past e q =
-    tally_most (λ (l : Letter). order_to e q l.from.0 l.to.0 l.body) (λ (l : Letter). token e l.from.0 l.to.0 l.body) (in_flight s past)
-    (λ l. order_most e q l.from.0 l.to.0 l.body)
 
 -- Orders to all nodes.
 pub orders_tokens : (n e a : ℕ) (what : What) (v : Version) → tally (leaving (token e) a) (to_nodes n (Order e what v)) ≡ n

@@ -45,7 +45,7 @@ tells_end f (Advanced v) = one_if (nat_le f v.0)
 tells_end f Go = 0
 tells_end f _ = 0
 
-abbrev pub HearsAll : ScriptData → List Entry → Restarting → Type 0
+abbrev HearsAll : ScriptData → List Entry → Restarting → Type 0
 HearsAll s past c = Knows c.phase
     → 1 ≤ count_in_flight (tells_end c.ended) s past + one_if (nat_le c.ended (client_in s past).ended)
 
@@ -191,7 +191,7 @@ client_hears s past e f laws loses run (Aside away) was =
     (ap (λ (c : Client). c.ended) (client_kept s past e away)) was
 
 -- In every run.
-pub hears_in : (s : ScriptData) (past : List Entry) → IsTreeLawful s → is_lossy s ≡ true → IsStepRun s past → AllApt s past
+hears_in : (s : ScriptData) (past : List Entry) → IsTreeLawful s → is_lossy s ≡ true → IsStepRun s past → AllApt s past
     → HearsAll s past (restarting_in s past)
 hears_in s [] laws loses run apt = λ knows. omega arith
 hears_in s (e ∷ past) laws loses run apt = by (cases_eq e.actor.0 s.nodes) (hears_in s past laws loses run.1 apt.1) where

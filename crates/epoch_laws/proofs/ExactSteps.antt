@@ -50,10 +50,10 @@ pub record IsStill (turns : Turns) (r l : Version) : Type 0 where
 
 -- n nodes have these versions: where the coordinator knows how many advancements have ended they are no further than that, and
 -- else just as they have told
-abbrev pub AreNoFurther : ℕ → RestartPhase → ℕ → (ℕ → Turns) → Type 0
+abbrev AreNoFurther : ℕ → RestartPhase → ℕ → (ℕ → Turns) → Type 0
 AreNoFurther n phase f at = (q : ℕ) → q < n → IsNoFurther phase f (at q)
 
-abbrev pub AreStill : ℕ → AllTold → (ℕ → Turns) → Type 0
+abbrev AreStill : ℕ → AllTold → (ℕ → Turns) → Type 0
 AreStill n ts at = (q : ℕ) (t : Told) → q < n → HasTold ts q t → IsStill (at q) t.read t.low
 
 abbrev pub AreExact : ℕ → RestartPhase → ℕ → AllTold → (ℕ → Turns) → Type 0

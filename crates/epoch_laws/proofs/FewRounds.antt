@@ -30,7 +30,7 @@ is_lose_letter _ = 0
 -- How many rounds may still begin without a nudge, where at most a advancements are wanted and f have ended: two in each that
 -- hasn't begun, and those that the one in progress hasn't begun. Who recovers doesn't know how many have ended: as it resumes,
 -- nodes may be in one more than are wanted.
-abbrev pub rounds_left : ℕ → RestartPhase → ℕ → ℕ
+abbrev rounds_left : ℕ → RestartPhase → ℕ → ℕ
 rounds_left a Recovering f = 2 * a + 2
 rounds_left a Idle f = 2 * (a - f)
 rounds_left a (Doing ToTurn) f = 2 * (a - (f + 1)) + 2
@@ -46,11 +46,11 @@ remembered Idle flag = 0
 remembered _ flag = 0
 
 -- the rounds that may still begin: those, and one where a nudge is remembered
-abbrev pub still_due : ℕ → RestartPhase → Bool → ℕ → ℕ
+abbrev still_due : ℕ → RestartPhase → Bool → ℕ → ℕ
 still_due a phase flag f = remembered phase flag + rounds_left a phase f
 
 -- with these, the rounds of the epoch so far are one for each of n nudges, and those that begin without one, at most
-abbrev pub AreFewRounds : ℕ → ℕ → Restarting → Type 0
+abbrev AreFewRounds : ℕ → ℕ → Restarting → Type 0
 AreFewRounds a n c = c.count.number + still_due a c.phase c.count.flag c.ended ≤ c.epoch * 2 ^ 32 + n + (2 * a + 2)
 
 -- the coordinator's numbers, where m advancements were asked for and n nudges came: no more are wanted, the client told of no

@@ -1,10 +1,9 @@
 -- From where on the versions of nodes are while a coordinator that forgets recovers, and what they tell it. It goes on from
 -- there.
-use Rattle.std.proofs.Common.{◌≡◌, ◌≢◌, ◌⊎◌, inl, inr, ℕ, zero, suc, ◌+◌, ◌<◌, ◌≤◌, ◌==◌, Bool, true, List, [], ◌∷◌, length, refl, sym, ap, subst, ◌∙◌, arith, Option, Some, None}
+use Rattle.std.proofs.Common.{◌≡◌, ◌≢◌, ◌⊎◌, inl, inr, ℕ, zero, suc, ◌+◌, ◌<◌, ◌≤◌, Bool, true, List, [], ◌∷◌, length, refl, sym, ap, subst, ◌∙◌, arith, Option, Some, None}
 use Rattle.std.specs.Prelude.{is_some, replicate}
 use Rattle.std.specs.List.{list_all, list_any}
 use Rattle.std.proofs.lemmas.Bool.{or_left, or_right, eq-eqb}
-use Rattle.std.proofs.lemmas.Bool.Decides.{nat_tests}
 use Rattle.std.proofs.lemmas.Option.{slice_get_within}
 use Rattle.tv_base.specs.Outside.{one_more}
 use Rattle.tv_base.specs.declared.numbers.Version.{Version}
@@ -110,7 +109,7 @@ floor_aside s past e f shown good m away aside was =
     }
 
 -- Entries of the coordinator: nodes stay.
-pub nodes_stay : (s : ScriptData) (past : List Entry) (e : Entry) (f : ℕ) (shown : Bool) → e.actor.0 ≡ s.nodes
+nodes_stay : (s : ScriptData) (past : List Entry) (e : Entry) (f : ℕ) (shown : Bool) → e.actor.0 ≡ s.nodes
     → ((q : ℕ) → q < s.nodes → IsFrom f shown (turns_in s past q).read.0 (turns_in s past q).low.0)
     → (q : ℕ) → q < s.nodes → IsFrom f shown (turns_in s (e ∷ past) q).read.0 (turns_in s (e ∷ past) q).low.0
 nodes_stay s past e f shown at was q lt =

@@ -19,7 +19,7 @@ use Rattle.world_model.specs.declared.restarting.RestartPhase.TheVariants.{Idle,
 use Rattle.world_model.specs.declared.restarting.Told.{Told}
 use Rattle.phase_laws.specs.Advances.{asked_for}
 use Rattle.phase_laws.specs.Given.{greatest_given}
-use Rattle.phase_laws.specs.Phases.{Stage, TurnStage, ShowStage, SweepStage, stage_of}
+use Rattle.phase_laws.specs.Phases.{TurnStage, ShowStage, SweepStage, stage_of}
 use Rattle.phase_laws.specs.Quiet.{IsSilent}
 use Rattle.phase_laws.proofs.Advancing.{IsWithin}
 use Rattle.phase_laws.proofs.Closing.{tree_version}

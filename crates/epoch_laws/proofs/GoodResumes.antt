@@ -89,7 +89,7 @@ heard_more s past from to body d good few at right asked (OfClient k bd who is) 
     })
 
 -- 1. It hasn't heard all.
-pub still_recovers : (s : ScriptData) (past : List Entry) (e : Entry) (d : Restarting) → IsMove s past e d → HasHeard s past d
+still_recovers : (s : ScriptData) (past : List Entry) (e : Entry) (d : Restarting) → IsMove s past e d → HasHeard s past d
     → (restarting_in s past).phase ≡ Recovering → e.sent ≡ [] → IsWell s past e
 still_recovers s past e d m heard at none =
     let asks : AllAsk e.sent = subst AllAsk (sym none) tt in

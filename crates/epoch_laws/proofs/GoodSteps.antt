@@ -1,5 +1,5 @@
 -- Entries of the coordinator that ask at most: nothing new is given.
-use Rattle.std.proofs.Common.{◌≡◌, ◌≢◌, ◌⊎◌, inl, inr, ℕ, ◌+◌, ◌<◌, ◌≤◌, ◌==◌, Bool, true, false, List, [], ◌∷◌, length, refl, sym, ap, subst, ◌∙◌, arith, Some}
+use Rattle.std.proofs.Common.{◌≡◌, ◌⊎◌, inl, inr, ℕ, ◌+◌, ◌<◌, ◌≤◌, ◌==◌, Bool, true, false, List, [], ◌∷◌, length, refl, sym, ap, subst, ◌∙◌, arith, Some}
 use Rattle.std.proofs.lemmas.Bool.Decides.{nat_tests}
 use Rattle.tv_base.specs.Outside.{one_more}
 use Rattle.tv_base.specs.declared.numbers.Version.{Version}
@@ -155,7 +155,7 @@ told_order d q from to (Order n what v) tells = absurd tells
 told_order d q from to Go tells = absurd tells
 told_order d q from to _ tells = refl
 
-pub orders_same : (s : ScriptData) (past : List Entry) (e : Entry) (d q : ℕ) → MayFollow s past e → TellsAnew e.took.body → AllAsk e.sent
+orders_same : (s : ScriptData) (past : List Entry) (e : Entry) (d q : ℕ) → MayFollow s past e → TellsAnew e.took.body → AllAsk e.sent
     → going (order_to d q) s (e ∷ past) ≡ going (order_to d q) s past
 orders_same s past e d q m tells asks =
     omega (
@@ -165,7 +165,7 @@ orders_same s past e d q m tells asks =
       orders_none d q e.actor.0 e.sent (asks_nothing e.sent asks),
     )
 
-pub tokens_same : (s : ScriptData) (past : List Entry) (e : Entry) (d : ℕ) → MayFollow s past e → AllAsk e.sent
+tokens_same : (s : ScriptData) (past : List Entry) (e : Entry) (d : ℕ) → MayFollow s past e → AllAsk e.sent
     → going (token d) s (e ∷ past) + token d e.took.from.0 e.actor.0 e.took.body ≡ going (token d) s past
 tokens_same s past e d m asks =
     omega (arith, flow_of (token d) s past e m, tokens_none d e.actor.0 e.sent (asks_nothing e.sent asks))

@@ -109,7 +109,7 @@ ends_right s past e x f os m ended all =
 
 -- Where nodes are told something.
 -- the numbers of an order
-pub target_is : (what : What) (f : ℕ) → f ≤ 101 → (f + 1 ≤ (target what f).0) × ((target what f).0 ≤ f + 2)
+target_is : (what : What) (f : ℕ) → f ≤ 101 → (f + 1 ≤ (target what f).0) × ((target what f).0 ≤ f + 2)
 target_is ToTurn f few = (omega (arith, few), omega (arith, few))
 target_is ToShow f few = (omega (arith, few), omega (arith, few))
 target_is ToSweep f few = (omega (arith, few), omega (arith, few))
@@ -350,7 +350,7 @@ nothing_anew s past (Order d what v) none = absurd none
 nothing_anew s past Go none = tt
 nothing_anew s past _ none = tt
 
-pub all_anew : (s : ScriptData) (past : List Entry) (os : List Outgoing) → OrderNothing os → Each (λ (o : Outgoing). IsGivenAnew s past o.body) os
+all_anew : (s : ScriptData) (past : List Entry) (os : List Outgoing) → OrderNothing os → Each (λ (o : Outgoing). IsGivenAnew s past o.body) os
 all_anew s past os none =
     each_map (λ (o : Outgoing). OrdersNothing o.body) (λ (o : Outgoing). IsGivenAnew s past o.body) os (λ o is. nothing_anew s past o.body is) none
 

@@ -1,5 +1,5 @@
 -- What the steps of a coordinator that forgets cost, in entries.
-use Rattle.std.proofs.Common.{if◌then◌else◌, ◌≡◌, ◌⊎◌, inl, inr, ℕ, zero, suc, ◌+◌, ◌*◌, ◌<◌, ◌≤◌, ◌&&◌, not, Bool, true, false, List, [], ◌∷◌, length, replicate, set, refl, sym, ap, subst, ◌∙◌, arith, Option, Some, None}
+use Rattle.std.proofs.Common.{if◌then◌else◌, ◌≡◌, ◌⊎◌, inl, inr, ℕ, zero, suc, ◌+◌, ◌*◌, ◌<◌, ◌≤◌, ◌&&◌, not, Bool, true, false, List, [], ◌∷◌, length, set, refl, sym, ap, subst, ◌∙◌, arith, Option, Some, None}
 use Rattle.std.specs.Prelude.{max, nat_lt, is_some, slice_set}
 use Rattle.std.specs.List.{list_all}
 use Rattle.tv_base.specs.Outside.{one_more}
@@ -111,7 +111,7 @@ to_nodes_price (suc n) body two =
       tally-append (on price) (to_nodes n body) (record { to = record { 0 = n }; body = body } ∷ []),
     )
 
-pub all_price : (m n : ℕ) (body : Body) → m ≡ n → price body ≡ 2 → tally (on price) (to_nodes m body) ≡ 2 * n
+all_price : (m n : ℕ) (body : Body) → m ≡ n → price body ≡ 2 → tally (on price) (to_nodes m body) ≡ 2 * n
 all_price m n body nodes two = to_nodes_price m body two ∙ ap (λ (k : ℕ). 2 * k) nodes
 
 -- orders as a phase begins
@@ -131,10 +131,6 @@ orders_price n (Paused reads) c nodes = refl
 -- Phases.
 begun_at : (n : ℕ) (c : Restarting) (phase : RestartPhase) → c.phase ≡ phase → begun n c.phase ≡ begun n phase
 begun_at n c phase at = ap (λ (p : RestartPhase). begun n p) at
-
-owed_at : (n : ℕ) (c : Restarting) (phase : RestartPhase) → c.phase ≡ phase
-    → owed n c ≡ unasked n phase c.count.current.dones + promised n phase c.count.flag
-owed_at n c phase at = ap (λ (p : RestartPhase). unasked n p c.count.current.dones + promised n p c.count.flag) at
 
 -- a phase that begins with its orders, and in which nothing is owed
 pub record IsEntered (n : ℕ) (phase : RestartPhase) : Type 0 where
@@ -156,13 +152,6 @@ next_orders n wanted f = by (nat_lt f wanted) where
 
 pub doing_entered : (n : ℕ) (what : What) → IsEntered n (Doing what)
 doing_entered n what = record { known = λ is. cc is; unasked = λ dones. refl; promised = λ flag. refl }
-
-unasked_all : (n : ℕ) (phase : RestartPhase) (dones : NodeRows) → all_in dones ≡ true → unasked n phase dones ≡ 0
-unasked_all n (Counting reads) dones all = rw all refl
-unasked_all n Idle dones all = refl
-unasked_all n Recovering dones all = refl
-unasked_all n (Doing what) dones all = refl
-unasked_all n (Paused reads) dones all = refl
 
 -- Steps.
 pub recovers_or : (phase : RestartPhase) → (phase ≡ Recovering) ⊎ (phase ≡ Recovering → ⊥)

@@ -37,7 +37,7 @@ recovery d out is = subst (Recovery d) (sym is) (recovery_by d (list_all is_some
 abbrev pub Knows : RestartPhase → Type 0
 Knows phase = phase ≡ Recovering → ⊥
 
-pub next_knows : (wanted f : ℕ) → Knows (next_advance wanted f)
+next_knows : (wanted f : ℕ) → Knows (next_advance wanted f)
 next_knows wanted f = by (nat_lt f wanted) where
   by : (b : Bool) → Knows (if b then Doing ToTurn else Idle)
   by true = λ is. cc is

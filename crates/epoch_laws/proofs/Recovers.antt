@@ -66,11 +66,11 @@ abbrev pub has_told : Bool → Restarting → ℕ → ℕ
 has_told true d q = is_heard d.heard
 has_told false d q = is_told (slice_get d.told q)
 
-pub record IsAwaited (s : ScriptData) (past : List Entry) (d : Restarting) : Type 0 where
-  pub each : (client : Bool) (q : ℕ) → IsAsked s client q → 1 ≤ going (asking client d.epoch q) s past + has_told client d q
-  pub misses : has_all d ≡ false
+record IsAwaited (s : ScriptData) (past : List Entry) (d : Restarting) : Type 0 where
+  each : (client : Bool) (q : ℕ) → IsAsked s client q → 1 ≤ going (asking client d.epoch q) s past + has_told client d q
+  misses : has_all d ≡ false
 
-abbrev pub Awaits : ScriptData → List Entry → Restarting → Type 0
+abbrev Awaits : ScriptData → List Entry → Restarting → Type 0
 Awaits s past d = d.phase ≡ Recovering → IsAwaited s past d
 
 -- Letters that aren't such.
@@ -375,7 +375,7 @@ coordinator_awaits s past e good m tells made was =
     (waiting c e.took.from.0 e.took.body out (restart_step c e.took.from.0 e.took.body) waits))
 
 -- In every run.
-pub awaits_in : (s : ScriptData) (past : List Entry) → IsTreeLawful s → is_lossy s ≡ true → IsStepRun s past → AllApt s past
+awaits_in : (s : ScriptData) (past : List Entry) → IsTreeLawful s → is_lossy s ≡ true → IsStepRun s past → AllApt s past
     → Awaits s past (restarting_in s past)
 awaits_in s [] laws loses run apt = λ waits. absurd (cc waits)
 awaits_in s (e ∷ past) laws loses run apt = by (cases_eq e.actor.0 s.nodes) (awaits_in s past laws loses run.1 apt.1) where

@@ -169,7 +169,7 @@ low_most s past q good lt =
     let within = good.within q lt in
     omega (arith, within.low_swept, within.swept_read, within.read_showed, within.showed_update, within.update_turned)
 
-pub read_most : (s : ScriptData) (past : List Entry) (q : ℕ) → IsGood s past → q < s.nodes
+read_most : (s : ScriptData) (past : List Entry) (q : ℕ) → IsGood s past → q < s.nodes
     → (turns_in s past q).read.0 + 1 ≤ greatest_given TurnStage past
 read_most s past q good lt =
     let within = good.within q lt in
@@ -226,7 +226,7 @@ order_none s past q from to _ few at less right = refl
 less_or : (a b : ℕ) → (b ≤ a) ⊎ (a < b)
 less_or a b = grind arith
 
-pub turn_given : (s : ScriptData) (past : List Entry) (q : ℕ) → IsGood s past → q < s.nodes → (restarting_in s past).ended ≤ 200
+turn_given : (s : ScriptData) (past : List Entry) (q : ℕ) → IsGood s past → q < s.nodes → (restarting_in s past).ended ≤ 200
     → (restarting_in s past).phase ≡ Doing ToTurn → IsSteady s past (Doing ToTurn)
     → (restarting_in s past).ended + 2 ≤ greatest_given TurnStage past
 turn_given s past q good lt few at steady =

@@ -44,7 +44,7 @@ pub record Fares (s : ScriptData) (past : List Entry) (c d : Core) : Type 0 wher
   pub showed : d.node.turns.read.0 ≤ greatest_given ShowStage past
   pub swept : d.node.turns.low.0 ≤ greatest_given SweepStage past
 
-pub rises_same : (c : Core) → Rises c c
+rises_same : (c : Core) → Rises c c
 rises_same c = record { epoch = omega arith; update = omega arith; read = omega arith; low = omega arith }
 
 stays : (s : ScriptData) (past : List Entry) (p : ℕ) → IsGood s past → p < s.nodes

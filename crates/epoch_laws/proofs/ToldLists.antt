@@ -23,10 +23,6 @@ later : (o : Option Told) (ts : AllTold) (P : Told → Type 0) → SomeTold ts P
 later o ts P some = record { node = suc some.node; told = some.told; below = omega (arith, some.below); has = some.has; fits = some.fits }
 
 -- once all have told
-all_rest : (o : Option Told) (ts : AllTold) → list_all is_some (o ∷ ts) ≡ true → list_all is_some ts ≡ true
-all_rest None ts all = absurd (cc all)
-all_rest (Some t) ts all = all
-
 pub all_told : (ts : AllTold) (q : ℕ) → list_all is_some ts ≡ true → q < length ts → (t : Told) × HasTold ts q t
 all_told [] q all lt = absurd (omega (arith, lt))
 all_told (None ∷ ts) q all lt = absurd (cc all)

@@ -53,12 +53,12 @@ use Rattle.epoch_laws.proofs.WantSteps.{Covers, WantsMore, asks_for, heard_cover
 use Rattle.epoch_laws.proofs.RestartSteps.{HearsMore, RestartStep, restart_step}
 use Rattle.epoch_laws.proofs.RestartSteps.{Acks, Agrees, Ends, Flags, Forgets, Goes, KeepsAsked, KeepsDone, Pauses, Recounts, Recovers, Rests, Resumes, Wants}
 
-pub record WillHear (s : ScriptData) (past : List Entry) (a : ℕ) (c : Restarting) : Type 0 where
-  pub waits : c.phase ≡ Recovering
-  pub letters : Each (λ (l : Letter). Covers c.epoch a l.body) (in_flight s past)
-  pub heard : (k : ℕ) → c.heard ≡ Some k → a ≤ k
+record WillHear (s : ScriptData) (past : List Entry) (a : ℕ) (c : Restarting) : Type 0 where
+  waits : c.phase ≡ Recovering
+  letters : Each (λ (l : Letter). Covers c.epoch a l.body) (in_flight s past)
+  heard : (k : ℕ) → c.heard ≡ Some k → a ≤ k
 
-abbrev pub WantsAll : ScriptData → List Entry → ℕ → Restarting → Type 0
+abbrev WantsAll : ScriptData → List Entry → ℕ → Restarting → Type 0
 WantsAll s past a c = (1 ≤ count_in_flight (asks_for a) s past + one_if (nat_le a c.wanted)) ⊎ WillHear s past a c
 
 -- 1. Rows that are submitted: where they ask for advancements, their letters ask for all up to then.
@@ -327,7 +327,7 @@ coordinator_wants s past e good few made m at was =
     (wants_more (asked_for s past) c e.took.from.0 e.took.body out step)))
 
 -- In every run.
-pub wants_in : (s : ScriptData) (past : List Entry) → IsTreeLawful s → is_lossy s ≡ true → IsStepRun s past → AllApt s past
+wants_in : (s : ScriptData) (past : List Entry) → IsTreeLawful s → is_lossy s ≡ true → IsStepRun s past → AllApt s past
     → WantsAll s past (asked_for s past) (restarting_in s past)
 wants_in s [] laws loses run apt = inl (omega arith)
 wants_in s (e ∷ past) laws loses run apt = by (cases_eq e.actor.0 s.nodes) (wants_in s past laws loses run.1 apt.1) where
