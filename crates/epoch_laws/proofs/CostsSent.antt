@@ -253,7 +253,6 @@ paid_resumes s past e k d valid good m at state sent is heard more all was =
       recovers = λ there. absurd (entered.known (sym (ap (λ (c : Restarting). c.phase) state) ∙ there));
     }
 
--- each entry of it
 -- what it heard with the letter that it took
 heard_with : (s : ScriptData) (past : List Entry) (e : Entry) (d : Restarting) → IsGood s past → IsFew s past
     → MayFollow s past e
@@ -265,6 +264,7 @@ heard_with s past e d good few m is hears =
     (each_taken (λ (l : Letter). IsRight s past l.from.0 l.to.0 l.body) s past e m good.letters)
     (λ n k bd. subst (TellsAsked s past) bd asked) hears
 
+-- each entry of it
 paid_by : (s : ScriptData) (past : List Entry) (e : Entry) (out : Out Restarting) → IsValid s → IsGood s past → IsFew s past
     → MayFollow s past e → e.actor.0 ≡ s.nodes → restarting_in s (e ∷ past) ≡ out.state → e.sent ≡ out.sent
     → StepCosts s.nodes (restarting_in s past) e.took.from.0 e.took.body out → IsPaid s past → IsPaid s (e ∷ past)

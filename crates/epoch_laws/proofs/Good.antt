@@ -63,10 +63,10 @@ pub record IsLatest (s : ScriptData) (past : List Entry) (q l : ℕ) : Type 0 wh
   pub showed : greatest_given ShowStage past ≤ l + 1
   pub swept : greatest_given SweepStage past ≤ l + 1
 
--- A letter in flight: its epoch has begun; numbers are no more than the node's, and those of this epoch are the latest while
--- they are waited for; orders and answers of this epoch are of its phase; an order is of a version that was given, and one that its node
--- will still heed isn't below what was swept to; what the client tells in this epoch covers what was given; and an advancement that
--- has ended has ended at each node.
+-- A letter in flight: its epoch has begun; numbers are no more than the node's, and those of this epoch are the latest
+-- while they are waited for; orders and answers of this epoch are of its phase; an order is of a version that was
+-- given, and one that its node will still heed isn't below what was swept to; what the client tells in this epoch
+-- covers what was given; and an advancement that has ended has ended at each node.
 pub record AreNumbers (s : ScriptData) (past : List Entry) (q e : ℕ) (u r l : Version) : Type 0 where
   pub epoch : e ≤ (restarting_in s past).epoch
   pub told : IsAsTold (turns_in s past q) u r l
@@ -132,7 +132,8 @@ pub record LevelOf (phase : RestartPhase) (f e epoch : ℕ) (turns : Turns) (ord
   pub update : least_update phase f ≤ turns.update.0
   pub comes : due phase f ≤ reached phase turns + orders
 
--- in a phase in which nodes are told something: its orders and answers in flight and its acknowledgements are as many as nodes
+-- in a phase in which nodes are told something: its orders and answers in flight and its acknowledgements are as many
+-- as nodes
 abbrev pub AreTokens : RestartPhase → ℕ → ℕ → ℕ → Type 0
 AreTokens (Doing what) tokens acks n = tokens + acks ≡ n
 AreTokens Idle tokens acks n = Unit {0}
@@ -170,8 +171,9 @@ IsInPhase s past (Doing what) = IsSteady s past (Doing what)
 IsInPhase s past (Counting reads) = IsSteady s past (Counting reads)
 IsInPhase s past (Paused reads) = IsSteady s past (Paused reads)
 
--- no node is in a later epoch than the coordinator, and each is within what was given; below what was swept to all is silent;
--- letters of trees are of versions to which nodes were told to turn, and the others as they should be; and so is the coordinator
+-- no node is in a later epoch than the coordinator, and each is within what was given; below what was swept to all is
+-- silent; letters of trees are of versions to which nodes were told to turn, and the others as they should be; and so
+-- is the coordinator
 pub record IsGood (s : ScriptData) (past : List Entry) : Type 0 where
   pub epochs : (p : ℕ) → p < s.nodes → epoch_in s past p ≤ (restarting_in s past).epoch
   pub within : (p : ℕ) → p < s.nodes → IsWithin past (turns_in s past p)

@@ -48,7 +48,7 @@ pub few_ended : (s : ScriptData) (past : List Entry) (phase : RestartPhase) → 
     → (restarting_in s past).ended ≤ 100
 few_ended s past phase some good few was = omega (arith, (was.level 0 (omega (arith, some))).low, few_low s past 0 good few (omega (arith, some)))
 
--- 1. It forgets: what it has told nobody, nothing, and every node is asked.
+-- 1. It forgets: it gives nothing, and each node and the client are asked.
 nothing_heard : (s : ScriptData) (past : List Entry) (e : Entry) → IsMove s past e (next_epoch (restarting_in s past)) → IsHeard s (e ∷ past)
 nothing_heard s past e m =
     let c = restarting_in s past in

@@ -58,9 +58,9 @@ pub record TakesRequests (c : Restarting) (from : ℕ) (body : Body) (reads : Bo
   pub here : is_of from v k row c.count.current ≡ true
   pub after_dones : all_in c.count.current.dones ≡ true
 
--- the letter changes nothing; all but the epoch is forgotten; more advancements are wanted, and one begins where none is under
--- way; more is heard, and it goes on once all is; an order was obeyed by one node more, or by the last one; or the count goes on:
--- a nudge is remembered, or ends a pause, or a row is kept, or judged
+-- the letter changes nothing; all but the epoch is forgotten; more advancements are wanted, and one begins where none
+-- is under way; more is heard, and it goes on once all is; an order was obeyed by one node more, or by the last one; or
+-- the count goes on: a nudge is remembered, or ends a pause, or a row is kept, or judged
 pub data RestartStep (c : Restarting) (from : ℕ) (body : Body) (out : Out Restarting) : Type 0 where
   Rests : IsLeft body c.phase from c → out ≡ still c → RestartStep c from body out
   Forgets : body ≡ Lose → out ≡ forget c → RestartStep c from body out
