@@ -2,7 +2,7 @@
 use Rattle.std.proofs.Common.{◌≡◌, ◌⊎◌, inl, inr, ℕ, ◌+◌, ◌<◌, ◌≤◌, List, ◌∷◌, refl, ap, arith}
 use Rattle.std.proofs.lemmas.Bool.{cases_lt}
 use Rattle.letter_types.specs.declared.bodies.Body.{Body}
-use Rattle.letter_types.specs.declared.bodies.Body.TheVariants.{Go, Advanced, Ask, AskAsked, AskDone, Numbers, Obeyed, Order, Show, Sweep, Turn}
+use Rattle.letter_types.specs.declared.bodies.Body.TheVariants.{Go, Numbers, Obeyed, Order, Show, Sweep, Turn}
 use Rattle.letter_types.specs.declared.entries.Entry.{Entry}
 use Rattle.letter_types.specs.declared.entries.Letter.{Letter}
 use Rattle.letter_types.specs.declared.entries.LetterId.{LetterId}
@@ -16,6 +16,8 @@ use Rattle.world_model.specs.Counts.{Each, tally}
 use Rattle.world_model.specs.Keeping.{KeepingNode}
 use Rattle.world_model.specs.Kept.{outstanding}
 use Rattle.world_model.specs.Runs.{IsStepRun, MayFollow, client_in, in_flight, restarting_in}
+use Rattle.world_model.specs.Runs.{AtClient, AtCoordinator, AtNode, AtRestarting, Moves}
+use Rattle.world_model.proofs.Coordination.{IsCoordinated, OfCoordinator, coordinated_each, of_forgetting, of_remembering}
 use Rattle.world_model.proofs.EachOutstanding.{each_outstanding, each_waits}
 use Rattle.world_model.proofs.Every.{each_both, each_drop, each_map, each_none}
 use Rattle.strict_laws.specs.Meant.{IsLetterMeant, IsMeant}
@@ -194,50 +196,41 @@ silent_now s past e laws run apt good new v lt = by (cases_lt v (greatest_given 
   by (inr from) = let n = new v from lt in silent_stays s past e v laws run apt n.silent n.closed
 
 -- So all is as it should be.
--- a letter that the coordinator sends
-abbrev pub IsOfCoordinator : Body → Type 0
-IsOfCoordinator (AskDone v k) = Unit {0}
-IsOfCoordinator (AskAsked v k) = Unit {0}
-IsOfCoordinator (Ask e) = Unit {0}
-IsOfCoordinator (Order e what v) = Unit {0}
-IsOfCoordinator (Advanced v) = Unit {0}
-IsOfCoordinator Go = ⊥
-IsOfCoordinator _ = ⊥
+-- no letter that the coordinator sends is one of a tree
+of_no_tree : OfCoordinator (λ (body : Body). tree_version body ≡ 0)
+of_no_tree = grind arith
 
-no_tree : (body : Body) → IsOfCoordinator body → tree_version body ≡ 0
-no_tree (AskDone v k) is = refl
-no_tree (AskAsked v k) is = refl
-no_tree (Ask e) is = refl
-no_tree (Order e what v) is = refl
-no_tree (Advanced v) is = refl
-no_tree Go is = absurd is
-no_tree _ is = absurd is
+coordinated : (s : ScriptData) (past : List Entry) (e : Entry) → e.actor.0 ≡ s.nodes → Moves s past e → IsCoordinated s e
+coordinated s past e at (AtNode lt says) = absurd (omega (arith, at, lt))
+coordinated s past e at (AtCoordinator here keeps says) = of_remembering s past e keeps says
+coordinated s past e at (AtRestarting here loses says) = of_forgetting s past e loses says
+coordinated s past e at (AtClient there says) = absurd (omega (arith, at, there))
 
-trees_now : (s : ScriptData) (past : List Entry) (e : Entry) → MayFollow s past e → IsGood s past → Each (λ (o : Outgoing). IsOfCoordinator o.body) e.sent
+trees_now : (s : ScriptData) (past : List Entry) (e : Entry) → MayFollow s past e → e.actor.0 ≡ s.nodes → IsGood s past
     → Each (λ (l : Letter). tree_version l.body ≤ greatest_given TurnStage (e ∷ past)) (outstanding s (e ∷ past))
-trees_now s past e m good sent =
+trees_now s past e m at good =
     each_outstanding (λ (l : Letter). tree_version l.body ≤ greatest_given TurnStage (e ∷ past)) s past e m
     (each_map (λ (l : Letter). tree_version l.body ≤ greatest_given TurnStage past)
     (λ (l : Letter). tree_version l.body ≤ greatest_given TurnStage (e ∷ past)) (outstanding s past)
     (λ l le. omega (arith, le, given_rises TurnStage e past)) good.trees)
-    (each_map (λ (o : Outgoing). IsOfCoordinator o.body)
+    (each_map (λ (o : Outgoing). tree_version o.body ≡ 0)
     (λ (o : Outgoing). (i : LetterId) → tree_version o.body ≤ greatest_given TurnStage (e ∷ past)) e.sent
-    (λ o is i. omega (arith, no_tree o.body is)) sent)
+    (λ o none i. omega (arith, none))
+    (coordinated_each (λ (body : Body). tree_version body ≡ 0) s e of_no_tree (coordinated s past e at m.moves)))
 
 pub good_now : (s : ScriptData) (past : List Entry) (e : Entry) → IsTreeLawful s → IsStepRun s (e ∷ past) → AllApt s (e ∷ past)
     → e.actor.0 ≡ s.nodes → IsGood s past → (restarting_in s past).epoch ≤ (restarting_in s (e ∷ past)).epoch
-    → Each (λ (o : Outgoing). IsOfCoordinator o.body) e.sent → AreRight s (e ∷ past)
-    → ((q : ℕ) → q < s.nodes → IsFit past e (turns_in s past q))
+    → AreRight s (e ∷ past) → ((q : ℕ) → q < s.nodes → IsFit past e (turns_in s past q))
     → ((v : ℕ) → greatest_given SweepStage past ≤ v → v < greatest_given SweepStage (e ∷ past) → IsNewlySilent s past v)
     → greatest_given TurnStage (e ∷ past) ≤ asked_for s past + 1
     → IsInPhase s (e ∷ past) (restarting_in s (e ∷ past)).phase → IsGood s (e ∷ past)
-good_now s past e laws run apt at good later sent letters fit new asked phased = record {
+good_now s past e laws run apt at good later letters fit new asked phased = record {
   epochs = λ p lt. held_at (λ (n : KeepingNode). n.core.epoch ≤ (restarting_in s (e ∷ past)).epoch) s past e p at lt
       (omega (arith, good.epochs p lt, later));
   within = λ p lt. held_at (λ (n : KeepingNode). IsWithin (e ∷ past) n.core.node.turns) s past e p at lt
       (within_now past e (turns_in s past p) (good.within p lt) (fit p lt));
   silent = silent_now s past e laws run apt good new;
-  trees = trees_now s past e run.0 good sent;
+  trees = trees_now s past e run.0 at good;
   letters = letters;
   phased = phased;
   asked = omega (arith, asked, asked_stays s past e at);

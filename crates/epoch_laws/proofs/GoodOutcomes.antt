@@ -30,12 +30,12 @@ use Rattle.phase_laws.specs.Given.{IsShownAnew, IsSweptAnew, greatest_given}
 use Rattle.phase_laws.specs.Phases.{TurnStage, ShowStage, SweepStage}
 use Rattle.phase_laws.specs.Quiet.{IsSilent}
 use Rattle.phase_laws.proofs.Waves.{going}
-use Rattle.epoch_laws.proofs.AfterCoordinator.{IsLast, IsOfCoordinator, OrderNothing, OrdersNothing, fits_still, given_still, good_now, letters_forgotten}
+use Rattle.epoch_laws.proofs.AfterCoordinator.{IsLast, OrderNothing, OrdersNothing, fits_still, given_still, good_now, letters_forgotten}
 use Rattle.epoch_laws.proofs.AtCoordinator.{calm_none, left_of, none_left, order_most}
 use Rattle.epoch_laws.proofs.Few.{IsFew}
 use Rattle.epoch_laws.proofs.Good.{IsCurrent, IsGood, IsHeard, IsInPhase, IsRight, IsSteady, IsUpTo, LevelOf, epoch_in, order_to, token, turns_in}
-use Rattle.epoch_laws.proofs.GoodSteps.{AllAsk, IsAsk, IsMove, answer_token, asks_nothing, asks_own, asks_right, steady_at, steady_doing, told_order, up_still}
-use Rattle.epoch_laws.proofs.GoodTells.{AllEnd, IsBegun, IsWell, ends_nothing, ends_own, ends_right, good_calm, good_tells, well_by}
+use Rattle.epoch_laws.proofs.GoodSteps.{AllAsk, IsAsk, IsMove, answer_token, asks_nothing, asks_right, steady_at, steady_doing, told_order, up_still}
+use Rattle.epoch_laws.proofs.GoodTells.{AllEnd, IsBegun, IsWell, ends_nothing, ends_right, good_calm, good_tells, well_by}
 use Rattle.epoch_laws.proofs.ToldLists.{HasTold, none_told}
 
 -- How many advancements may have ended.
@@ -77,7 +77,7 @@ well_forgets s past e m is few =
     let now : (restarting_in s (e ∷ past)).epoch ≡ one_more c.epoch = ap (λ (d : Restarting). d.epoch) m.state in
     let later : c.epoch < (restarting_in s (e ∷ past)).epoch = omega (arith, now, few.epoch) in
     well_by s past e nothing
-    (good_now s past e m.laws m.run m.apt m.at m.good (omega (arith, later)) (own (λ (o : Outgoing). IsOfCoordinator o.body) (λ to. tt))
+    (good_now s past e m.laws m.run m.apt m.at m.good (omega (arith, later))
     (letters_forgotten s past e m.laws.valid m.run.1 m.good (record { at = m.at; given = still; epoch = later })
     (own (λ (o : Outgoing). (i : LetterId) → IsRight s (e ∷ past) e.actor.0 o.to.0 o.body) (λ to i. omega (arith, now))))
     (λ q lt. fits_still past e (turns_in s past q) still (m.good.within q lt))
@@ -141,7 +141,7 @@ goes_idle s past e w m none at more =
     well_by s past e nothing
     (good_calm s past e x m
     (record { epoch = refl; heard = λ q lt. (was.level q lt).since; knows = λ is. cc is; last = took_none s past e x m (idle_calm s past at) })
-    nothing (asks_own e.sent asks) (asks_right s (e ∷ past) e.actor.0 e.sent asks)
+    nothing (asks_right s (e ∷ past) e.actor.0 e.sent asks)
     (steady_at s past e x Idle m (λ q lt. omega (arith, was.level q lt)) tt (up_still past e c.ended c.wanted w (given_still past e nothing) more was.up_to)))
 
 pub well_goes : (s : ScriptData) (past : List Entry) (e : Entry) (w : ℕ) (test : Bool) → nat_lt (restarting_in s past).ended w ≡ test
@@ -219,7 +219,7 @@ well_begins s past e what reads m last is at of =
     let nothing = asks_nothing e.sent asks in
     well_by s past e nothing
     (good_calm s past e x m (record { epoch = refl; heard = λ q lt. (was.level q lt).since; knows = λ is. cc is; last = last }) nothing
-    (asks_own e.sent asks) (asks_right s (e ∷ past) e.actor.0 e.sent asks)
+    (asks_right s (e ∷ past) e.actor.0 e.sent asks)
     (steady_at s past e x (Counting reads) m
     (λ q lt.
     begins_level what reads c.ended c.epoch (epoch_in s past q) (turns_in s past q) (going (order_to c.epoch q) s (e ∷ past)) of
@@ -284,7 +284,7 @@ ends_idle s past e m last is at few =
     let still = given_still past e nothing in
     well_by s past e nothing
     (good_calm s past e x m (record { epoch = refl; heard = λ q lq. (level q 0 lq).since; knows = λ same. cc same; last = last }) nothing
-    (ends_own f e.sent ends) (ends_right s past e x f e.sent m (λ q lq. (level q 0 lq).low) ends)
+    (ends_right s past e x f e.sent m (λ q lq. (level q 0 lq).low) ends)
     (steady_at s past e x Idle m (λ q lq. level q (going (order_to c.epoch q) s (e ∷ past)) lq) tt
     (up_still past e f c.wanted c.wanted still (omega arith) (subst (λ (n : ℕ). IsUpTo past n c.wanted) (sym next) (up_next past c.ended c.wanted was.up_to)))))
 

@@ -28,7 +28,7 @@ use Rattle.epoch_laws.proofs.Few.{IsFew}
 use Rattle.epoch_laws.proofs.Good.{AreNumbers, AreWanted, IsGood, IsHeardOf, IsInPhase, IsRight, IsUpTo, LevelOf, epoch_in, order_to, turns_in, heard_now}
 use Rattle.epoch_laws.proofs.GoodOutcomes.{few_low, took_none}
 use Rattle.epoch_laws.proofs.GoodSteps.{AllAsk, IsMove, asks_nothing, good_stays, heard_at, steady_at, up_still}
-use Rattle.epoch_laws.proofs.GoodTells.{AllEnd, IsWell, MayBeTold, ends_nothing, ends_own, ends_right, good_calm, good_tells, well_by}
+use Rattle.epoch_laws.proofs.GoodTells.{AllEnd, IsWell, MayBeTold, ends_nothing, ends_right, good_calm, good_tells, well_by}
 use Rattle.epoch_laws.proofs.RestartSteps.{HearsMore, OfClient, OfNode}
 use Rattle.epoch_laws.proofs.ToldLists.{AreSmall, HasTold, SomeTold, all_told, least_most, least_told, some_low, some_read, some_update}
 
@@ -210,7 +210,7 @@ rests_by s past e d f w m heard found at is =
       heard = found.epoch;
       knows = λ same. cc same;
       last = took_none s past e x m (λ a v now. cc (sym at ∙ now.phase));
-    }) nothing (ends_own f e.sent ends) (ends_right s past e x f e.sent m found.low ends)
+    }) nothing (ends_right s past e x f e.sent m found.low ends)
     (steady_at s past e x Idle m
     (λ q lq.
     subst (λ (n : ℕ). LevelOf Idle f n (epoch_in s past q) (turns_in s past q) (going (order_to n q) s (e ∷ past))) (sym heard.epoch)

@@ -27,7 +27,7 @@ use Rattle.phase_laws.specs.Phases.{TurnStage, ShowStage, SweepStage}
 use Rattle.phase_laws.proofs.Lawful.{IsTreeLawful}
 use Rattle.phase_laws.proofs.Progress.{TellsAnew}
 use Rattle.phase_laws.proofs.Waves.{flow_of, going}
-use Rattle.epoch_laws.proofs.AfterCoordinator.{IsOfCoordinator, OrderNothing, OrdersNothing, fits_still, given_still, good_now, letters_kept, orders_none, tokens_none}
+use Rattle.epoch_laws.proofs.AfterCoordinator.{OrderNothing, OrdersNothing, fits_still, given_still, good_now, letters_kept, orders_none, tokens_none}
 use Rattle.epoch_laws.proofs.AtCoordinator.{held_at}
 use Rattle.epoch_laws.proofs.Good.{AreTokens, IsCurrent, IsGood, IsHeard, IsHeardOf, IsInPhase, IsRight, IsSteady, IsUpTo, LevelOf, epoch_in, order_to, token, turns_in}
 use Rattle.epoch_laws.proofs.RestartSteps.{IsLeft}
@@ -50,12 +50,6 @@ ask_nothing (AskAsked v k) is = tt
 ask_nothing Go is = absurd is
 ask_nothing _ is = absurd is
 
-ask_own : (body : Body) → IsAsk body → IsOfCoordinator body
-ask_own (AskDone v k) is = tt
-ask_own (AskAsked v k) is = tt
-ask_own Go is = absurd is
-ask_own _ is = absurd is
-
 ask_right : (s : ScriptData) (past : List Entry) (from to : ℕ) (body : Body) → IsAsk body → IsRight s past from to body
 ask_right s past from to (AskDone v k) is = tt
 ask_right s past from to (AskAsked v k) is = tt
@@ -64,9 +58,6 @@ ask_right s past from to _ is = absurd is
 
 pub asks_nothing : (os : List Outgoing) → AllAsk os → OrderNothing os
 asks_nothing os all = each_map (λ (o : Outgoing). IsAsk o.body) (λ (o : Outgoing). OrdersNothing o.body) os (λ o is. ask_nothing o.body is) all
-
-pub asks_own : (os : List Outgoing) → AllAsk os → Each (λ (o : Outgoing). IsOfCoordinator o.body) os
-asks_own os all = each_map (λ (o : Outgoing). IsAsk o.body) (λ (o : Outgoing). IsOfCoordinator o.body) os (λ o is. ask_own o.body is) all
 
 pub asks_right : (s : ScriptData) (past : List Entry) (from : ℕ) (os : List Outgoing) → AllAsk os
     → Each (λ (o : Outgoing). (i : LetterId) → IsRight s past from o.to.0 o.body) os
@@ -136,7 +127,7 @@ good_stays s past e x m epoch asks current recovers phased =
     let c = restarting_in s past in
     let still = given_still past e (asks_nothing e.sent asks) in
     let same : (restarting_in s (e ∷ past)).epoch ≡ c.epoch = ap (λ (d : Restarting). d.epoch) m.state ∙ epoch in
-    good_now s past e m.laws m.run m.apt m.at m.good (omega (arith, same)) (asks_own e.sent asks)
+    good_now s past e m.laws m.run m.apt m.at m.good (omega (arith, same))
     (letters_kept s past e m.laws.valid m.run.1 m.good (record {
       at = m.at;
       given = still;

@@ -27,7 +27,7 @@ use Rattle.phase_laws.specs.Given.{IsGivenAnew, greatest_given, greatest_told, v
 use Rattle.phase_laws.specs.Phases.{Stage, TurnStage, ShowStage, SweepStage, stage_of}
 use Rattle.phase_laws.proofs.Advancing.{greatest_least, sent_given}
 use Rattle.phase_laws.proofs.Waves.{flow_of, going, leaving}
-use Rattle.epoch_laws.proofs.AfterCoordinator.{IsFit, IsLast, IsNewlySilent, IsOfCoordinator, OrderNothing, OrdersNothing, fits_still, given_still, good_now, letters_told, tokens_none}
+use Rattle.epoch_laws.proofs.AfterCoordinator.{IsFit, IsLast, IsNewlySilent, OrderNothing, OrdersNothing, fits_still, given_still, good_now, letters_told, tokens_none}
 use Rattle.epoch_laws.proofs.AtCoordinator.{held_at, order_sent, orders_tokens}
 use Rattle.epoch_laws.proofs.Good.{IsGood, IsInPhase, IsRight, IsSteady, IsUpTo, LevelOf, epoch_in, order_to, token, turns_in}
 use Rattle.epoch_laws.proofs.GoodSteps.{IsMove, steady_at, told_order}
@@ -50,13 +50,12 @@ telling s past e x m calm = record {
 }
 
 pub good_calm : (s : ScriptData) (past : List Entry) (e : Entry) (x : Restarting) → IsMove s past e x → IsCalm s past e x
-    → OrderNothing e.sent → Each (λ (o : Outgoing). IsOfCoordinator o.body) e.sent
-    → Each (λ (o : Outgoing). (i : LetterId) → IsRight s (e ∷ past) e.actor.0 o.to.0 o.body) e.sent
+    → OrderNothing e.sent → Each (λ (o : Outgoing). (i : LetterId) → IsRight s (e ∷ past) e.actor.0 o.to.0 o.body) e.sent
     → IsInPhase s (e ∷ past) x.phase → IsGood s (e ∷ past)
-good_calm s past e x m calm nothing own sent phased =
+good_calm s past e x m calm nothing sent phased =
     let still = given_still past e nothing in
     let tells = telling s past e x m calm in
-    good_now s past e m.laws m.run m.apt m.at m.good (omega (arith, tells.epoch)) own
+    good_now s past e m.laws m.run m.apt m.at m.good (omega (arith, tells.epoch))
     (letters_told s past e m.laws.valid m.run.1 m.run.0 m.good tells calm.last sent)
     (λ q lt. fits_still past e (turns_in s past q) still (m.good.within q lt))
     (λ v from lt. absurd (omega (arith, from, lt, still SweepStage)))
@@ -77,11 +76,6 @@ end_nothing f (Advanced v) is = tt
 end_nothing f Go is = absurd is
 end_nothing f _ is = absurd is
 
-end_own : (f : ℕ) (body : Body) → IsEnd f body → IsOfCoordinator body
-end_own f (Advanced v) is = tt
-end_own f Go is = absurd is
-end_own f _ is = absurd is
-
 -- it has ended at each node
 abbrev HasEndedAt : ScriptData → List Entry → ℕ → Type 0
 HasEndedAt s past f = (q : ℕ) → q < s.nodes → f ≤ (turns_in s past q).low.0
@@ -97,9 +91,6 @@ ended_now s past e x f m was = λ q lt. held_at (λ (n : KeepingNode). f ≤ n.c
 
 pub ends_nothing : (f : ℕ) (os : List Outgoing) → AllEnd f os → OrderNothing os
 ends_nothing f os all = each_map (λ (o : Outgoing). IsEnd f o.body) (λ (o : Outgoing). OrdersNothing o.body) os (λ o is. end_nothing f o.body is) all
-
-pub ends_own : (f : ℕ) (os : List Outgoing) → AllEnd f os → Each (λ (o : Outgoing). IsOfCoordinator o.body) os
-ends_own f os all = each_map (λ (o : Outgoing). IsEnd f o.body) (λ (o : Outgoing). IsOfCoordinator o.body) os (λ o is. end_own f o.body is) all
 
 pub ends_right : (s : ScriptData) (past : List Entry) (e : Entry) (x : Restarting) (f : ℕ) (os : List Outgoing) → IsMove s past e x
     → HasEndedAt s past f → AllEnd f os
@@ -371,15 +362,11 @@ good_tells s past e x what f w m last begun t =
     (each_append right t.before os (ends_right s past e x f t.before m ended t.ends)
     (to_nodes_each (λ to body. (i : LetterId) → IsRight s (e ∷ past) e.actor.0 to body) s.nodes (Order c.epoch what (target what f))
     (λ to lt i. order_right s past e x what f w to m begun t so))) in
-    let own : Each (λ (o : Outgoing). IsOfCoordinator o.body) e.sent =
-    subst (λ (all : List Outgoing). Each (λ (o : Outgoing). IsOfCoordinator o.body) all) (sym t.sent)
-    (each_append (λ (o : Outgoing). IsOfCoordinator o.body) t.before os (ends_own f t.before t.ends)
-    (to_nodes_each (λ to body. IsOfCoordinator body) s.nodes (Order c.epoch what (target what f)) (λ to lt. tt))) in
     let calm : IsCalm s past e x =
     record { epoch = begun.epoch; heard = λ q lt. (t.level q 1 lt (omega arith)).since; knows = λ is. cc (sym begun.phase ∙ is); last = last } in
     let tells = telling s past e x m calm in
     record {
-      good = good_now s past e m.laws m.run m.apt m.at m.good (omega (arith, tells.epoch)) own
+      good = good_now s past e m.laws m.run m.apt m.at m.good (omega (arith, tells.epoch))
           (letters_told s past e m.laws.valid m.run.1 m.run.0 m.good tells last sent) so.fit so.silent
           (omega (arith, so.up_to.asked, t.asked))
           (subst (λ (d : Restarting). IsInPhase s (e ∷ past) d.phase) (sym m.state)
