@@ -7,7 +7,6 @@ use Rattle.std.specs.List.{list_all}
 use Rattle.std.proofs.lemmas.Bool.{cases_eq}
 use Rattle.std.proofs.lemmas.Bool.Decides.{nat_tests}
 use Rattle.letter_types.specs.declared.entries.Entry.{Entry}
-use Rattle.letter_types.specs.declared.entries.Letter.{Letter}
 use Rattle.letter_types.specs.declared.entries.Outgoing.{Outgoing}
 use Rattle.letter_types.specs.Steps.{Out}
 use Rattle.tx_trees.specs.Counts.{advances_in, is_lossy}
@@ -17,9 +16,7 @@ use Rattle.world_model.specs.AllApt.{AllApt}
 use Rattle.world_model.specs.Counts.{tally}
 use Rattle.world_model.specs.Restarting.{Restarting, forget, least_low, phase_by, restarting_row, resume, with_advances}
 use Rattle.world_model.specs.Runs.{IsStepRun, MayFollow, restarting_in}
-use Rattle.world_model.specs.declared.restarting.RestartPhase.{RestartPhase}
 use Rattle.world_model.specs.declared.restarting.RestartPhase.TheVariants.{Recovering}
-use Rattle.world_model.proofs.Every.{each_taken}
 use Rattle.world_model.proofs.Lawful.{nudged}
 use Rattle.world_model.proofs.Restarts.{restarting_nodes}
 use Rattle.world_model.proofs.Sends.{on}
@@ -29,15 +26,15 @@ use Rattle.phase_laws.proofs.Progress.{course, restarts}
 use Rattle.phase_laws.proofs.Waves.{going}
 use Rattle.epoch_laws.proofs.Aside.{Aside, aside}
 use Rattle.epoch_laws.proofs.Away.{restarting_kept}
-use Rattle.epoch_laws.proofs.Few.{IsFew, TellsAsked, few}
+use Rattle.epoch_laws.proofs.Few.{IsFew, few}
 use Rattle.epoch_laws.proofs.Floors.{AllAskAnew, IsFloor, IsFrom, IsRestored, floor_aside, floor_forgets, floor_waits, restored}
 use Rattle.epoch_laws.proofs.Forgetting.{good_run}
-use Rattle.epoch_laws.proofs.Good.{IsGood, IsInPhase, IsRight, IsSteady, epoch_in, order_to, turns_in}
+use Rattle.epoch_laws.proofs.Good.{IsGood, Knows, epoch_in, order_to, steady_in, turns_in}
 use Rattle.epoch_laws.proofs.GoodResumes.{HasHeard, heard_more}
-use Rattle.epoch_laws.proofs.Prices.{IsEntered, Pays, StepCosts, TellsMore, begun, ordered, orders_price, owed, price, recovers_or, spent, step_costs, tells_more}
+use Rattle.epoch_laws.proofs.Prices.{IsEntered, Pays, StepCosts, TellsMore, ordered, orders_price, owed, price, recovers_or, spent, step_costs, tells_more}
 use Rattle.epoch_laws.proofs.Prices.{Forgets, Resumes, Spends, Waits}
-use Rattle.epoch_laws.proofs.Refunds.{begun_most, by_entered, ended_most, forget_asks, forget_price, from_level, kept_most, kept_of, resume_pays, shown_in, spent_most, steady_in}
-use Rattle.epoch_laws.proofs.RestartSteps.{HearsMore, restart_step}
+use Rattle.epoch_laws.proofs.Refunds.{begun_most, by_entered, ended_most, forget_asks, forget_price, from_level, kept_most, kept_of, resume_pays, shown_in, spent_most}
+use Rattle.epoch_laws.proofs.RestartSteps.{restart_step}
 
 -- what the letters cost that the coordinator has sent so far
 abbrev pub priced : ScriptData → List Entry → ℕ
@@ -149,32 +146,31 @@ covered_anew s past e f shown good at few state sent nodes paid =
       );
     }
 
-forgets_by : (s : ScriptData) (past : List Entry) (e : Entry) (phase : RestartPhase) → IsGood s past → e.actor.0 ≡ s.nodes
+forgets_by : (s : ScriptData) (past : List Entry) (e : Entry) → IsGood s past → e.actor.0 ≡ s.nodes
     → (restarting_in s past).epoch ≤ 100 → restarting_in s (e ∷ past) ≡ (forget (restarting_in s past)).state
-    → e.sent ≡ (forget (restarting_in s past)).sent → (restarting_in s past).phase ≡ phase → IsInPhase s past phase
-    → (phase ≡ Recovering) ⊎ (phase ≡ Recovering → ⊥) → IsPaid s past → IsCovered s (e ∷ past)
-forgets_by s past e phase good at few state sent is here (inl recovers) was =
-    let cover = was.recovers (is ∙ recovers) in
+    → e.sent ≡ (forget (restarting_in s past)).sent
+    → ((restarting_in s past).phase ≡ Recovering) ⊎ Knows (restarting_in s past).phase → IsPaid s past
+    → IsCovered s (e ∷ past)
+forgets_by s past e good at few state sent (inl recovers) was =
+    let cover = was.recovers recovers in
     covered_anew s past e cover.ended cover.shown good at few state sent cover.floor.nodes (omega (arith, cover.paid))
-forgets_by s past e phase good at few state sent is here (inr known) was =
+forgets_by s past e good at few state sent (inr known) was =
     let n = s.nodes in
     let c = restarting_in s past in
-    let steady : IsSteady s past phase = steady_in s past phase known here in
-    covered_anew s past e c.ended (shown_in phase) good at few state sent
+    let steady = steady_in s past c.phase good refl known in
+    covered_anew s past e c.ended (shown_in c.phase) good at few state sent
     (λ q lt.
-    from_level phase c.ended c.epoch (epoch_in s past q) (turns_in s past q) (going (order_to c.epoch q) s past)
+    from_level c.phase c.ended c.epoch (epoch_in s past q) (turns_in s past q) (going (order_to c.epoch q) s past)
     (steady.level q lt))
-    (omega (arith, was.steady (λ no. known (sym is ∙ no)), begun_most n phase, ap (λ (p : RestartPhase). begun n p) is))
+    (omega (arith, was.steady known, begun_most n c.phase))
 
 paid_forgets : (s : ScriptData) (past : List Entry) (e : Entry) → IsGood s past → e.actor.0 ≡ s.nodes
     → (restarting_in s past).epoch ≤ 100 → restarting_in s (e ∷ past) ≡ (forget (restarting_in s past)).state
     → e.sent ≡ (forget (restarting_in s past)).sent → IsPaid s past → IsPaid s (e ∷ past)
-paid_forgets s past e good at few state sent was =
-    let phase = (restarting_in s past).phase in
-    record {
-      steady = λ known. absurd (known (ap (λ (c : Restarting). c.phase) state));
-      recovers = λ is. forgets_by s past e phase good at few state sent refl good.phased (recovers_or phase) was;
-    }
+paid_forgets s past e good at few state sent was = record {
+  steady = λ known. absurd (known (ap (λ (c : Restarting). c.phase) state));
+  recovers = λ is. forgets_by s past e good at few state sent (recovers_or (restarting_in s past).phase) was;
+}
 
 -- it waits
 paid_waits : (s : ScriptData) (past : List Entry) (e : Entry) (out : Out Restarting) → MayFollow s past e → e.actor.0 ≡ s.nodes
@@ -253,17 +249,6 @@ paid_resumes s past e k d valid good m at state sent is heard more all was =
       recovers = λ there. absurd (entered.known (sym (ap (λ (c : Restarting). c.phase) state) ∙ there));
     }
 
--- what it heard with the letter that it took
-heard_with : (s : ScriptData) (past : List Entry) (e : Entry) (d : Restarting) → IsGood s past → IsFew s past
-    → MayFollow s past e
-    → (restarting_in s past).phase ≡ Recovering → HearsMore (restarting_in s past) e.took.from.0 e.took.body d
-    → HasHeard s past d
-heard_with s past e d good few m is hears =
-    let asked : TellsAsked s past e.took.body = each_taken (λ (l : Letter). TellsAsked s past l.body) s past e m few.letters in
-    heard_more s past e.took.from.0 e.took.to.0 e.took.body d good few is
-    (each_taken (λ (l : Letter). IsRight s past l.from.0 l.to.0 l.body) s past e m good.letters)
-    (λ n k bd. subst (TellsAsked s past) bd asked) hears
-
 -- each entry of it
 paid_by : (s : ScriptData) (past : List Entry) (e : Entry) (out : Out Restarting) → IsValid s → IsGood s past → IsFew s past
     → MayFollow s past e → e.actor.0 ≡ s.nodes → restarting_in s (e ∷ past) ≡ out.state → e.sent ≡ out.sent
@@ -277,7 +262,7 @@ paid_by s past e out valid good few m at state sent (Waits is after epoch more n
     paid_waits s past e out m at state sent is after epoch more none was
 paid_by s past e out valid good few m at state sent (Resumes k d is hears all same) was =
     paid_resumes s past e k d valid good m at (state ∙ ap (λ (o : Out Restarting). o.state) same)
-    (sent ∙ ap (λ (o : Out Restarting). o.sent) same) is (heard_with s past e d good few m is hears)
+    (sent ∙ ap (λ (o : Out Restarting). o.sent) same) is (heard_more s past e d good few m is hears)
     (tells_more (restarting_in s past) d e.took.from.0 e.took.body hears) all was
 
 paid_coordinator : (s : ScriptData) (past : List Entry) (e : Entry) → IsTreeLawful s → is_lossy s ≡ true
@@ -290,7 +275,7 @@ paid_coordinator s past e laws loses run apt good at was =
     let ended : (c.phase ≡ Recovering → ⊥) → c.ended ≤ 200 =
     λ known. omega (
       arith,
-      ended_most s past c.phase laws.valid good (steady_in s past c.phase known good.phased),
+      ended_most s past c.phase laws.valid good (steady_in s past c.phase good refl known),
       laws.valid.limited.advances,
     ) in
     paid_by s past e out laws.valid good (few s past laws loses run.1 apt) run.0 at made.state made.sent
@@ -311,23 +296,22 @@ all_paid s (e ∷ past) laws loses run apt =
     paid_next s past e laws loses run apt (good_run s past laws loses run.1 apt.1)
     (all_paid s past laws loses run.1 apt.1) (cases_eq e.actor.0 s.nodes)
 
-priced_by : (s : ScriptData) (past : List Entry) (phase : RestartPhase) → IsValid s → IsGood s past
-    → (restarting_in s past).phase ≡ phase
-    → IsInPhase s past phase → (phase ≡ Recovering) ⊎ (phase ≡ Recovering → ⊥) → IsPaid s past
+priced_by : (s : ScriptData) (past : List Entry) → IsValid s → IsGood s past
+    → ((restarting_in s past).phase ≡ Recovering) ⊎ Knows (restarting_in s past).phase → IsPaid s past
     → priced s past ≤ advances_in s.rows * (14 * s.nodes + 1) + allowed s past
-priced_by s past phase valid good is here (inl recovers) paid =
-    let cover = paid.recovers (is ∙ recovers) in
+priced_by s past valid good (inl recovers) paid =
+    let cover = paid.recovers recovers in
     omega (
       arith,
       cover.paid,
       kept_most s past cover.ended cover.shown valid good (cover.floor.nodes 0 (omega (arith, valid.some_nodes))),
     )
-priced_by s past phase valid good is here (inr known) paid =
+priced_by s past valid good (inr known) paid =
+    let phase = (restarting_in s past).phase in
     omega (
       arith,
-      paid.steady (λ no. known (sym is ∙ no)),
-      spent_most s past phase valid good is (steady_in s past phase known here),
-      ap (λ (p : RestartPhase). begun s.nodes p) is,
+      paid.steady known,
+      spent_most s past phase valid good refl (steady_in s past phase good refl known),
     )
 
 -- what is sent costs no more than all advancements that the script has, once, and what nudges and forgetting add
@@ -335,5 +319,5 @@ pub priced_most : (s : ScriptData) (past : List Entry) → IsTreeLawful s → is
     → priced s past ≤ advances_in s.rows * (14 * s.nodes + 1) + allowed s past
 priced_most s past laws loses run apt =
     let good = good_run s past laws loses run apt in
-    priced_by s past (restarting_in s past).phase laws.valid good refl good.phased (recovers_or (restarting_in s past).phase)
+    priced_by s past laws.valid good (recovers_or (restarting_in s past).phase)
     (all_paid s past laws loses run apt)

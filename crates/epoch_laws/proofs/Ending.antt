@@ -33,8 +33,9 @@ use Rattle.phase_laws.proofs.Progress.{MadeByRestarting, TellsAnew, restarts, to
 use Rattle.epoch_laws.proofs.Aside.{end_is}
 use Rattle.epoch_laws.proofs.AtCoordinator.{client_stays}
 use Rattle.epoch_laws.proofs.Away.{restarting_kept}
+use Rattle.epoch_laws.proofs.Good.{Knows}
 use Rattle.epoch_laws.proofs.Recovers.{still_covered}
-use Rattle.epoch_laws.proofs.RecoverSteps.{HasHeard, Knows, Misses, Recovery, recovery, knows_by}
+use Rattle.epoch_laws.proofs.RecoverSteps.{HasHeard, Misses, Recovery, knows_by, recovery}
 use Rattle.epoch_laws.proofs.WantSteps.{more_waits, most_rises, one_most, some_most}
 use Rattle.epoch_laws.proofs.RestartSteps.{RestartStep, asked_kept, asks_with, done_kept, restart_step}
 use Rattle.epoch_laws.proofs.RestartSteps.{Acks, Agrees, Ends, Flags, Forgets, Goes, KeepsAsked, KeepsDone, Pauses, Recounts, Recovers, Rests, Resumes, Wants}

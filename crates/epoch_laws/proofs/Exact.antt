@@ -34,7 +34,7 @@ use Rattle.epoch_laws.proofs.ExactAside.{IsExact, each_now, exact_aside, near_no
 use Rattle.epoch_laws.proofs.ExactSteps.{AreExact, AreNear, IsExactFor, IsNearIn, IsNoFurther, IsStill, IsStillTold, exact_out}
 use Rattle.epoch_laws.proofs.Few.{IsFew, few}
 use Rattle.epoch_laws.proofs.Forgetting.{all_good}
-use Rattle.epoch_laws.proofs.Good.{AllGood, IsGood, IsRight, turns_in, heard_now}
+use Rattle.epoch_laws.proofs.Good.{AllGood, IsGood, IsRight, in_phase, turns_in}
 use Rattle.epoch_laws.proofs.RecoverSteps.{Forgot, HasMore, IsWanted, Stays, Waiting, waiting}
 use Rattle.epoch_laws.proofs.RestartCounts.{good_now}
 use Rattle.epoch_laws.proofs.RestartSteps.{HearsMore, OfClient, OfNode, RestartStep, restart_step}
@@ -163,7 +163,7 @@ exact_coordinator s past e laws run little less good now at made was =
           subst (λ (d : Restarting). IsExactFor s.nodes d (turns_in s (e ∷ past))) (sym made.state)
           (exact_same s.nodes out.state.phase out.state.ended out.state.told (turns_in s past) (turns_in s (e ∷ past)) same
           (exact_out s.nodes c (turns_in s past) e.took.from.0 e.took.body out was.nodes (record {
-            places = λ waits. (heard_now s past good waits).places;
+            places = λ waits. (in_phase s past Recovering good waits).places;
             letter = λ waits.
                 each_taken (λ (l : Letter). IsStillTold c.epoch (turns_in s past) l.from.0 l.body) s past e run.0
                 (was.letters waits);

@@ -34,10 +34,8 @@ use Rattle.epoch_laws.proofs.Aside.{Answered, Aside, Asks, Bare, Counts, Heeds, 
 use Rattle.epoch_laws.proofs.Away.{restarting_kept}
 use Rattle.epoch_laws.proofs.ExactSteps.{AreExact, IsExactFor, IsNearIn, IsNoFurther, IsStill, IsStillTold}
 use Rattle.epoch_laws.proofs.Few.{IsFew, few}
-use Rattle.epoch_laws.proofs.Good.{IsCurrent, IsGood, IsInPhase, IsOrder, IsRight, IsSteady, epoch_in, turns_in, heard_now}
+use Rattle.epoch_laws.proofs.Good.{IsCurrent, IsGood, IsOrder, IsRight, Knows, epoch_in, in_phase, steady_in, took_right, turns_in}
 use Rattle.epoch_laws.proofs.GoodOutcomes.{few_ended}
-use Rattle.epoch_laws.proofs.RecoverSteps.{Knows}
-use Rattle.epoch_laws.proofs.Rising.{took_right}
 
 pub record IsExact (s : ScriptData) (past : List Entry) : Type 0 where
   pub letters : (restarting_in s past).phase ≡ Recovering
@@ -45,19 +43,11 @@ pub record IsExact (s : ScriptData) (past : List Entry) : Type 0 where
   pub nodes : IsExactFor s.nodes (restarting_in s past) (turns_in s past)
 
 -- What is known of a good past.
-pub steady_by : (s : ScriptData) (past : List Entry) (phase : RestartPhase) → IsInPhase s past phase → Knows phase
-    → IsSteady s past phase
-steady_by s past Recovering is knows = absurd (knows refl)
-steady_by s past Idle is knows = is
-steady_by s past (Doing what) is knows = is
-steady_by s past (Counting reads) is knows = is
-steady_by s past (Paused reads) is knows = is
-
 pub near_now : (s : ScriptData) (past : List Entry) → IsTreeLawful s → IsFew s past → IsGood s past
     → IsNearIn s.nodes (restarting_in s past) (turns_in s past)
 near_now s past laws few good = λ knows.
     let c = restarting_in s past in
-    let steady = steady_by s past c.phase good.phased knows in
+    let steady = steady_in s past c.phase good refl knows in
     record {
       small = few_ended s past c.phase laws.valid.some_nodes good few steady;
       low = λ q lt. omega (arith, (good.within q lt).low_swept, steady.up_to.swept);
@@ -244,7 +234,7 @@ aside_steady : (s : ScriptData) (past : List Entry) (e : Entry) (phase : Restart
     → (q : ℕ) → q < s.nodes → IsNoFurther phase (restarting_in s past).ended (turns_in s (e ∷ past) q)
 aside_steady s past e phase good m next at knows was = λ q lt.
     let c = restarting_in s past in
-    let steady = steady_by s past phase (subst (IsInPhase s past) at good.phased) knows in
+    let steady = steady_in s past phase good at knows in
     further_moved c (turns_in s past q) (turns_in s (e ∷ past) q) phase at
     (moved s past e q good m next lt (steady.level q lt).since)
     (was q lt)
@@ -254,7 +244,7 @@ aside_nodes : (s : ScriptData) (past : List Entry) (e : Entry) (phase : RestartP
     → AreExact s.nodes phase (restarting_in s past).ended (restarting_in s past).told (turns_in s past)
     → AreExact s.nodes phase (restarting_in s past).ended (restarting_in s past).told (turns_in s (e ∷ past))
 aside_nodes s past e Recovering good m next at was = λ q t lt has.
-    let heard = (heard_now s past good at).nodes q t lt has in
+    let heard = (in_phase s past Recovering good at).nodes q t lt has in
     still_moved (restarting_in s past) (turns_in s past q) (turns_in s (e ∷ past) q) t.read t.low at
     (moved s past e q good m next lt heard.latest.epoch) (was q t lt has)
 aside_nodes s past e Idle good m next at was = aside_steady s past e Idle good m next at (λ is. cc is) was

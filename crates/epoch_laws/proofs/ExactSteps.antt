@@ -21,7 +21,8 @@ use Rattle.world_model.specs.declared.restarting.Told.{Told}
 use Rattle.phase_out.specs.Counts.{nudged}
 use Rattle.phase_laws.proofs.Outcomes.{one_more_is}
 use Rattle.phase_laws.proofs.Waves.{set_get}
-use Rattle.epoch_laws.proofs.RecoverSteps.{HasHeard, Knows, Misses, Recovery, by_knows, recovery}
+use Rattle.epoch_laws.proofs.Good.{Knows}
+use Rattle.epoch_laws.proofs.RecoverSteps.{HasHeard, Misses, Recovery, by_knows, recovery}
 use Rattle.epoch_laws.proofs.RestartSteps.{HearsMore, OfClient, OfNode, RestartStep, asked_kept, asks_with, done_kept}
 use Rattle.epoch_laws.proofs.RestartSteps.{Acks, Agrees, Ends, Flags, Forgets, Goes, KeepsAsked, KeepsDone, Pauses, Recounts, Recovers, Rests, Resumes, Wants}
 use Rattle.epoch_laws.proofs.ToldLists.{HasTold, all_told, none_told}

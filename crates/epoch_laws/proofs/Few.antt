@@ -56,6 +56,11 @@ pub record IsFew (s : ScriptData) (past : List Entry) : Type 0 where
   pub letters : Each (λ (l : Letter). TellsAsked s past l.body) (in_flight s past)
   pub number : (restarting_in s past).count.number < ((restarting_in s past).epoch + 1) * 2 ^ 32
 
+pub took_asked : (s : ScriptData) (past : List Entry) (e : Entry) (body : Body) → IsFew s past → MayFollow s past e
+    → e.took.body ≡ body → TellsAsked s past body
+took_asked s past e body few m is =
+    subst (TellsAsked s past) is (each_taken (λ (l : Letter). TellsAsked s past l.body) s past e m few.letters)
+
 -- how often the client has made the coordinator forget
 abbrev pub lost_for : ScriptData → List Entry → ℕ
 lost_for s past = loses_in (take (client_in s past).next s.rows)

@@ -1,5 +1,5 @@
 -- What holds after each entry of a run of a coordinator that forgets.
-use Rattle.std.proofs.Common.{◌≡◌, ℕ, ◌+◌, ◌<◌, ◌≤◌, ◌==◌, ◌&&◌, true, List, [], ◌∷◌, length, Some, subst}
+use Rattle.std.proofs.Common.{◌≡◌, ℕ, ◌+◌, ◌<◌, ◌≤◌, ◌==◌, ◌&&◌, true, List, [], ◌∷◌, length, Some, refl, subst}
 use Rattle.std.specs.Prelude.{slice_get}
 use Rattle.tv_base.specs.declared.numbers.Version.{Version}
 use Rattle.letter_types.specs.declared.bodies.Body.{Body}
@@ -13,10 +13,11 @@ use Rattle.tx_trees.specs.ScriptData.{ScriptData}
 use Rattle.world_model.specs.Counts.{Each, one_if}
 use Rattle.world_model.specs.Kept.{outstanding}
 use Rattle.world_model.specs.Restarting.{Restarting, target}
-use Rattle.world_model.specs.Runs.{client_in, in_flight, keeping_in, node_in, restarting_in}
+use Rattle.world_model.specs.Runs.{MayFollow, client_in, in_flight, keeping_in, node_in, restarting_in}
 use Rattle.world_model.specs.declared.restarting.RestartPhase.{RestartPhase}
 use Rattle.world_model.specs.declared.restarting.RestartPhase.TheVariants.{Idle, Recovering, Doing, Counting, Paused}
 use Rattle.world_model.specs.declared.restarting.Told.{Told}
+use Rattle.world_model.proofs.Every.{each_taken}
 use Rattle.phase_laws.specs.Advances.{asked_for}
 use Rattle.phase_laws.specs.Given.{greatest_given}
 use Rattle.phase_laws.specs.Phases.{TurnStage, ShowStage, SweepStage, stage_of}
@@ -189,7 +190,28 @@ abbrev pub AllGood : ScriptData → List Entry → Type 0
 AllGood s [] = IsGood s []
 AllGood s (e ∷ past) = IsGood s (e ∷ past) × AllGood s past
 
--- what it has heard while it recovers
-pub heard_now : (s : ScriptData) (past : List Entry) → IsGood s past → (restarting_in s past).phase ≡ Recovering
-    → IsHeard s past
-heard_now s past good waits = subst (λ (phase : RestartPhase). IsInPhase s past phase) waits good.phased
+-- Where the coordinator is in this phase.
+pub in_phase : (s : ScriptData) (past : List Entry) (phase : RestartPhase) → IsGood s past
+    → (restarting_in s past).phase ≡ phase → IsInPhase s past phase
+in_phase s past phase good at = subst (λ (p : RestartPhase). IsInPhase s past p) at good.phased
+
+-- in it, it knows how many advancements have ended
+abbrev pub Knows : RestartPhase → Type 0
+Knows phase = phase ≡ Recovering → ⊥
+
+pub steady_in : (s : ScriptData) (past : List Entry) (phase : RestartPhase) → IsGood s past
+    → (restarting_in s past).phase ≡ phase → Knows phase → IsSteady s past phase
+steady_in s past phase good at knows = by phase knows (in_phase s past phase good at) where
+  by : (p : RestartPhase) → Knows p → IsInPhase s past p → IsSteady s past p
+  by Idle known is = is
+  by (Doing what) known is = is
+  by (Counting reads) known is = is
+  by (Paused reads) known is = is
+  by Recovering known is = absurd (known refl)
+
+-- The letter that is taken is as it should be.
+pub took_right : (s : ScriptData) (past : List Entry) (e : Entry) (body : Body) → IsGood s past → MayFollow s past e
+    → e.took.body ≡ body → IsRight s past e.took.from.0 e.took.to.0 body
+took_right s past e body good m is =
+    subst (IsRight s past e.took.from.0 e.took.to.0) is
+    (each_taken (λ (l : Letter). IsRight s past l.from.0 l.to.0 l.body) s past e m good.letters)

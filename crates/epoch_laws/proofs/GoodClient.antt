@@ -16,9 +16,8 @@ use Rattle.world_model.proofs.Flows.{client_kept}
 use Rattle.world_model.proofs.Nexts.{MadeByClient}
 use Rattle.phase_laws.specs.Advances.{asked_for}
 use Rattle.epoch_laws.proofs.Aside.{Aside, Counts, Heeds, IsTold, Submits, Tells, Works}
-use Rattle.epoch_laws.proofs.Good.{IsGood, turns_in}
+use Rattle.epoch_laws.proofs.Good.{IsGood, took_right, turns_in}
 use Rattle.epoch_laws.proofs.GoodLetters.{Remains}
-use Rattle.epoch_laws.proofs.Rising.{took_right}
 
 -- what an entry leaves of the client's numbers
 record Knows (s : ScriptData) (past : List Entry) (e : Entry) : Type 0 where

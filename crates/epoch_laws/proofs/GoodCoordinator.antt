@@ -5,12 +5,10 @@ use Rattle.std.proofs.Math.Nat.{le-max_left, max-le}
 use Rattle.tv_base.specs.Outside.{one_more}
 use Rattle.tv_base.specs.declared.numbers.Version.{Version}
 use Rattle.phase_out.specs.Rounds.{verdict_of}
-use Rattle.letter_types.specs.declared.bodies.Body.{Body}
-use Rattle.letter_types.specs.declared.bodies.Body.TheVariants.{AdvanceNo, AskAsked, Obeyed, Wanted}
+use Rattle.letter_types.specs.declared.bodies.Body.TheVariants.{AdvanceNo, AskAsked, Obeyed}
 use Rattle.letter_types.specs.declared.bodies.What.{What}
 use Rattle.letter_types.specs.declared.bodies.What.TheVariants.{Turn as ToTurn, Show as ToShow, Sweep as ToSweep}
 use Rattle.letter_types.specs.declared.entries.Entry.{Entry}
-use Rattle.letter_types.specs.declared.entries.Letter.{Letter}
 use Rattle.letter_types.specs.Steps.{Out, still}
 use Rattle.script_parts.specs.Forms.{most_nodes}
 use Rattle.script_parts.specs.declared.parts.Form.{Form}
@@ -21,16 +19,14 @@ use Rattle.world_model.specs.Coordinator.{to_nodes, with_asked}
 use Rattle.script_parts.specs.Counts.{is_lossy}
 use Rattle.world_model.specs.Restarting.{Restarting, after_doing, begin_counting, end_counting, enter, forget, next_advance, recover, restarting_row, target, version_counted, with_wanted}
 use Rattle.world_model.specs.Runs.{IsStepRun, restarting_in}
-use Rattle.world_model.specs.declared.restarting.RestartPhase.{RestartPhase}
 use Rattle.world_model.specs.declared.restarting.RestartPhase.TheVariants.{Doing, Counting}
-use Rattle.world_model.proofs.Every.{each_taken}
 use Rattle.world_model.proofs.Orders.{to_nodes_each}
 use Rattle.phase_laws.specs.Quiet.{IsSilent}
 use Rattle.phase_laws.proofs.Lawful.{IsTreeLawful}
 use Rattle.phase_laws.proofs.Progress.{MadeByRestarting, TellsAnew}
 use Rattle.phase_laws.proofs.Rounds.{silent_agreed}
-use Rattle.epoch_laws.proofs.Few.{IsFew, TellsAsked, few}
-use Rattle.epoch_laws.proofs.Good.{AllGood, IsGood, IsInPhase, IsRight, token}
+use Rattle.epoch_laws.proofs.Few.{IsFew, few, took_asked}
+use Rattle.epoch_laws.proofs.Good.{AllGood, IsGood, in_phase, token}
 use Rattle.epoch_laws.proofs.GoodOutcomes.{asks_begun, few_ended, last_answer, well_begins, well_ends, well_forgets, well_goes, well_shows, well_sweeps}
 use Rattle.epoch_laws.proofs.GoodResumes.{heard_more, well_recovers}
 use Rattle.epoch_laws.proofs.GoodSteps.{AllAsk, IsAsk, IsCountOf, IsMove, asks_nothing, good_acks, good_counts, good_rests, good_same}
@@ -78,15 +74,6 @@ sent_so : (s : ScriptData) (past : List Entry) (e : Entry) (out : Out Restarting
     → restarting_row (restarting_in s past) e.took.from.0 e.took.body ≡ out → e.sent ≡ out.sent
 sent_so s past e out h is = h.made.sent ∙ ap (λ (o : Out Restarting). o.sent) is
 
--- the letter that is taken
-took_right : (s : ScriptData) (past : List Entry) (e : Entry) → IsTold s past e → IsRight s past e.took.from.0 e.took.to.0 e.took.body
-took_right s past e h =
-    each_taken (λ (l : Letter). IsRight s past l.from.0 l.to.0 l.body) s past e h.run.0 (good_before s past e h).letters
-
-took_asked : (s : ScriptData) (past : List Entry) (e : Entry) (body : Body) → IsTold s past e → e.took.body ≡ body → TellsAsked s past body
-took_asked s past e body h is =
-    subst (TellsAsked s past) is (each_taken (λ (l : Letter). TellsAsked s past l.body) s past e h.run.0 (few_before s past e h).letters)
-
 -- Counts.
 asks_by : (b : Bool) (n : ℕ) (v : Version) (k : ℕ) → AllAsk (if b then to_nodes n (AskAsked v k) else [])
 asks_by true n v k = to_nodes_each (λ to body. IsAsk body) n (AskAsked v k) (λ to lt. tt)
@@ -125,7 +112,7 @@ counted_few : (s : ScriptData) (past : List Entry) (e : Entry) (reads : Bool) �
 counted_few s past e reads h at =
     let good = good_before s past e h in
     few_ended s past (Counting reads) h.laws.valid.some_nodes good (few_before s past e h)
-    (subst (λ (phase : RestartPhase). IsInPhase s past phase) at good.phased)
+    (in_phase s past (Counting reads) good at)
 
 agrees : (s : ScriptData) (past : List Entry) (e : Entry) (reads : Bool) (v : Version) (k : ℕ) (row : List ℕ) → IsTold s past e
     → TakesRequests (restarting_in s past) e.took.from.0 e.took.body reads v k row
@@ -191,12 +178,11 @@ by_step s past e h (Goes i bd at is) =
     let out = enter (next_advance (max c.wanted i) c.ended) (with_wanted i c) in
     let few = few_before s past e h in
     well_goes s past e (max c.wanted i) (nat_lt c.ended (max c.wanted i)) refl (move s past e out h is) (sent_so s past e out h is) at
-    (le-max_left c.wanted i) (max-le few.wanted (took_asked s past e (AdvanceNo i) h bd)) few
+    (le-max_left c.wanted i) (max-le few.wanted (took_asked s past e (AdvanceNo i) few h.run.0 bd)) few
 by_step s past e h (Recovers d at hears is) =
     let few = few_before s past e h in
     well_recovers s past e d (move s past e (recover d) h is)
-    (heard_more s past e.took.from.0 e.took.to.0 e.took.body d (good_before s past e h) few at (took_right s past e h)
-    (λ n k bd. took_asked s past e (Wanted n k) h bd) hears) few at (sent_so s past e (recover d) h is)
+    (heard_more s past e d (good_before s past e h) few h.run.0 at hears) few at (sent_so s past e (recover d) h is)
 by_step s past e h (Acks what at bd more is) =
     let c = restarting_in s past in
     let out = still (record c { acks = one_more c.acks }) in

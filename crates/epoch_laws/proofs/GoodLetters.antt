@@ -25,8 +25,8 @@ use Rattle.phase_laws.specs.Given.{greatest_given}
 use Rattle.phase_laws.specs.Phases.{Stage, TurnStage, ShowStage, SweepStage, stage_of}
 use Rattle.phase_laws.proofs.Working.{SentIn}
 use Rattle.epoch_laws.proofs.Aside.{Answered, Aside, Asks, Bare, IsBare, IsSentBy, Numbered, OfTree, sends_aside}
-use Rattle.epoch_laws.proofs.Good.{AreNumbers, AreWanted, IsAnswer, IsAsTold, IsCurrent, IsGood, IsLatest, IsOrder, IsRight, epoch_in, turns_in}
-use Rattle.epoch_laws.proofs.Rising.{Fares, Rises, took_right}
+use Rattle.epoch_laws.proofs.Good.{AreNumbers, AreWanted, IsAnswer, IsAsTold, IsCurrent, IsGood, IsLatest, IsOrder, IsRight, epoch_in, took_right, turns_in}
+use Rattle.epoch_laws.proofs.Rising.{Fares, Rises}
 
 -- what such an entry leaves: the coordinator, what was given, and of each node what it has come to
 pub record Remains (s : ScriptData) (past : List Entry) (e : Entry) : Type 0 where

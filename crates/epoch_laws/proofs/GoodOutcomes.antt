@@ -33,8 +33,8 @@ use Rattle.phase_laws.proofs.Waves.{going}
 use Rattle.epoch_laws.proofs.AfterCoordinator.{IsLast, OrderNothing, OrdersNothing, fits_still, given_still, good_now, letters_forgotten}
 use Rattle.epoch_laws.proofs.AtCoordinator.{calm_none, left_of, none_left, order_most}
 use Rattle.epoch_laws.proofs.Few.{IsFew}
-use Rattle.epoch_laws.proofs.Good.{IsCurrent, IsGood, IsHeard, IsInPhase, IsRight, IsSteady, IsUpTo, LevelOf, epoch_in, order_to, token, turns_in}
-use Rattle.epoch_laws.proofs.GoodSteps.{AllAsk, IsAsk, IsMove, answer_token, asks_nothing, asks_right, steady_at, steady_doing, told_order, up_still}
+use Rattle.epoch_laws.proofs.Good.{IsCurrent, IsGood, IsHeard, IsInPhase, IsRight, IsSteady, IsUpTo, LevelOf, epoch_in, in_phase, order_to, token, turns_in}
+use Rattle.epoch_laws.proofs.GoodSteps.{AllAsk, IsAsk, IsMove, answer_token, asks_nothing, asks_right, steady_at, told_order, up_still}
 use Rattle.epoch_laws.proofs.GoodTells.{AllEnd, IsBegun, IsWell, ends_nothing, ends_right, good_calm, good_tells, well_by}
 use Rattle.epoch_laws.proofs.ToldLists.{HasTold, none_told}
 
@@ -94,9 +94,6 @@ took_none s past e x m calm =
     omega (arith, none, tally-drop (λ (l : Letter). token d l.from.0 l.to.0 l.body) e.took.id (in_flight s past) e.took m.run.0.waits)
 
 -- 3. No advancement is in progress: one more is wanted.
-steady_idle : (s : ScriptData) (past : List Entry) → IsGood s past → (restarting_in s past).phase ≡ Idle → IsSteady s past Idle
-steady_idle s past good at = subst (λ (phase : RestartPhase). IsInPhase s past phase) at good.phased
-
 idle_calm : (s : ScriptData) (past : List Entry) → (restarting_in s past).phase ≡ Idle → (what : What) (v : Version)
     → IsCurrent (restarting_in s past) what v → ⊥
 idle_calm s past at what v is = cc (sym at ∙ is.phase)
@@ -107,7 +104,7 @@ goes_turn : (s : ScriptData) (past : List Entry) (e : Entry) (w : ℕ)
     → (restarting_in s past).ended < w → (restarting_in s past).wanted ≤ w → w ≤ asked_for s past → IsFew s past → IsWell s past e
 goes_turn s past e w m sent at lt more asked few =
     let c = restarting_in s past in
-    let was = steady_idle s past m.good at in
+    let was = in_phase s past Idle m.good at in
     good_tells s past e (in_restart_phase (Doing ToTurn) (record c { wanted = w })) ToTurn c.ended w m (took_none s past e _ m (idle_calm s past at))
     (record { phase = refl; epoch = refl; ended = refl; wanted = refl; acks = refl }) (record {
       before = [];
@@ -135,7 +132,7 @@ goes_idle : (s : ScriptData) (past : List Entry) (e : Entry) (w : ℕ)
 goes_idle s past e w m none at more =
     let c = restarting_in s past in
     let x = in_restart_phase Idle (record c { wanted = w }) in
-    let was = steady_idle s past m.good at in
+    let was = in_phase s past Idle m.good at in
     let asks : AllAsk e.sent = subst AllAsk (sym none) tt in
     let nothing = asks_nothing e.sent asks in
     well_by s past e nothing
@@ -178,7 +175,7 @@ pub last_answer : (s : ScriptData) (past : List Entry) (e : Entry) (x : Restarti
     → (one_more (restarting_in s past).acks == (restarting_in s past).nodes) ≡ true → IsLast s past e
 last_answer s past e x what few m at bd is =
     let c = restarting_in s past in
-    let was = (steady_doing s past what m.good at).tokens in
+    let was = (in_phase s past (Doing what) m.good at).tokens in
     let all : one_more c.acks ≡ c.nodes = grind (arith, nat_tests) in
     let one : one_more c.acks ≡ c.acks + 1 = omega (arith, was, few) in
     omega (arith, was, all, one, restarting_nodes s past, answer_token c e.took.from.0 e.took.to.0 e.took.body what bd)
@@ -190,7 +187,7 @@ obeyed_level : (s : ScriptData) (past : List Entry) (e : Entry) (x : Restarting)
 obeyed_level s past e x what q m last at lt =
     let c = restarting_in s past in
     subst (λ (k : ℕ). LevelOf (Doing what) c.ended c.epoch (epoch_in s past q) (turns_in s past q) k) (no_orders s past e x q m last)
-    ((steady_doing s past what m.good at).level q lt)
+    ((in_phase s past (Doing what) m.good at).level q lt)
 
 -- a round begins
 begins_level : (what : What) (reads : Bool) (f e epoch : ℕ) (turns : Turns) (k : ℕ) → (what ≡ ToTurn) × (reads ≡ false) ⊎ (what ≡ ToShow) × (reads ≡ true)
@@ -214,7 +211,7 @@ pub well_begins : (s : ScriptData) (past : List Entry) (e : Entry) (what : What)
 well_begins s past e what reads m last is at of =
     let c = restarting_in s past in
     let x = (begin_counting reads c).state in
-    let was = steady_doing s past what m.good at in
+    let was = in_phase s past (Doing what) m.good at in
     let asks : AllAsk e.sent = subst AllAsk (sym is) (asks_begun reads c) in
     let nothing = asks_nothing e.sent asks in
     well_by s past e nothing
@@ -247,7 +244,7 @@ ends_turn s past e m last is at lt few =
     let c = restarting_in s past in
     let f = one_more c.ended in
     let x = in_restart_phase (Doing ToTurn) (record c { ended = f }) in
-    let was = steady_doing s past ToSweep m.good at in
+    let was = in_phase s past (Doing ToSweep) m.good at in
     let next : f ≡ c.ended + 1 = omega (arith, few_ended s past (Doing ToSweep) m.laws.valid.some_nodes m.good few was) in
     let level = λ (q k : ℕ) (lq : q < s.nodes) (some : 1 ≤ k).
     swept_level c.ended f c.epoch (epoch_in s past q) (turns_in s past q) k next some (obeyed_level s past e x ToSweep q m last at lq) in
@@ -275,7 +272,7 @@ ends_idle s past e m last is at few =
     let c = restarting_in s past in
     let f = one_more c.ended in
     let x = in_restart_phase Idle (record c { ended = f }) in
-    let was = steady_doing s past ToSweep m.good at in
+    let was = in_phase s past (Doing ToSweep) m.good at in
     let next : f ≡ c.ended + 1 = omega (arith, few_ended s past (Doing ToSweep) m.laws.valid.some_nodes m.good few was) in
     let level = λ (q k : ℕ) (lq : q < s.nodes).
     idle_level c.ended f c.epoch (epoch_in s past q) (turns_in s past q) k next (obeyed_level s past e x ToSweep q m last at lq) in
@@ -303,10 +300,6 @@ well_ends s past e false test m last is at few = ends_idle s past e m last is at
 counting_calm : (s : ScriptData) (past : List Entry) (reads : Bool) → (restarting_in s past).phase ≡ Counting reads → (what : What) (v : Version)
     → IsCurrent (restarting_in s past) what v → ⊥
 counting_calm s past reads at what v is = cc (sym at ∙ is.phase)
-
-pub steady_counting : (s : ScriptData) (past : List Entry) (reads : Bool) → IsGood s past → (restarting_in s past).phase ≡ Counting reads
-    → IsSteady s past (Counting reads)
-steady_counting s past reads good at = subst (λ (phase : RestartPhase). IsInPhase s past phase) at good.phased
 
 before : (f : ℕ) → f ≡ f + 1 - 1
 before f = omega arith
@@ -338,7 +331,7 @@ pub well_shows : (s : ScriptData) (past : List Entry) (e : Entry) (x : Restartin
     → (greatest_given ShowStage past < (restarting_in s past).ended + 1 → IsSilent s past ((restarting_in s past).ended + 1)) → IsWell s past e
 well_shows s past e x m begun is at few silent =
     let c = restarting_in s past in
-    let was = steady_counting s past false m.good at in
+    let was = in_phase s past (Counting false) m.good at in
     let most = few_ended s past (Counting false) m.laws.valid.some_nodes m.good few was in
     let next : (target ToShow c.ended).0 ≡ c.ended + 1 = omega (arith, most) in
     good_tells s past e x ToShow c.ended c.wanted m (took_none s past e x m (counting_calm s past false at)) begun (record {
@@ -366,7 +359,7 @@ pub well_sweeps : (s : ScriptData) (past : List Entry) (e : Entry) (x : Restarti
     → (greatest_given SweepStage past ≤ (restarting_in s past).ended → IsSilent s past (restarting_in s past).ended) → IsWell s past e
 well_sweeps s past e x m begun is at few silent =
     let c = restarting_in s past in
-    let was = steady_counting s past true m.good at in
+    let was = in_phase s past (Counting true) m.good at in
     let most = few_ended s past (Counting true) m.laws.valid.some_nodes m.good few was in
     let next : (target ToSweep c.ended).0 ≡ c.ended + 1 = omega (arith, most) in
     let some = was.level 0 m.laws.valid.some_nodes in

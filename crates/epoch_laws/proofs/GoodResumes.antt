@@ -1,20 +1,20 @@
 -- The coordinator recovers: it hears more, and once it has heard all it goes on from what it was told.
-use Rattle.std.proofs.Common.{◌≡◌, ◌≢◌, ◌⊎◌, inl, inr, ℕ, zero, suc, ◌+◌, ◌<◌, ◌≤◌, Bool, true, false, List, [], ◌∷◌, length, refl, sym, ap, subst, ◌∙◌, arith, Option, Some, None}
+use Rattle.std.proofs.Common.{◌≡◌, ◌≢◌, ◌⊎◌, inl, inr, ℕ, ◌+◌, ◌<◌, ◌≤◌, Bool, true, false, List, [], ◌∷◌, length, refl, sym, ap, subst, ◌∙◌, arith, Option, Some, None}
 use Rattle.std.specs.Prelude.{if◌then◌else◌, is_some, max, nat_lt, slice_get, slice_set}
 use Rattle.std.specs.List.{list_all, list_any}
 use Rattle.std.proofs.Math.Nat.{le-max_right, max-le}
 use Rattle.std.proofs.lemmas.Bool.Decides.{nat_tests}
 use Rattle.std.proofs.lemmas.List.{length-set}
+use Rattle.std.proofs.lemmas.Option.{slice_get_within}
 use Rattle.tv_base.specs.Outside.{one_more}
-use Rattle.letter_types.specs.declared.bodies.Body.{Body}
-use Rattle.letter_types.specs.declared.bodies.Body.TheVariants.{Advanced, Order, Wanted}
+use Rattle.letter_types.specs.declared.bodies.Body.TheVariants.{Advanced, Numbers, Order, Wanted}
 use Rattle.letter_types.specs.declared.bodies.What.{What}
 use Rattle.letter_types.specs.declared.bodies.What.TheVariants.{Turn as ToTurn, Show as ToShow, Sweep as ToSweep}
 use Rattle.letter_types.specs.declared.entries.Entry.{Entry}
 use Rattle.tx_trees.specs.ScriptData.{ScriptData}
 use Rattle.world_model.specs.Coordinator.{to_nodes, version}
 use Rattle.world_model.specs.Restarting.{AllTold, Restarting, in_restart_phase, least_low, low_differs, orders, read_is, recover, resume_if, target, to_client, update_is, with_advances}
-use Rattle.world_model.specs.Runs.{restarting_in}
+use Rattle.world_model.specs.Runs.{MayFollow, restarting_in}
 use Rattle.world_model.specs.declared.restarting.RestartPhase.{RestartPhase}
 use Rattle.world_model.specs.declared.restarting.RestartPhase.TheVariants.{Idle, Recovering, Doing}
 use Rattle.world_model.specs.declared.restarting.Told.{Told}
@@ -24,8 +24,8 @@ use Rattle.phase_laws.specs.Given.{IsGivenAnew, greatest_given}
 use Rattle.phase_laws.specs.Phases.{TurnStage, ShowStage, SweepStage}
 use Rattle.phase_laws.proofs.Waves.{going, set_get}
 use Rattle.epoch_laws.proofs.AfterCoordinator.{given_still}
-use Rattle.epoch_laws.proofs.Few.{IsFew}
-use Rattle.epoch_laws.proofs.Good.{AreNumbers, AreWanted, IsGood, IsHeardOf, IsInPhase, IsRight, IsUpTo, LevelOf, epoch_in, order_to, turns_in, heard_now}
+use Rattle.epoch_laws.proofs.Few.{IsFew, took_asked}
+use Rattle.epoch_laws.proofs.Good.{AreNumbers, AreWanted, IsGood, IsHeardOf, IsInPhase, IsUpTo, LevelOf, epoch_in, in_phase, order_to, took_right, turns_in}
 use Rattle.epoch_laws.proofs.GoodOutcomes.{few_low, took_none}
 use Rattle.epoch_laws.proofs.GoodSteps.{AllAsk, IsMove, asks_nothing, good_stays, heard_at, steady_at, up_still}
 use Rattle.epoch_laws.proofs.GoodTells.{AllEnd, IsWell, MayBeTold, ends_nothing, ends_right, good_calm, good_tells, well_by}
@@ -42,40 +42,39 @@ pub record HasHeard (s : ScriptData) (past : List Entry) (d : Restarting) : Type
   pub nodes : (q : ℕ) (t : Told) → q < s.nodes → HasTold d.told q t → IsHeardOf s past q t
   pub client : (k : ℕ) → d.heard ≡ Some k → (greatest_given TurnStage past ≤ k + 1) × (k ≤ asked_for s past)
 
-some_same : (t u : Told) → Some t ≡ Some u → t ≡ u
-some_same t u is = cc is
-
 more_told : (s : ScriptData) (past : List Entry) (ts : AllTold) (from : ℕ) (new : Told) → IsHeardOf s past from new
     → ((q : ℕ) (t : Told) → q < s.nodes → HasTold ts q t → IsHeardOf s past q t)
     → (q : ℕ) (t : Told) → q < s.nodes → HasTold (slice_set ts from (Some new)) q t → IsHeardOf s past q t
 more_told s past ts from new here old q t lt has = by (set_get ts from q (Some new) (Some t) has) where
   by : ((from ≡ q) × (Some new ≡ Some t)) ⊎ (slice_get ts q ≡ Some (Some t)) → IsHeardOf s past q t
-  by (inl both) = subst (λ (u : Told). IsHeardOf s past q u) (some_same new t both.1) (subst (λ (n : ℕ). IsHeardOf s past n new) both.0 here)
+  by (inl (at, is)) =
+      let same : new ≡ t = cc is in
+      subst (λ (u : Told). IsHeardOf s past q u) same (subst (λ (n : ℕ). IsHeardOf s past n new) at here)
   by (inr was) = old q t lt was
 
-some_number : (a b : ℕ) → Some a ≡ Some b → a ≡ b
-some_number a b is = cc is
-
-pub heard_more : (s : ScriptData) (past : List Entry) (from to : ℕ) (body : Body) (d : Restarting) → IsGood s past → IsFew s past
-    → (restarting_in s past).phase ≡ Recovering → IsRight s past from to body → ((e k : ℕ) → body ≡ Wanted e k → k ≤ asked_for s past)
-    → HearsMore (restarting_in s past) from body d → HasHeard s past d
-heard_more s past from to body d good few at right asked (OfNode u r l bd lt is) =
+pub heard_more : (s : ScriptData) (past : List Entry) (e : Entry) (d : Restarting) → IsGood s past → IsFew s past
+    → MayFollow s past e → (restarting_in s past).phase ≡ Recovering
+    → HearsMore (restarting_in s past) e.took.from.0 e.took.body d → HasHeard s past d
+heard_more s past e d good few m at (OfNode u r l bd lt is) =
     let c = restarting_in s past in
-    let was = heard_now s past good at in
-    let now : AreNumbers s past from c.epoch u r l = subst (IsRight s past from to) bd right in
+    let from = e.took.from.0 in
+    let t : Told = record { update = u; read = r; low = l } in
+    let was = in_phase s past Recovering good at in
+    let now : AreNumbers s past from c.epoch u r l = took_right s past e (Numbers c.epoch u r l) good m bd in
     subst (HasHeard s past) (sym is) (record {
       epoch = refl;
       phase = at;
       nodes_are = restarting_nodes s past;
       wanted = few.wanted;
-      places = length-set c.told from (Some (record { update = u; read = r; low = l })) ∙ was.places;
-      nodes = more_told s past c.told from (record { update = u; read = r; low = l }) (record { told = now.told; latest = now.latest refl at }) was.nodes;
+      places = length-set c.told from (Some t) ∙ was.places;
+      nodes = more_told s past c.told from t (record { told = now.told; latest = now.latest refl at }) was.nodes;
       client = λ k has. (was.client k has, few.heard k has);
     })
-heard_more s past from to body d good few at right asked (OfClient k bd who is) =
+heard_more s past e d good few m at (OfClient k bd who is) =
     let c = restarting_in s past in
-    let was = heard_now s past good at in
-    let now : AreWanted s past c.epoch k = subst (IsRight s past from to) bd right in
+    let was = in_phase s past Recovering good at in
+    let now : AreWanted s past c.epoch k = took_right s past e (Wanted c.epoch k) good m bd in
+    let asked : k ≤ asked_for s past = took_asked s past e (Wanted c.epoch k) few m bd in
     subst (HasHeard s past) (sym is) (record {
       epoch = refl;
       phase = at;
@@ -84,8 +83,8 @@ heard_more s past from to body d good few at right asked (OfClient k bd who is) 
       places = was.places;
       nodes = was.nodes;
       client = λ j has.
-          let same : k ≡ j = some_number k j has in
-          (omega (arith, same, now.covers refl at), omega (arith, same, asked c.epoch k bd));
+          let same : k ≡ j = cc has in
+          (omega (arith, same, now.covers refl at), omega (arith, same, asked));
     })
 
 -- 1. It hasn't heard all.
@@ -107,16 +106,11 @@ pub record IsFound (s : ScriptData) (past : List Entry) (d : Restarting) (f w : 
   pub up_to : IsUpTo past f w
   pub wanted : w ≤ asked_for s past
 
-has_below : (ts : AllTold) (q : ℕ) (t : Told) → HasTold ts q t → q < length ts
-has_below [] q t has = absurd (cc has)
-has_below (o ∷ ts) zero t has = omega arith
-has_below (o ∷ ts) (suc q) t has = omega (arith, has_below ts q t has)
-
 found : (s : ScriptData) (past : List Entry) (d : Restarting) (k : ℕ) → 1 ≤ s.nodes → IsGood s past → IsFew s past → HasHeard s past d
     → list_all is_some d.told ≡ true → d.heard ≡ Some k → IsFound s past d (least_low d.told) (max d.wanted k)
 found s past d k some good few heard all has =
     let small : AreSmall d.told = λ q t told.
-    let lt : q < s.nodes = omega (arith, has_below d.told q t told, heard.places) in
+    let lt : q < s.nodes = omega (arith, slice_get_within d.told q (Some t) told, heard.places) in
     omega (arith, (heard.nodes q t lt told).told.low, few_low s past q good few lt) in
     let least = least_told d.told all (omega (arith, some, heard.places)) small in
     let there : least.node < s.nodes = omega (arith, least.below, heard.places) in

@@ -20,7 +20,7 @@ use Rattle.world_model.specs.Runs.{IsStepRun, MayFollow, restarting_in}
 use Rattle.world_model.specs.declared.restarting.RestartPhase.{RestartPhase}
 use Rattle.world_model.specs.declared.restarting.RestartPhase.TheVariants.{Idle, Recovering, Doing, Counting, Paused}
 use Rattle.world_model.specs.declared.restarting.Told.{Told}
-use Rattle.world_model.proofs.Every.{each_map, each_taken}
+use Rattle.world_model.proofs.Every.{each_map}
 use Rattle.world_model.proofs.Bags.{one_if_other, one_if_same}
 use Rattle.phase_laws.specs.Given.{greatest_given}
 use Rattle.phase_laws.specs.Phases.{TurnStage, ShowStage, SweepStage}
@@ -29,7 +29,7 @@ use Rattle.phase_laws.proofs.Progress.{TellsAnew}
 use Rattle.phase_laws.proofs.Waves.{flow_of, going}
 use Rattle.epoch_laws.proofs.AfterCoordinator.{OrderNothing, OrdersNothing, fits_still, given_still, good_now, letters_kept, orders_none, tokens_none}
 use Rattle.epoch_laws.proofs.AtCoordinator.{held_at}
-use Rattle.epoch_laws.proofs.Good.{AreTokens, IsCurrent, IsGood, IsHeard, IsHeardOf, IsInPhase, IsRight, IsSteady, IsUpTo, LevelOf, epoch_in, order_to, token, turns_in}
+use Rattle.epoch_laws.proofs.Good.{AreTokens, IsCurrent, IsGood, IsHeard, IsHeardOf, IsInPhase, IsRight, IsSteady, IsUpTo, LevelOf, epoch_in, in_phase, order_to, token, took_right, turns_in}
 use Rattle.epoch_laws.proofs.RestartSteps.{IsLeft}
 use Rattle.epoch_laws.proofs.RightAfter.{IsGivenStill, latest_after, told_after}
 use Rattle.epoch_laws.proofs.ToldLists.{HasTold}
@@ -227,12 +227,6 @@ good_same s past e w m more asks none =
     (λ what v is. record { phase = is.phase; version = is.version }) (λ is. is)
     (phased_same s past e w (restarting_in s past).phase m more asks none m.good.phased)
 
-took_right : (s : ScriptData) (past : List Entry) (e : Entry) → MayFollow s past e → IsGood s past
-    → IsRight s past e.took.from.0 e.actor.0 e.took.body
-took_right s past e m good =
-    subst (λ (n : ℕ). IsRight s past e.took.from.0 n e.took.body) m.addressee
-    (each_taken (λ l. IsRight s past l.from.0 l.to.0 l.body) s past e m good.letters)
-
 pub good_rests : (s : ScriptData) (past : List Entry) (e : Entry) → IsMove s past e (restarting_in s past) → e.sent ≡ []
     → IsLeft e.took.body (restarting_in s past).phase e.took.from.0 (restarting_in s past) → IsGood s (e ∷ past)
 good_rests s past e m none left =
@@ -240,15 +234,14 @@ good_rests s past e m none left =
     good_same s past e c.wanted m (omega arith) (subst AllAsk (sym none) tt)
     (λ what at.
     left_token s past e.took.from.0 e.actor.0 e.took.body what at
-    (subst (λ (phase : RestartPhase). IsLeft e.took.body phase e.took.from.0 c) at left) m.tells (took_right s past e m.run.0 m.good))
+    (subst (λ (phase : RestartPhase). IsLeft e.took.body phase e.took.from.0 c) at left) m.tells
+    (subst (λ (n : ℕ). IsRight s past e.took.from.0 n e.took.body) m.run.0.addressee
+    (took_right s past e e.took.body m.good m.run.0 refl)))
 
 -- 3. One node more has obeyed.
 pub answer_token : (c : Restarting) (from to : ℕ) (body : Body) (what : What) → body ≡ Obeyed c.epoch what (target what c.ended)
     → token c.epoch from to body ≡ 1
 answer_token c from to body what is = ap (token c.epoch from to) is ∙ one_if_same c.epoch
-
-pub steady_doing : (s : ScriptData) (past : List Entry) (what : What) → IsGood s past → (restarting_in s past).phase ≡ Doing what → IsSteady s past (Doing what)
-steady_doing s past what good at = subst (λ (phase : RestartPhase). IsInPhase s past phase) at good.phased
 
 few_acks : (acks nodes tokens : ℕ) → tokens + acks ≡ nodes → nodes ≤ 64 → one_more acks ≡ acks + 1
 few_acks acks nodes tokens is few = omega (arith, is, few)
@@ -261,7 +254,7 @@ good_acks s past e what few m none at bd =
     let c = restarting_in s past in
     let x = record c { acks = one_more c.acks } in
     let asks : AllAsk e.sent = subst AllAsk (sym none) tt in
-    let was = steady_doing s past what m.good at in
+    let was = in_phase s past (Doing what) m.good at in
     let next = few_acks c.acks s.nodes (going (token c.epoch) s past) was.tokens few in
     good_stays s past e x m refl asks (λ w v is. record { phase = is.phase; version = is.version }) (λ is. is)
     (subst (λ (phase : RestartPhase). IsInPhase s (e ∷ past) phase) (sym at)

@@ -24,8 +24,7 @@ use Rattle.phase_laws.proofs.Heeds.{Answers, AreWakes, Heed, IsOfEpoch, IsWake, 
 use Rattle.phase_laws.proofs.Waves.{flow_of, going, leaving}
 use Rattle.phase_laws.proofs.Working.{IsOfTrees, SentIn}
 use Rattle.epoch_laws.proofs.Aside.{AreBare, Aside, Counts, Heeds, IsBare, IsEpochless, Submits, Tells, Works, submit_bare}
-use Rattle.epoch_laws.proofs.Good.{IsCurrent, IsGood, IsOrder, order_to, token, turns_in}
-use Rattle.epoch_laws.proofs.Rising.{took_right}
+use Rattle.epoch_laws.proofs.Good.{IsCurrent, IsGood, IsOrder, order_to, token, took_right, turns_in}
 
 -- neither an order nor an answer
 abbrev pub IsNoToken : Body → Type 0

@@ -12,6 +12,7 @@ use Rattle.letter_types.specs.Steps.{Out, still}
 use Rattle.world_model.specs.Restarting.{AllTold, Restarting, after_doing, begin_counting, end_counting, forget, in_restart_phase, low_differs, next_advance, phase_by, read_is, recover, resume, resume_if, update_is, with_wanted}
 use Rattle.world_model.specs.declared.restarting.RestartPhase.{RestartPhase}
 use Rattle.world_model.specs.declared.restarting.RestartPhase.TheVariants.{Idle, Recovering, Doing, Counting, Paused}
+use Rattle.epoch_laws.proofs.Good.{Knows}
 use Rattle.epoch_laws.proofs.RestartSteps.{HearsMore, IsLeft, RestartStep, asked_kept}
 use Rattle.epoch_laws.proofs.RestartSteps.{Acks, Agrees, Ends, Flags, Forgets, Goes, KeepsAsked, KeepsDone, Pauses, Recounts, Recovers, Rests, Resumes, Wants}
 
@@ -34,9 +35,6 @@ pub recovery : (d : Restarting) (out : Out Restarting) → out ≡ recover d →
 recovery d out is = subst (Recovery d) (sym is) (recovery_by d (list_all is_some d.told) d.heard refl refl)
 
 -- The phases in which it goes on aren't that in which it waits.
-abbrev pub Knows : RestartPhase → Type 0
-Knows phase = phase ≡ Recovering → ⊥
-
 next_knows : (wanted f : ℕ) → Knows (next_advance wanted f)
 next_knows wanted f = by (nat_lt f wanted) where
   by : (b : Bool) → Knows (if b then Doing ToTurn else Idle)

@@ -36,7 +36,7 @@ use Rattle.epoch_laws.proofs.Aside.{Aside, Counts, Heeds, IsEpochless, Submits, 
 use Rattle.epoch_laws.proofs.AtCoordinator.{left_of, nodes_sent}
 use Rattle.epoch_laws.proofs.Away.{restarting_kept}
 use Rattle.epoch_laws.proofs.Forgetting.{good_run}
-use Rattle.epoch_laws.proofs.Good.{IsGood, heard_now}
+use Rattle.epoch_laws.proofs.Good.{IsGood, in_phase}
 use Rattle.epoch_laws.proofs.RecoverSteps.{Forgot, HasMore, IsWanted, Stays, Waiting, has_all, waiting}
 use Rattle.epoch_laws.proofs.RestartSteps.{HearsMore, IsLeft, OfClient, OfNode, restart_step}
 
@@ -338,7 +338,7 @@ awaits_by s past e out good m tells sent was (Stays waits left is) =
             (was waits).each client q asked,
             none_taken (asking client c.epoch q) s past e m
                 (left_none client s c q e.took.from.0 e.actor.0 e.took.body left tells asked
-                (heard_now s past good waits).places
+                (in_phase s past Recovering good waits).places
                 (restarting_nodes s past)),
           );
       misses = (was waits).misses;
@@ -404,7 +404,7 @@ pub never_waits : (s : ScriptData) (past : List Entry) → IsTreeLawful s → is
 never_waits s past laws loses run apt empty waits =
     let c = restarting_in s past in
     let awaited = awaits_in s past laws loses run apt waits in
-    let places = (heard_now s past (good_run s past laws loses run apt) waits).places in
+    let places = (in_phase s past Recovering (good_run s past laws loses run apt) waits).places in
     let none : (client : Bool) (q : ℕ) → going (asking client c.epoch q) s past ≡ 0 =
     λ client q. ap (λ (ls : List Letter). tally (λ (l : Letter). asking client c.epoch q l.from.0 l.to.0 l.body) ls) empty in
     let nodes : list_all is_some c.told ≡ true =

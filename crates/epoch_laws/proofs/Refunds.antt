@@ -31,7 +31,7 @@ use Rattle.phase_laws.specs.Phases.{TurnStage, stage_of}
 use Rattle.phase_laws.proofs.Outcomes.{one_more_is}
 use Rattle.phase_laws.proofs.Waves.{going}
 use Rattle.epoch_laws.proofs.Floors.{AllAskAnew, AsksAnew, IsFrom, IsRestored}
-use Rattle.epoch_laws.proofs.Good.{IsCurrent, IsGood, IsInPhase, IsRight, IsSteady, LevelOf, least_read, least_update, order_to, turns_in}
+use Rattle.epoch_laws.proofs.Good.{IsCurrent, IsGood, IsRight, IsSteady, LevelOf, least_read, least_update, order_to, turns_in}
 use Rattle.epoch_laws.proofs.Prices.{IsEntered, begun, doing_entered, next_entered, next_orders, ordered, price, to_nodes_price}
 
 -- in these phases each node reads the next version already
@@ -183,14 +183,6 @@ pub ended_most : (s : ScriptData) (past : List Entry) (phase : RestartPhase) →
 ended_most s past phase valid good steady =
     let some : 0 < s.nodes = omega (arith, valid.some_nodes) in
     omega (arith, (steady.level 0 some).low, low_most s past 0 good some, turned_most s past good)
-
-pub steady_in : (s : ScriptData) (past : List Entry) (phase : RestartPhase) → (phase ≡ Recovering → ⊥) → IsInPhase s past phase
-    → IsSteady s past phase
-steady_in s past Idle known steady = steady
-steady_in s past (Doing what) known steady = steady
-steady_in s past (Counting reads) known steady = steady
-steady_in s past (Paused reads) known steady = steady
-steady_in s past Recovering known heard = absurd (known refl)
 
 -- While nodes turn, they were told so.
 target_turn : (f : ℕ) → f ≤ 200 → (target ToTurn f).0 ≡ f + 2

@@ -16,7 +16,6 @@ use Rattle.world_model.specs.Done.{raised_if}
 use Rattle.world_model.specs.Keeping.{KeepingNode}
 use Rattle.world_model.specs.Node.{Node}
 use Rattle.world_model.specs.Runs.{MayFollow, keeping_in, restarting_in}
-use Rattle.world_model.proofs.Every.{each_taken}
 use Rattle.world_model.proofs.Outstanding.{keeping_elsewhere}
 use Rattle.phase_laws.specs.Given.{greatest_given}
 use Rattle.phase_laws.specs.Phases.{TurnStage, ShowStage, SweepStage, stage_of}
@@ -26,7 +25,7 @@ use Rattle.phase_laws.proofs.Heeds.{Answers, Heed, Leaves, Obeys, Repeats, turne
 use Rattle.phase_laws.proofs.Progress.{Work}
 use Rattle.phase_laws.proofs.Working.{IsOfTrees, IsRaiser}
 use Rattle.epoch_laws.proofs.Aside.{Aside, TellsCounts, Counts, Heeds, IsEpochless, Submits, Tells, Works}
-use Rattle.epoch_laws.proofs.Good.{IsGood, IsOrder, IsRight}
+use Rattle.epoch_laws.proofs.Good.{IsGood, IsOrder, took_right}
 use Rattle.epoch_laws.proofs.TreeEpochs.{IsOfNoEpoch, epoch_stays}
 
 -- a node's epoch and versions don't fall
@@ -58,14 +57,6 @@ stays s past p good lt =
       showed = within.read_showed;
       swept = within.low_swept;
     }
-
--- the letter that is taken is as it should be
-pub took_right : (s : ScriptData) (past : List Entry) (e : Entry) (body : Body) → IsGood s past → MayFollow s past e
-    → e.took.body ≡ body
-    → IsRight s past e.took.from.0 e.took.to.0 body
-took_right s past e body good m is =
-    subst (IsRight s past e.took.from.0 e.took.to.0) is
-    (each_taken (λ (l : Letter). IsRight s past l.from.0 l.to.0 l.body) s past e m good.letters)
 
 -- A node that works for a tree may raise its update version to that of a letter.
 raiser_version : (s : ScriptData) (v : ℕ) (body : Body) → IsRaiser s v body → v ≤ tree_version body
