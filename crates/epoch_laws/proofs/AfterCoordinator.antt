@@ -32,7 +32,7 @@ use Rattle.phase_laws.proofs.Lawful.{IsTreeLawful}
 use Rattle.phase_laws.proofs.Silence.{Closed, silent_stays}
 use Rattle.phase_laws.proofs.Waves.{going, leaving}
 use Rattle.epoch_laws.proofs.AtCoordinator.{asked_stays, client_stays, each_after, held_at, left_of, none_left}
-use Rattle.epoch_laws.proofs.Good.{IsGood, IsInPhase, IsRight, order_to, token, turns_in}
+use Rattle.epoch_laws.proofs.Good.{AreRight, IsGood, IsInPhase, IsLetterRight, IsRight, order_to, token, turns_in}
 use Rattle.epoch_laws.proofs.RightAfter.{IsForgetting, IsGivenStill, IsOfNode, IsSteadily, IsTelling, right_forgets, right_kept, right_told}
 
 -- Numbers come from nodes.
@@ -43,15 +43,14 @@ of_node s from to _ meant = tt
 
 -- The letters that are left were right, and come from where they should.
 abbrev WasRight : ScriptData → List Entry → Letter → Type 0
-WasRight s past l = IsOfNode s l.from.0 l.body × IsRight s past l.from.0 l.to.0 l.body
+WasRight s past l = IsOfNode s l.from.0 l.body × IsLetterRight s past l
 
 were_right : (s : ScriptData) (past : List Entry) (e : Entry) → IsValid s → IsStepRun s past → IsGood s past
     → Each (WasRight s past) (left_of s past e)
 were_right s past e valid run good =
     let P = λ (l : Letter). IsOfNode s l.from.0 l.body in
-    let Q = λ (l : Letter). IsRight s past l.from.0 l.to.0 l.body in
     each_drop (WasRight s past) e.took.id (in_flight s past)
-    (each_both P Q (in_flight s past)
+    (each_both P (IsLetterRight s past) (in_flight s past)
     (each_map (IsLetterMeant s) P (in_flight s past) (λ l meant. of_node s l.from.0 l.to.0 l.body meant)
     (each_waits (IsLetterMeant s) s past (letters_are_meant s past valid run))) good.letters)
 
@@ -59,23 +58,20 @@ were_right s past e valid run good =
 abbrev AreSentRight : ScriptData → List Entry → Entry → Type 0
 AreSentRight s past e = Each (λ (o : Outgoing). (i : LetterId) → IsRight s (e ∷ past) e.actor.0 o.to.0 o.body) e.sent
 
-abbrev pub AreRight : ScriptData → List Entry → Type 0
-AreRight s past = Each (λ (l : Letter). IsRight s past l.from.0 l.to.0 l.body) (in_flight s past)
-
-pub letters_kept : (s : ScriptData) (past : List Entry) (e : Entry) → IsValid s → IsStepRun s past → IsGood s past → IsSteadily s past e
-    → AreSentRight s past e → AreRight s (e ∷ past)
+pub letters_kept : (s : ScriptData) (past : List Entry) (e : Entry) → IsValid s → IsStepRun s past → IsGood s past
+    → IsSteadily s past e → AreSentRight s past e → AreRight s (e ∷ past)
 letters_kept s past e valid run good steadily sent =
-    let Q = λ (l : Letter). IsRight s (e ∷ past) l.from.0 l.to.0 l.body in
-    each_after Q s past e
-    (each_map (WasRight s past) Q (left_of s past e) (λ l was. right_kept s past e l.from.0 l.to.0 l.body steadily was.0 was.1)
+    each_after (IsLetterRight s (e ∷ past)) s past e
+    (each_map (WasRight s past) (IsLetterRight s (e ∷ past)) (left_of s past e)
+    (λ l was. right_kept s past e l.from.0 l.to.0 l.body steadily was.0 was.1)
     (were_right s past e valid run good)) sent
 
-pub letters_forgotten : (s : ScriptData) (past : List Entry) (e : Entry) → IsValid s → IsStepRun s past → IsGood s past → IsForgetting s past e
-    → AreSentRight s past e → AreRight s (e ∷ past)
+pub letters_forgotten : (s : ScriptData) (past : List Entry) (e : Entry) → IsValid s → IsStepRun s past → IsGood s past
+    → IsForgetting s past e → AreSentRight s past e → AreRight s (e ∷ past)
 letters_forgotten s past e valid run good forgets sent =
-    let Q = λ (l : Letter). IsRight s (e ∷ past) l.from.0 l.to.0 l.body in
-    each_after Q s past e
-    (each_map (WasRight s past) Q (left_of s past e) (λ l was. right_forgets s past e l.from.0 l.to.0 l.body forgets was.0 was.1)
+    each_after (IsLetterRight s (e ∷ past)) s past e
+    (each_map (WasRight s past) (IsLetterRight s (e ∷ past)) (left_of s past e)
+    (λ l was. right_forgets s past e l.from.0 l.to.0 l.body forgets was.0 was.1)
     (were_right s past e valid run good)) sent
 
 -- the letter that is taken is the last of its epoch, or there is none
@@ -83,15 +79,15 @@ abbrev pub IsLast : ScriptData → List Entry → Entry → Type 0
 IsLast s past e =
     going (token (restarting_in s past).epoch) s past ≡ token (restarting_in s past).epoch e.took.from.0 e.took.to.0 e.took.body
 
-pub letters_told : (s : ScriptData) (past : List Entry) (e : Entry) → IsValid s → IsStepRun s past → MayFollow s past e → IsGood s past
-    → IsTelling s past e → IsLast s past e → AreSentRight s past e → AreRight s (e ∷ past)
+pub letters_told : (s : ScriptData) (past : List Entry) (e : Entry) → IsValid s → IsStepRun s past → MayFollow s past e
+    → IsGood s past → IsTelling s past e → IsLast s past e → AreSentRight s past e → AreRight s (e ∷ past)
 letters_told s past e valid run m good telling last sent =
     let T = λ (l : Letter). token (restarting_in s past).epoch l.from.0 l.to.0 l.body ≡ 0 in
-    let Q = λ (l : Letter). IsRight s (e ∷ past) l.from.0 l.to.0 l.body in
-    each_after Q s past e
-    (each_map (λ (l : Letter). WasRight s past l × T l) Q (left_of s past e)
+    each_after (IsLetterRight s (e ∷ past)) s past e
+    (each_map (λ (l : Letter). WasRight s past l × T l) (IsLetterRight s (e ∷ past)) (left_of s past e)
     (λ l was. right_told s past e l.from.0 l.to.0 l.body telling was.0.0 (was.0.1, was.1))
-    (each_both (WasRight s past) T (left_of s past e) (were_right s past e valid run good) (none_left s past e m last))) sent
+    (each_both (WasRight s past) T (left_of s past e) (were_right s past e valid run good) (none_left s past e m last)))
+    sent
 
 -- Letters that order nothing.
 abbrev pub OrdersNothing : Body → Type 0

@@ -23,7 +23,7 @@ use Rattle.world_model.proofs.Flows.{client_kept}
 use Rattle.world_model.proofs.Outstanding.{keeping_elsewhere}
 use Rattle.phase_laws.specs.Advances.{asked_for}
 use Rattle.phase_laws.proofs.Waves.{going, leaving}
-use Rattle.epoch_laws.proofs.Good.{IsCurrent, IsRight, order_to, token}
+use Rattle.epoch_laws.proofs.Good.{AreRight, IsCurrent, IsLetterRight, IsRight, order_to, token}
 
 -- What stays.
 pub node_stays : (s : ScriptData) (past : List Entry) (e : Entry) (q : ℕ) → e.actor.0 ≡ s.nodes → q < s.nodes
@@ -62,11 +62,11 @@ token_none e from to _ s past same calm right = refl
 
 -- there is none
 pub calm_none : (s : ScriptData) (past : List Entry) → ((what : What) (v : Version) → IsCurrent (restarting_in s past) what v → ⊥)
-    → Each (λ (l : Letter). IsRight s past l.from.0 l.to.0 l.body) (in_flight s past) → going (token (restarting_in s past).epoch) s past ≡ 0
+    → AreRight s past → going (token (restarting_in s past).epoch) s past ≡ 0
 calm_none s past calm right =
     let e = (restarting_in s past).epoch in
     each_none (λ (l : Letter). token e l.from.0 l.to.0 l.body) (in_flight s past)
-    (each_map (λ (l : Letter). IsRight s past l.from.0 l.to.0 l.body) (λ (l : Letter). token e l.from.0 l.to.0 l.body ≡ 0) (in_flight s past)
+    (each_map (IsLetterRight s past) (λ (l : Letter). token e l.from.0 l.to.0 l.body ≡ 0) (in_flight s past)
     (λ l ok. token_none e l.from.0 l.to.0 l.body s past refl calm ok) right)
 
 -- where the letter that is taken is the last one, none is left

@@ -54,7 +54,7 @@ pub record IsCovered (s : ScriptData) (past : List Entry) : Type 0 where
 
 -- what was sent is paid for
 pub record IsPaid (s : ScriptData) (past : List Entry) : Type 0 where
-  pub steady : ((restarting_in s past).phase ≡ Recovering → ⊥)
+  pub steady : Knows (restarting_in s past).phase
       → priced s past + owed s.nodes (restarting_in s past) ≤ spent s.nodes (restarting_in s past) + allowed s past
   pub recovers : (restarting_in s past).phase ≡ Recovering → IsCovered s past
 
@@ -96,8 +96,8 @@ priced_here s past e os at is =
 
 -- it pays for what it sends
 paid_spends : (s : ScriptData) (past : List Entry) (e : Entry) (out : Out Restarting) → e.actor.0 ≡ s.nodes
-    → restarting_in s (e ∷ past) ≡ out.state → e.sent ≡ out.sent → ((restarting_in s past).phase ≡ Recovering → ⊥)
-    → (out.state.phase ≡ Recovering → ⊥) → out.state.epoch ≡ (restarting_in s past).epoch
+    → restarting_in s (e ∷ past) ≡ out.state → e.sent ≡ out.sent → Knows (restarting_in s past).phase
+    → Knows out.state.phase → out.state.epoch ≡ (restarting_in s past).epoch
     → Pays s.nodes (restarting_in s past) e.took.body out → IsPaid s past → IsPaid s (e ∷ past)
 paid_spends s past e out at state sent known after epoch pays was =
     let n = s.nodes in
@@ -272,7 +272,7 @@ paid_coordinator s past e laws loses run apt good at was =
     let c = restarting_in s past in
     let made = restarts s past e loses run.0 at in
     let out = restarting_row c e.took.from.0 e.took.body in
-    let ended : (c.phase ≡ Recovering → ⊥) → c.ended ≤ 200 =
+    let ended : Knows c.phase → c.ended ≤ 200 =
     λ known. omega (
       arith,
       ended_most s past c.phase laws.valid good (steady_in s past c.phase good refl known),

@@ -34,7 +34,7 @@ use Rattle.epoch_laws.proofs.ExactAside.{IsExact, each_now, exact_aside, near_no
 use Rattle.epoch_laws.proofs.ExactSteps.{AreExact, AreNear, IsExactFor, IsNearIn, IsNoFurther, IsStill, IsStillTold, exact_out}
 use Rattle.epoch_laws.proofs.Few.{IsFew, few}
 use Rattle.epoch_laws.proofs.Forgetting.{all_good}
-use Rattle.epoch_laws.proofs.Good.{AllGood, IsGood, IsRight, in_phase, turns_in}
+use Rattle.epoch_laws.proofs.Good.{AllGood, IsGood, IsLetterRight, IsRight, in_phase, turns_in}
 use Rattle.epoch_laws.proofs.RecoverSteps.{Forgot, HasMore, IsWanted, Stays, Waiting, waiting}
 use Rattle.epoch_laws.proofs.RestartCounts.{good_now}
 use Rattle.epoch_laws.proofs.RestartSteps.{HearsMore, OfClient, OfNode, RestartStep, restart_step}
@@ -88,13 +88,12 @@ old_letters s past e d laws run good at was (inl (waits, same)) =
     let P = λ (l : Letter). IsStillTold c.epoch (turns_in s past) l.from.0 l.body in
     subst (λ (n : ℕ). Each (λ (l : Letter). IsStillTold n (turns_in s (e ∷ past)) l.from.0 l.body) (in_flight s past))
     (sym same)
-    (each_map (λ (l : Letter). IsLetterMeant s l × (IsRight s past l.from.0 l.to.0 l.body × P l))
+    (each_map (λ (l : Letter). IsLetterMeant s l × (IsLetterRight s past l × P l))
     (λ (l : Letter). IsStillTold c.epoch (turns_in s (e ∷ past)) l.from.0 l.body) (in_flight s past)
     (λ l all. still_at s past e c.epoch l.from.0 l.to.0 l.body at all.0 all.1.1)
     (each_now P s past laws run good (was.letters waits)))
 old_letters s past e d laws run good at was (inr less) =
-    each_map (λ (l : Letter). IsRight s past l.from.0 l.to.0 l.body)
-    (λ (l : Letter). IsStillTold d.epoch (turns_in s (e ∷ past)) l.from.0 l.body) (in_flight s past)
+    each_map (IsLetterRight s past) (λ (l : Letter). IsStillTold d.epoch (turns_in s (e ∷ past)) l.from.0 l.body) (in_flight s past)
     (λ l right. still_none s past d.epoch l.from.0 l.to.0 l.body (turns_in s (e ∷ past)) less right) good.letters
 
 -- it sends no numbers

@@ -34,7 +34,7 @@ use Rattle.epoch_laws.proofs.Aside.{Answered, Aside, Asks, Bare, Counts, Heeds, 
 use Rattle.epoch_laws.proofs.Away.{restarting_kept}
 use Rattle.epoch_laws.proofs.ExactSteps.{AreExact, IsExactFor, IsNearIn, IsNoFurther, IsStill, IsStillTold}
 use Rattle.epoch_laws.proofs.Few.{IsFew, few}
-use Rattle.epoch_laws.proofs.Good.{IsCurrent, IsGood, IsOrder, IsRight, Knows, epoch_in, in_phase, steady_in, took_right, turns_in}
+use Rattle.epoch_laws.proofs.Good.{IsCurrent, IsGood, IsLetterRight, IsOrder, IsRight, Knows, epoch_in, in_phase, steady_in, took_right, turns_in}
 use Rattle.epoch_laws.proofs.GoodOutcomes.{few_ended}
 
 pub record IsExact (s : ScriptData) (past : List Entry) : Type 0 where
@@ -204,11 +204,11 @@ sent_still s past e epoch body (Answered n what v bd is) =
 -- what holds of each letter in flight, to be as it should
 pub each_now : (P : Letter → Type 0) (s : ScriptData) (past : List Entry) → IsTreeLawful s → IsStepRun s past → IsGood s past
     → Each P (in_flight s past)
-    → Each (λ (l : Letter). IsLetterMeant s l × (IsRight s past l.from.0 l.to.0 l.body × P l)) (in_flight s past)
+    → Each (λ (l : Letter). IsLetterMeant s l × (IsLetterRight s past l × P l)) (in_flight s past)
 each_now P s past laws run good all =
-    each_both (IsLetterMeant s) (λ (l : Letter). IsRight s past l.from.0 l.to.0 l.body × P l) (in_flight s past)
+    each_both (IsLetterMeant s) (λ (l : Letter). IsLetterRight s past l × P l) (in_flight s past)
     (each_waits (IsLetterMeant s) s past (letters_are_meant s past laws.valid run))
-    (each_both (λ (l : Letter). IsRight s past l.from.0 l.to.0 l.body) P (in_flight s past) good.letters all)
+    (each_both (IsLetterRight s past) P (in_flight s past) good.letters all)
 
 aside_letters : (s : ScriptData) (past : List Entry) (e : Entry) → IsTreeLawful s → IsStepRun s (e ∷ past) → IsGood s past
     → Aside s past e → (restarting_in s past).phase ≡ Recovering
@@ -220,7 +220,7 @@ aside_letters s past e laws run good next waits was =
     let P = λ (l : Letter). IsStillTold c.epoch (turns_in s past) l.from.0 l.body in
     let Q = λ (l : Letter). IsStillTold c.epoch (turns_in s (e ∷ past)) l.from.0 l.body in
     each_step Q s past e
-    (each_map (λ (l : Letter). IsLetterMeant s l × (IsRight s past l.from.0 l.to.0 l.body × P l)) Q (in_flight s past)
+    (each_map (λ (l : Letter). IsLetterMeant s l × (IsLetterRight s past l × P l)) Q (in_flight s past)
     (λ l all. old_still s past e l.from.0 l.to.0 l.body good run.0 next waits all.0 all.1.0 all.1.1)
     (each_now P s past laws run.1 good was))
     (each_map (λ (o : Outgoing). IsSentBy s past e o.body)

@@ -28,7 +28,7 @@ use Rattle.phase_laws.proofs.Waves.{set_get}
 use Rattle.phase_laws.proofs.Working.{SentIn}
 use Rattle.epoch_laws.proofs.Aside.{Answered, Aside, Asks, Bare, IsBare, IsSentBy, Numbered, OfTree, sends_aside}
 use Rattle.epoch_laws.proofs.AtCoordinator.{held_at}
-use Rattle.epoch_laws.proofs.Good.{IsGood, IsHeardOf, IsRight, turns_in}
+use Rattle.epoch_laws.proofs.Good.{IsGood, IsHeardOf, IsLetterRight, IsRight, turns_in}
 use Rattle.epoch_laws.proofs.Prices.{OneMore, Same, TellsMore}
 use Rattle.epoch_laws.proofs.Away.{restarting_kept}
 use Rattle.epoch_laws.proofs.GoodResumes.{HasHeard}
@@ -178,8 +178,7 @@ floor_forgets s past e f shown good at later none asks nodes =
       nodes = nodes_stay s past e f shown at nodes;
       letters =
           each_step (λ (l : Letter). TellsFrom n f shown l.body) s past e
-          (each_map (λ (l : Letter). IsRight s past l.from.0 l.to.0 l.body) (λ (l : Letter). TellsFrom n f shown l.body)
-          (in_flight s past)
+          (each_map (IsLetterRight s past) (λ (l : Letter). TellsFrom n f shown l.body) (in_flight s past)
           (λ l right. earlier_from s past n f shown l.from.0 l.to.0 l.body later right) good.letters)
           (each_map (λ (o : Outgoing). AsksAnew o.body) (λ (o : Outgoing). LetterId → TellsFrom n f shown o.body) e.sent
           (λ o ask i. anew_from n f shown o.body ask) asks);

@@ -22,7 +22,7 @@ use Rattle.world_model.specs.Kept.{kept_in, outstanding}
 use Rattle.script_parts.specs.Counts.{is_lossy}
 use Rattle.world_model.specs.Named.{is_timely}
 use Rattle.world_model.specs.Runs.{IsStepRun, in_flight, keeping_in, node_in}
-use Rattle.world_model.proofs.Every.{each_both, each_map, each_taken}
+use Rattle.world_model.proofs.Every.{each_both, each_map}
 use Rattle.world_model.proofs.EachOutstanding.{each_first, each_waits}
 use Rattle.world_model.proofs.Gone.{under_or}
 use Rattle.strict_laws.specs.Meant.{IsLetterMeant, IsMeant}
@@ -42,7 +42,7 @@ use Rattle.phase_laws.proofs.Progress.{course, itself, restarts, told_anew}
 use Rattle.phase_laws.proofs.Sending.{IsApart, Sending, SendsApart, SendsAsked, SendsDone, SendsOrders, sending}
 use Rattle.phase_laws.proofs.Silence.{goes_itself}
 use Rattle.epoch_laws.proofs.Away.{given_kept}
-use Rattle.epoch_laws.proofs.Good.{AllGood, IsGood, IsOrder, IsRight, epoch_in, turns_in}
+use Rattle.epoch_laws.proofs.Good.{AllGood, IsGood, IsLetterRight, IsOrder, IsRight, epoch_in, took_right, turns_in}
 use Rattle.epoch_laws.proofs.GoodCoordinator.{well_told}
 use Rattle.epoch_laws.proofs.GoodNodes.{good_elsewhere}
 use Rattle.epoch_laws.proofs.GoodTells.{IsWell}
@@ -163,10 +163,10 @@ core_timely : (s : ScriptData) (past : List Entry) (e : Entry) (p : ℕ) (r : Le
     → is_core_timely s (keeping_in s past p).core body ≡ true
 core_timely s past e p r (Order d what v) good run b bd timely =
     let same : r ≡ e.took = itself s past e p r b (λ asks. subst IsAsking bd asks) in
-    let taken = each_taken (λ (l : Letter). IsRight s past l.from.0 l.to.0 l.body) s past e run.0 good.letters in
     let right : IsRight s past e.took.from.0 p (Order d what v) =
     subst (IsRight s past e.took.from.0 p) (sym (ap (λ (l : Letter). l.body) same) ∙ bd)
-    (subst (λ (n : ℕ). IsRight s past e.took.from.0 n e.took.body) (run.0.addressee ∙ b.at) taken) in
+    (subst (λ (n : ℕ). IsRight s past e.took.from.0 n e.took.body) (run.0.addressee ∙ b.at)
+    (took_right s past e e.took.body good run.0 refl)) in
     order_timely s past p d what v good b.below right
 core_timely s past e p r Go good run b bd timely = timely
 core_timely s past e p r _ good run b bd timely = timely
@@ -208,14 +208,14 @@ advancing : (s : ScriptData) (past : List Entry) → IsTreeLawful s → is_lossy
 advancing s past laws loses run apt =
     let good = good_run s past laws loses run apt in
     let meant = each_waits (IsLetterMeant s) s past (letters_are_meant s past laws.valid run) in
-    let right = λ (l : Letter). IsRight s past l.from.0 l.to.0 l.body in
     record {
       within = good.within;
       asked = good.asked;
       heard = good.heard;
-      orders = each_map (λ (l : Letter). IsLetterMeant s l × right l) (λ (l : Letter). IsOrderGiven past l.body) (in_flight s past)
+      orders = each_map (λ (l : Letter). IsLetterMeant s l × IsLetterRight s past l)
+          (λ (l : Letter). IsOrderGiven past l.body) (in_flight s past)
           (λ l both. order_given s past l.from.0 l.to.0 l.body loses both.0 both.1)
-          (each_both (IsLetterMeant s) right (in_flight s past) meant good.letters);
+          (each_both (IsLetterMeant s) (IsLetterRight s past) (in_flight s past) meant good.letters);
       trees = each_map (λ (l : Letter). tree_version l.body ≤ greatest_given TurnStage past) (λ (l : Letter). IsTurnedTo s past l.body)
           (outstanding s past) (λ l le. turned_to s past l.body le) good.trees;
       ahead = λ p lt. each_map (IsLetterMeant s) (λ (l : Letter). l.to.0 ≡ p → IsAhead (node_in s past p).turns l.body) (in_flight s past)

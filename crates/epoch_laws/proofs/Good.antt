@@ -97,6 +97,13 @@ IsRight s past from to (Advanced v) = (q : ℕ) → q < s.nodes → v.0 ≤ (tur
 IsRight s past from to Go = Unit {0}
 IsRight s past from to _ = Unit {0}
 
+abbrev pub IsLetterRight : ScriptData → List Entry → Letter → Type 0
+IsLetterRight s past l = IsRight s past l.from.0 l.to.0 l.body
+
+-- all in flight are as they should be
+abbrev pub AreRight : ScriptData → List Entry → Type 0
+AreRight s past = Each (IsLetterRight s past) (in_flight s past)
+
 -- from where on a node's versions are in each phase, where so many advancements have ended
 abbrev pub least_read : RestartPhase → ℕ → ℕ
 least_read (Counting true) f = f + 1
@@ -180,7 +187,7 @@ pub record IsGood (s : ScriptData) (past : List Entry) : Type 0 where
   pub within : (p : ℕ) → p < s.nodes → IsWithin past (turns_in s past p)
   pub silent : (v : ℕ) → v < greatest_given SweepStage past → IsSilent s past v
   pub trees : Each (λ (l : Letter). tree_version l.body ≤ greatest_given TurnStage past) (outstanding s past)
-  pub letters : Each (λ (l : Letter). IsRight s past l.from.0 l.to.0 l.body) (in_flight s past)
+  pub letters : AreRight s past
   pub phased : IsInPhase s past (restarting_in s past).phase
   pub asked : greatest_given TurnStage past ≤ asked_for s past + 1
   pub heard : (p : ℕ) → p < s.nodes → (client_in s past).ended ≤ (turns_in s past p).low.0
@@ -214,4 +221,4 @@ pub took_right : (s : ScriptData) (past : List Entry) (e : Entry) (body : Body) 
     → e.took.body ≡ body → IsRight s past e.took.from.0 e.took.to.0 body
 took_right s past e body good m is =
     subst (IsRight s past e.took.from.0 e.took.to.0) is
-    (each_taken (λ (l : Letter). IsRight s past l.from.0 l.to.0 l.body) s past e m good.letters)
+    (each_taken (IsLetterRight s past) s past e m good.letters)

@@ -6,7 +6,6 @@ use Rattle.letter_types.specs.declared.bodies.Body.{Body}
 use Rattle.letter_types.specs.declared.bodies.Body.TheVariants.{Root, Sub as SubLetter, Done, Reply, Nudge, Advance, DoneRow, AskedRow, Advanced, Decide, Decided, Release, Wake, Lose, AdvanceNo, Wanted, Ask, Order, Numbers, Obeyed}
 use Rattle.letter_types.specs.declared.bodies.What.{What}
 use Rattle.letter_types.specs.declared.entries.Entry.{Entry}
-use Rattle.letter_types.specs.declared.entries.Letter.{Letter}
 use Rattle.letter_types.specs.declared.entries.LetterId.{LetterId}
 use Rattle.letter_types.specs.declared.entries.Outgoing.{Outgoing}
 use Rattle.tx_trees.specs.ScriptData.{ScriptData}
@@ -25,7 +24,7 @@ use Rattle.phase_laws.specs.Given.{greatest_given}
 use Rattle.phase_laws.specs.Phases.{Stage, TurnStage, ShowStage, SweepStage, stage_of}
 use Rattle.phase_laws.proofs.Working.{SentIn}
 use Rattle.epoch_laws.proofs.Aside.{Answered, Aside, Asks, Bare, IsBare, IsSentBy, Numbered, OfTree, sends_aside}
-use Rattle.epoch_laws.proofs.Good.{AreNumbers, AreWanted, IsAnswer, IsAsTold, IsCurrent, IsGood, IsLatest, IsOrder, IsRight, epoch_in, took_right, turns_in}
+use Rattle.epoch_laws.proofs.Good.{AreNumbers, AreRight, AreWanted, IsAnswer, IsAsTold, IsCurrent, IsGood, IsLatest, IsLetterRight, IsOrder, IsRight, epoch_in, took_right, turns_in}
 use Rattle.epoch_laws.proofs.Rising.{Fares, Rises}
 
 -- what such an entry leaves: the coordinator, what was given, and of each node what it has come to
@@ -208,14 +207,13 @@ sent_right s past e to body good left run (Answered n what v bd is) =
 
 -- so all are
 pub letters_right : (s : ScriptData) (past : List Entry) (e : Entry) → IsValid s → IsStepRun s (e ∷ past) → IsGood s past
-    → Remains s past e → Aside s past e
-    → Each (λ (l : Letter). IsRight s (e ∷ past) l.from.0 l.to.0 l.body) (in_flight s (e ∷ past))
+    → Remains s past e → Aside s past e → AreRight s (e ∷ past)
 letters_right s past e valid run good left aside =
     let meant : Each (IsLetterMeant s) (in_flight s past) = each_waits (IsLetterMeant s) s past (letters_are_meant s past valid run.1) in
-    let R : Letter → Type 0 = λ (l : Letter). IsRight s (e ∷ past) l.from.0 l.to.0 l.body in
+    let R = IsLetterRight s (e ∷ past) in
     each_step R s past e
     (each_map _ R (in_flight s past) (λ l both. right_stays s past e l.from.0 l.to.0 l.body left both.0 both.1)
-    (each_both (IsLetterMeant s) (λ (l : Letter). IsRight s past l.from.0 l.to.0 l.body) (in_flight s past) meant good.letters))
+    (each_both (IsLetterMeant s) (IsLetterRight s past) (in_flight s past) meant good.letters))
     (each_map (λ (o : Outgoing). IsSentBy s past e o.body)
     (λ (o : Outgoing). (i : LetterId) → R (record { id = i; from = record { 0 = e.actor.0 }; to = o.to; body = o.body })) e.sent
     (λ o sent i. sent_right s past e o.to.0 o.body good left run sent) (sends_aside s past e aside))

@@ -29,7 +29,7 @@ use Rattle.phase_laws.proofs.Progress.{TellsAnew}
 use Rattle.phase_laws.proofs.Waves.{flow_of, going}
 use Rattle.epoch_laws.proofs.AfterCoordinator.{OrderNothing, OrdersNothing, fits_still, given_still, good_now, letters_kept, orders_none, tokens_none}
 use Rattle.epoch_laws.proofs.AtCoordinator.{held_at}
-use Rattle.epoch_laws.proofs.Good.{AreTokens, IsCurrent, IsGood, IsHeard, IsHeardOf, IsInPhase, IsRight, IsSteady, IsUpTo, LevelOf, epoch_in, in_phase, order_to, token, took_right, turns_in}
+use Rattle.epoch_laws.proofs.Good.{AreTokens, IsCurrent, IsGood, IsHeard, IsHeardOf, IsInPhase, IsRight, IsSteady, IsUpTo, Knows, LevelOf, epoch_in, in_phase, order_to, token, took_right, turns_in}
 use Rattle.epoch_laws.proofs.RestartSteps.{IsLeft}
 use Rattle.epoch_laws.proofs.RightAfter.{IsGivenStill, latest_after, told_after}
 use Rattle.epoch_laws.proofs.ToldLists.{HasTold}
@@ -306,7 +306,7 @@ not_doing : (phase : RestartPhase) (reads : Bool) (what : What) → (phase ≡ C
 not_doing phase reads what (inl is) doing = cc (is, doing)
 not_doing phase reads what (inr is) doing = cc (is, doing)
 
-not_recovering : (phase : RestartPhase) (reads : Bool) → (phase ≡ Counting reads) ⊎ (phase ≡ Paused reads) → phase ≡ Recovering → ⊥
+not_recovering : (phase : RestartPhase) (reads : Bool) → (phase ≡ Counting reads) ⊎ (phase ≡ Paused reads) → Knows phase
 not_recovering phase reads (inl is) recovers = cc (is, recovers)
 not_recovering phase reads (inr is) recovers = cc (is, recovers)
 

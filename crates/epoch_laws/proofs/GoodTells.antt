@@ -18,7 +18,7 @@ use Rattle.world_model.specs.Keeping.{KeepingNode}
 use Rattle.world_model.specs.Restarting.{Restarting, target}
 use Rattle.world_model.specs.Runs.{restarting_in}
 use Rattle.world_model.specs.declared.restarting.RestartPhase.{RestartPhase}
-use Rattle.world_model.specs.declared.restarting.RestartPhase.TheVariants.{Recovering, Doing}
+use Rattle.world_model.specs.declared.restarting.RestartPhase.TheVariants.{Doing}
 use Rattle.world_model.proofs.Bags.{tally-append}
 use Rattle.world_model.proofs.Every.{each_append, each_map}
 use Rattle.world_model.proofs.Orders.{to_nodes_each}
@@ -29,7 +29,7 @@ use Rattle.phase_laws.proofs.Advancing.{greatest_least, sent_given}
 use Rattle.phase_laws.proofs.Waves.{flow_of, going, leaving}
 use Rattle.epoch_laws.proofs.AfterCoordinator.{IsFit, IsLast, IsNewlySilent, OrderNothing, OrdersNothing, fits_still, given_still, good_now, letters_told, tokens_none}
 use Rattle.epoch_laws.proofs.AtCoordinator.{held_at, order_sent, orders_tokens}
-use Rattle.epoch_laws.proofs.Good.{IsGood, IsInPhase, IsRight, IsSteady, IsUpTo, LevelOf, epoch_in, order_to, token, turns_in}
+use Rattle.epoch_laws.proofs.Good.{IsGood, IsInPhase, IsRight, IsSteady, IsUpTo, Knows, LevelOf, epoch_in, order_to, token, turns_in}
 use Rattle.epoch_laws.proofs.GoodSteps.{IsMove, steady_at, told_order}
 use Rattle.epoch_laws.proofs.RightAfter.{IsTelling}
 
@@ -38,7 +38,7 @@ use Rattle.epoch_laws.proofs.RightAfter.{IsTelling}
 pub record IsCalm (s : ScriptData) (past : List Entry) (e : Entry) (x : Restarting) : Type 0 where
   pub epoch : x.epoch ≡ (restarting_in s past).epoch
   pub heard : (q : ℕ) → q < s.nodes → (restarting_in s past).epoch ≤ epoch_in s past q
-  pub knows : x.phase ≡ Recovering → ⊥
+  pub knows : Knows x.phase
   pub last : IsLast s past e
 
 telling : (s : ScriptData) (past : List Entry) (e : Entry) (x : Restarting) → IsMove s past e x → IsCalm s past e x → IsTelling s past e

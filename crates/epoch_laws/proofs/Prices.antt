@@ -21,6 +21,7 @@ use Rattle.world_model.proofs.Bags.{tally-append}
 use Rattle.world_model.proofs.Lawful.{is_nudge}
 use Rattle.world_model.proofs.Sends.{on}
 use Rattle.phase_laws.proofs.Outcomes.{one_more_is}
+use Rattle.epoch_laws.proofs.Good.{Knows}
 use Rattle.epoch_laws.proofs.RestartSteps.{HearsMore, OfClient, OfNode, RestartStep, asked_kept, asks_with, done_kept}
 use Rattle.epoch_laws.proofs.RestartSteps.{Acks, Agrees, Ends, Flags, Forgets as StepForgets, Goes, KeepsAsked, KeepsDone, Pauses, Recounts, Recovers, Rests, Resumes as StepResumes, Wants}
 
@@ -91,7 +92,7 @@ pub data TellsMore (c : Restarting) (from : ℕ) (body : Body) (told : AllTold) 
 
 -- it pays for what it sends; it forgets; it waits for what it hasn't heard; or it resumes
 pub data StepCosts (n : ℕ) (c : Restarting) (from : ℕ) (body : Body) (out : Out Restarting) : Type 0 where
-  Spends : (c.phase ≡ Recovering → ⊥) → (out.state.phase ≡ Recovering → ⊥) → out.state.epoch ≡ c.epoch → Pays n c body out
+  Spends : Knows c.phase → Knows out.state.phase → out.state.epoch ≡ c.epoch → Pays n c body out
       → StepCosts n c from body out
   Forgets : body ≡ Lose → out ≡ forget c → StepCosts n c from body out
   Waits : c.phase ≡ Recovering → out.state.phase ≡ Recovering → out.state.epoch ≡ c.epoch → TellsMore c from body out.state.told
@@ -134,7 +135,7 @@ begun_at n c phase at = ap (λ (p : RestartPhase). begun n p) at
 
 -- a phase that begins with its orders, and in which nothing is owed
 pub record IsEntered (n : ℕ) (phase : RestartPhase) : Type 0 where
-  pub known : phase ≡ Recovering → ⊥
+  pub known : Knows phase
   pub unasked : (dones : NodeRows) → unasked n phase dones ≡ 0
   pub promised : (flag : Bool) → promised n phase flag ≡ 0
 
@@ -154,20 +155,20 @@ pub doing_entered : (n : ℕ) (what : What) → IsEntered n (Doing what)
 doing_entered n what = record { known = λ is. cc is; unasked = λ dones. refl; promised = λ flag. refl }
 
 -- Steps.
-pub recovers_or : (phase : RestartPhase) → (phase ≡ Recovering) ⊎ (phase ≡ Recovering → ⊥)
+pub recovers_or : (phase : RestartPhase) → (phase ≡ Recovering) ⊎ Knows phase
 recovers_or Recovering = inl refl
 recovers_or Idle = inr (λ is. cc is)
 recovers_or (Doing what) = inr (λ is. cc is)
 recovers_or (Counting reads) = inr (λ is. cc is)
 recovers_or (Paused reads) = inr (λ is. cc is)
 
-spends : (n : ℕ) (c : Restarting) (from : ℕ) (body : Body) (out next : Out Restarting) → out ≡ next → (c.phase ≡ Recovering → ⊥)
-    → (next.state.phase ≡ Recovering → ⊥) → next.state.epoch ≡ c.epoch → Pays n c body next → StepCosts n c from body out
+spends : (n : ℕ) (c : Restarting) (from : ℕ) (body : Body) (out next : Out Restarting) → out ≡ next → Knows c.phase
+    → Knows next.state.phase → next.state.epoch ≡ c.epoch → Pays n c body next → StepCosts n c from body out
 spends n c from body out next is was now epoch pays =
     subst (λ (o : Out Restarting). StepCosts n c from body o) (sym is) (Spends was now epoch pays)
 
 -- a step that leaves all but what is wanted
-stays_as : (n : ℕ) (c : Restarting) (from : ℕ) (body : Body) (w : ℕ) → (c.phase ≡ Recovering) ⊎ (c.phase ≡ Recovering → ⊥)
+stays_as : (n : ℕ) (c : Restarting) (from : ℕ) (body : Body) (w : ℕ) → (c.phase ≡ Recovering) ⊎ Knows c.phase
     → StepCosts n c from body (still (record c { wanted = w }))
 stays_as n c from body w (inl at) = Waits at at refl (Same refl) refl
 stays_as n c from body w (inr known) = Spends known known refl (omega arith)
@@ -177,7 +178,7 @@ stays n c from body w = stays_as n c from body w (recovers_or c.phase)
 
 -- a phase begins with its orders
 enters : (n : ℕ) (c d : Restarting) (from : ℕ) (body : Body) (out : Out Restarting) (phase : RestartPhase) → d.nodes ≡ n
-    → d.epoch ≡ c.epoch → d.ended ≡ c.ended → (c.phase ≡ Recovering → ⊥)
+    → d.epoch ≡ c.epoch → d.ended ≡ c.ended → Knows c.phase
     → ordered n phase + begun n c.phase ≤ begun n phase + owed n c → IsEntered n phase
     → out ≡ enter phase d → StepCosts n c from body out
 enters n c d from body out phase nodes epoch ended was few e is =
@@ -193,7 +194,7 @@ enters n c d from body out phase nodes epoch ended was few e is =
 
 -- a round begins
 counts : (n : ℕ) (reads : Bool) (c d : Restarting) (from : ℕ) (body : Body) (out : Out Restarting) → 1 ≤ n → d.nodes ≡ n
-    → d.epoch ≡ c.epoch → d.ended ≡ c.ended → (c.phase ≡ Recovering → ⊥)
+    → d.epoch ≡ c.epoch → d.ended ≡ c.ended → Knows c.phase
     → begun n c.phase + 4 * n ≤ begun n (Counting reads) + owed n c + 4 * n * is_nudge body
     → out ≡ begin_counting reads d → StepCosts n c from body out
 counts n reads c d from body out some nodes epoch ended was few is =
@@ -295,7 +296,7 @@ resumes_if n c d from body false heard at hears all = waits n c d from body at h
 
 -- each step, where numbers are small
 pub step_costs : (n : ℕ) (c : Restarting) (from : ℕ) (body : Body) (out : Out Restarting) → 1 ≤ n → c.nodes ≡ n
-    → ((c.phase ≡ Recovering → ⊥) → c.ended ≤ 200) → RestartStep c from body out → StepCosts n c from body out
+    → (Knows c.phase → c.ended ≤ 200) → RestartStep c from body out → StepCosts n c from body out
 step_costs n c from body out some nodes few (Rests left is) =
     subst (λ (o : Out Restarting). StepCosts n c from body o) (sym is) (stays n c from body c.wanted)
 step_costs n c from body out some nodes few (StepForgets bd is) = Forgets bd is

@@ -36,7 +36,7 @@ use Rattle.epoch_laws.proofs.Aside.{Aside, Counts, Heeds, IsEpochless, Submits, 
 use Rattle.epoch_laws.proofs.AtCoordinator.{left_of, nodes_sent}
 use Rattle.epoch_laws.proofs.Away.{restarting_kept}
 use Rattle.epoch_laws.proofs.Forgetting.{good_run}
-use Rattle.epoch_laws.proofs.Good.{IsGood, in_phase}
+use Rattle.epoch_laws.proofs.Good.{IsGood, Knows, in_phase}
 use Rattle.epoch_laws.proofs.RecoverSteps.{Forgot, HasMore, IsWanted, Stays, Waiting, has_all, waiting}
 use Rattle.epoch_laws.proofs.RestartSteps.{HearsMore, IsLeft, OfClient, OfNode, restart_step}
 
@@ -400,7 +400,7 @@ heard_some None some = absurd (omega (arith, some))
 heard_some (Some k) some = refl
 
 pub never_waits : (s : ScriptData) (past : List Entry) → IsTreeLawful s → is_lossy s ≡ true → IsStepRun s past → AllApt s past
-    → in_flight s past ≡ [] → (restarting_in s past).phase ≡ Recovering → ⊥
+    → in_flight s past ≡ [] → Knows (restarting_in s past).phase
 never_waits s past laws loses run apt empty waits =
     let c = restarting_in s past in
     let awaited = awaits_in s past laws loses run apt waits in

@@ -31,7 +31,7 @@ use Rattle.phase_laws.specs.Phases.{TurnStage, stage_of}
 use Rattle.phase_laws.proofs.Outcomes.{one_more_is}
 use Rattle.phase_laws.proofs.Waves.{going}
 use Rattle.epoch_laws.proofs.Floors.{AllAskAnew, AsksAnew, IsFrom, IsRestored}
-use Rattle.epoch_laws.proofs.Good.{IsCurrent, IsGood, IsRight, IsSteady, LevelOf, least_read, least_update, order_to, turns_in}
+use Rattle.epoch_laws.proofs.Good.{IsCurrent, IsGood, IsLetterRight, IsRight, IsSteady, LevelOf, least_read, least_update, order_to, turns_in}
 use Rattle.epoch_laws.proofs.Prices.{IsEntered, begun, doing_entered, next_entered, next_orders, ordered, price, to_nodes_price}
 
 -- in these phases each node reads the next version already
@@ -233,9 +233,8 @@ turn_given s past q good lt few at steady =
       by (inr less) =
           let none : going (order_to e q) s past ≡ 0 =
           each_none (λ (l : Letter). order_to e q l.from.0 l.to.0 l.body) (in_flight s past)
-          (each_map (λ (l : Letter). IsRight s past l.from.0 l.to.0 l.body)
-          (λ (l : Letter). order_to e q l.from.0 l.to.0 l.body ≡ 0)
-          (in_flight s past) (λ l right. order_none s past q l.from.0 l.to.0 l.body few at less right) good.letters) in
+          (each_map (IsLetterRight s past) (λ (l : Letter). order_to e q l.from.0 l.to.0 l.body ≡ 0) (in_flight s past)
+          (λ l right. order_none s past q l.from.0 l.to.0 l.body few at less right) good.letters) in
           omega (arith, none, (steady.level q lt).comes, (good.within q lt).update_turned)
 
 -- so no more is done than all that the client asks for

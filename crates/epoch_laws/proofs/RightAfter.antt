@@ -16,7 +16,7 @@ use Rattle.phase_laws.specs.Given.{greatest_given}
 use Rattle.phase_laws.specs.Phases.{Stage, TurnStage, ShowStage, SweepStage, stage_of}
 use Rattle.phase_laws.proofs.Advancing.{given_rises}
 use Rattle.epoch_laws.proofs.AtCoordinator.{held_at, node_stays}
-use Rattle.epoch_laws.proofs.Good.{IsAsTold, IsCurrent, IsLatest, IsRight, epoch_in, token, turns_in}
+use Rattle.epoch_laws.proofs.Good.{IsAsTold, IsCurrent, IsLatest, IsRight, Knows, epoch_in, token, turns_in}
 
 -- the same was given as before
 abbrev pub IsGivenStill : List Entry → Entry → Type 0
@@ -119,7 +119,7 @@ pub record IsTelling (s : ScriptData) (past : List Entry) (e : Entry) : Type 0 w
   pub at : e.actor.0 ≡ s.nodes
   pub epoch : (restarting_in s (e ∷ past)).epoch ≡ (restarting_in s past).epoch
   pub heard : (q : ℕ) → q < s.nodes → (restarting_in s past).epoch ≤ epoch_in s past q
-  pub knows : (restarting_in s (e ∷ past)).phase ≡ Recovering → ⊥
+  pub knows : Knows (restarting_in s (e ∷ past)).phase
 
 same_test : (a b : ℕ) → one_if (a == b) ≡ 0 → a ≡ b → ⊥
 same_test a b none is = grind (arith, nat_tests)

@@ -46,7 +46,7 @@ use Rattle.epoch_laws.proofs.AtCoordinator.{asked_stays}
 use Rattle.epoch_laws.proofs.Away.{restarting_kept}
 use Rattle.epoch_laws.proofs.Few.{IsFew, few}
 use Rattle.epoch_laws.proofs.Forgetting.{good_run}
-use Rattle.epoch_laws.proofs.Good.{IsGood, IsRight}
+use Rattle.epoch_laws.proofs.Good.{IsGood, IsLetterRight, IsRight, Knows}
 use Rattle.epoch_laws.proofs.Recovers.{still_covered}
 use Rattle.epoch_laws.proofs.RecoverSteps.{HasHeard, Misses, Recovery, recovery}
 use Rattle.epoch_laws.proofs.WantSteps.{Covers, WantsMore, asks_for, heard_covers, more_waits, one_most, some_most, wants_more}
@@ -232,8 +232,7 @@ will_hear_anew s past e a good few made =
     record {
       waits = refl;
       letters = letters_cover s past e (one_more c.epoch) a made
-          (each_map (λ (l : Letter). IsRight s past l.from.0 l.to.0 l.body) (λ (l : Letter). Covers (one_more c.epoch) a l.body)
-          (in_flight s past)
+          (each_map (IsLetterRight s past) (λ (l : Letter). Covers (one_more c.epoch) a l.body) (in_flight s past)
           (λ l right. new_covers s past (one_more c.epoch) a l.from.0 l.to.0 l.body (omega (arith, more)) right)
           good.letters);
       heard = λ k at. absurd (cc at);
@@ -340,7 +339,7 @@ wants_in s (e ∷ past) laws loses run apt = by (cases_eq e.actor.0 s.nodes) (wa
       aside_wants s past e laws loses run away (aside s past e laws.valid loses run away (course s past e laws apt run)) was
 
 -- So where no letter is in flight a coordinator that doesn't recover wants all.
-all_by : (s : ScriptData) (past : List Entry) (a : ℕ) (c : Restarting) → in_flight s past ≡ [] → (c.phase ≡ Recovering → ⊥)
+all_by : (s : ScriptData) (past : List Entry) (a : ℕ) (c : Restarting) → in_flight s past ≡ [] → Knows c.phase
     → WantsAll s past a c → a ≤ c.wanted
 all_by s past a c empty knows (inl some) =
     let none : count_in_flight (asks_for a) s past ≡ 0 =
@@ -349,6 +348,6 @@ all_by s past a c empty knows (inl some) =
 all_by s past a c empty knows (inr will) = absurd (knows will.waits)
 
 pub all_wanted : (s : ScriptData) (past : List Entry) → IsTreeLawful s → is_lossy s ≡ true → IsStepRun s past → AllApt s past
-    → in_flight s past ≡ [] → ((restarting_in s past).phase ≡ Recovering → ⊥) → asked_for s past ≤ (restarting_in s past).wanted
+    → in_flight s past ≡ [] → Knows (restarting_in s past).phase → asked_for s past ≤ (restarting_in s past).wanted
 all_wanted s past laws loses run apt empty knows =
     all_by s past (asked_for s past) (restarting_in s past) empty knows (wants_in s past laws loses run apt)
