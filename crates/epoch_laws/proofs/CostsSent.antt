@@ -29,11 +29,11 @@ use Rattle.epoch_laws.proofs.Away.{restarting_kept}
 use Rattle.epoch_laws.proofs.Few.{IsFew, few}
 use Rattle.epoch_laws.proofs.Floors.{AllAskAnew, IsFloor, IsFrom, IsRestored, floor_aside, floor_forgets, floor_waits, restored}
 use Rattle.epoch_laws.proofs.Forgetting.{good_run}
-use Rattle.epoch_laws.proofs.Good.{IsGood, Knows, epoch_in, order_to, steady_in, turns_in}
+use Rattle.epoch_laws.proofs.Good.{IsGood, Knows, ended_few, epoch_in, order_to, steady_in, turns_in}
 use Rattle.epoch_laws.proofs.GoodResumes.{HasHeard, heard_more}
 use Rattle.epoch_laws.proofs.Prices.{IsEntered, Pays, StepCosts, TellsMore, ordered, orders_price, owed, price, recovers_or, spent, step_costs, tells_more}
 use Rattle.epoch_laws.proofs.Prices.{Forgets, Resumes, Spends, Waits}
-use Rattle.epoch_laws.proofs.Refunds.{begun_most, by_entered, ended_most, forget_asks, forget_price, from_level, kept_most, kept_of, resume_pays, shown_in, spent_most}
+use Rattle.epoch_laws.proofs.Refunds.{begun_most, by_entered, forget_asks, forget_price, from_level, kept_most, kept_of, resume_pays, shown_in, spent_most}
 use Rattle.epoch_laws.proofs.RestartSteps.{restart_step}
 
 -- what the letters cost that the coordinator has sent so far
@@ -272,12 +272,8 @@ paid_coordinator s past e laws loses run apt good at was =
     let c = restarting_in s past in
     let made = restarts s past e loses run.0 at in
     let out = restarting_row c e.took.from.0 e.took.body in
-    let ended : Knows c.phase → c.ended ≤ 200 =
-    λ known. omega (
-      arith,
-      ended_most s past c.phase laws.valid good (steady_in s past c.phase good refl known),
-      laws.valid.limited.advances,
-    ) in
+    let ended : Knows c.phase → c.ended ≤ 100 =
+    λ known. ended_few s past c.phase laws.valid good (steady_in s past c.phase good refl known) in
     paid_by s past e out laws.valid good (few s past laws loses run.1 apt) run.0 at made.state made.sent
     (step_costs s.nodes c e.took.from.0 e.took.body out laws.valid.some_nodes (restarting_nodes s past) ended
     (restart_step c e.took.from.0 e.took.body)) was

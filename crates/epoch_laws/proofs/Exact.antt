@@ -145,7 +145,7 @@ exact_coordinator s past e laws run little less good now at made was =
     let step : RestartStep c e.took.from.0 e.took.body out = restart_step c e.took.from.0 e.took.body in
     let same : (q : ℕ) → q < s.nodes → turns_in s (e ∷ past) q ≡ turns_in s past q = λ q lt. turns_stay s past e q at lt in
     let after : IsNearIn s.nodes out.state (turns_in s (e ∷ past)) =
-    subst (λ (d : Restarting). IsNearIn s.nodes d (turns_in s (e ∷ past))) made.state (near_now s (e ∷ past) laws less now) in
+    subst (λ (d : Restarting). IsNearIn s.nodes d (turns_in s (e ∷ past))) made.state (near_now s (e ∷ past) laws.valid now) in
     record {
       letters =
           subst
@@ -166,7 +166,7 @@ exact_coordinator s past e laws run little less good now at made was =
             letter = λ waits.
                 each_taken (λ (l : Letter). IsStillTold c.epoch (turns_in s past) l.from.0 l.body) s past e run.0
                 (was.letters waits);
-            before = near_now s past laws little good;
+            before = near_now s past laws.valid good;
             after = λ knows. near_same s.nodes out.state.ended (turns_in s past) (turns_in s (e ∷ past)) same (after knows);
           }) step));
     }

@@ -14,6 +14,7 @@ use Rattle.letter_types.specs.declared.entries.LetterId.{LetterId}
 use Rattle.letter_types.specs.declared.entries.Outgoing.{Outgoing}
 use Rattle.node_versions.specs.declared.turns.Turns.{Turns}
 use Rattle.tx_trees.specs.ScriptData.{ScriptData}
+use Rattle.tx_trees.specs.Valid.{IsValid}
 use Rattle.world_model.specs.Core.{Core}
 use Rattle.world_model.specs.Counts.{Each}
 use Rattle.world_model.specs.Done.{raised_if}
@@ -33,9 +34,7 @@ use Rattle.phase_laws.proofs.Working.{SentIn}
 use Rattle.epoch_laws.proofs.Aside.{Answered, Aside, Asks, Bare, Counts, Heeds, IsBare, IsSentBy, Numbered, OfTree, Submits, Tells, Works, sends_aside}
 use Rattle.epoch_laws.proofs.Away.{restarting_kept}
 use Rattle.epoch_laws.proofs.ExactSteps.{AreExact, IsExactFor, IsNearIn, IsNoFurther, IsStill, IsStillTold}
-use Rattle.epoch_laws.proofs.Few.{IsFew, few}
-use Rattle.epoch_laws.proofs.Good.{IsCurrent, IsGood, IsLetterRight, IsOrder, IsRight, Knows, epoch_in, in_phase, steady_in, took_right, turns_in}
-use Rattle.epoch_laws.proofs.GoodOutcomes.{few_ended}
+use Rattle.epoch_laws.proofs.Good.{IsCurrent, IsGood, IsLetterRight, IsOrder, IsRight, Knows, ended_few, epoch_in, in_phase, steady_in, took_right, turns_in}
 
 pub record IsExact (s : ScriptData) (past : List Entry) : Type 0 where
   pub letters : (restarting_in s past).phase ≡ Recovering
@@ -43,13 +42,13 @@ pub record IsExact (s : ScriptData) (past : List Entry) : Type 0 where
   pub nodes : IsExactFor s.nodes (restarting_in s past) (turns_in s past)
 
 -- What is known of a good past.
-pub near_now : (s : ScriptData) (past : List Entry) → IsTreeLawful s → IsFew s past → IsGood s past
+pub near_now : (s : ScriptData) (past : List Entry) → IsValid s → IsGood s past
     → IsNearIn s.nodes (restarting_in s past) (turns_in s past)
-near_now s past laws few good = λ knows.
+near_now s past valid good = λ knows.
     let c = restarting_in s past in
     let steady = steady_in s past c.phase good refl knows in
     record {
-      small = few_ended s past c.phase laws.valid.some_nodes good few steady;
+      small = ended_few s past c.phase valid good steady;
       low = λ q lt. omega (arith, (good.within q lt).low_swept, steady.up_to.swept);
       read = λ q lt. omega (arith, (good.within q lt).read_showed, steady.up_to.showed);
     }

@@ -15,12 +15,11 @@ use Rattle.letter_types.specs.declared.entries.LetterId.{LetterId}
 use Rattle.letter_types.specs.declared.entries.Outgoing.{Outgoing}
 use Rattle.tx_trees.specs.ScriptData.{ScriptData}
 use Rattle.tx_trees.specs.Valid.{IsValid}
-use Rattle.tx_trees.proofs.Rebuilding.{asked_most}
 use Rattle.world_model.specs.Counts.{Each, one_if}
 use Rattle.world_model.specs.Keeping.{KeepingNode}
 use Rattle.world_model.specs.Node.{Node}
 use Rattle.world_model.specs.Restarting.{AllTold, Restarting, least_low, read_is}
-use Rattle.world_model.specs.Runs.{MayFollow, client_in, in_flight, keeping_in, node_in, restarting_in}
+use Rattle.world_model.specs.Runs.{MayFollow, in_flight, keeping_in, node_in, restarting_in}
 use Rattle.world_model.specs.declared.restarting.Told.{Told}
 use Rattle.world_model.proofs.Every.{each_map, each_step, each_taken}
 use Rattle.phase_laws.proofs.Outcomes.{one_more_is}
@@ -28,7 +27,7 @@ use Rattle.phase_laws.proofs.Waves.{set_get}
 use Rattle.phase_laws.proofs.Working.{SentIn}
 use Rattle.epoch_laws.proofs.Aside.{Answered, Aside, Asks, Bare, IsBare, IsSentBy, Numbered, OfTree, sends_aside}
 use Rattle.epoch_laws.proofs.AtCoordinator.{held_at}
-use Rattle.epoch_laws.proofs.Good.{IsGood, IsHeardOf, IsLetterRight, IsRight, turns_in}
+use Rattle.epoch_laws.proofs.Good.{IsGood, IsHeardOf, IsLetterRight, IsRight, low_few, turns_in}
 use Rattle.epoch_laws.proofs.Prices.{OneMore, Same, TellsMore}
 use Rattle.epoch_laws.proofs.Away.{restarting_kept}
 use Rattle.epoch_laws.proofs.GoodResumes.{HasHeard}
@@ -198,18 +197,7 @@ seen s past q t f shown valid good lt heard from =
     record {
       from = from;
       showed = omega (arith, heard.told.read, within.read_showed, heard.latest.showed);
-      small = omega (
-        arith,
-        heard.told.low,
-        within.low_swept,
-        within.swept_read,
-        within.read_showed,
-        within.showed_update,
-        within.update_turned,
-        good.asked,
-        asked_most (client_in s past).next s.rows,
-        valid.limited.advances,
-      );
+      small = omega (arith, heard.told.low, low_few s past q valid good lt);
     }
 
 -- a test that one of the told numbers passes

@@ -1,5 +1,5 @@
 -- What holds after each entry of a run of a coordinator that forgets.
-use Rattle.std.proofs.Common.{◌≡◌, ℕ, ◌+◌, ◌<◌, ◌≤◌, ◌==◌, ◌&&◌, true, List, [], ◌∷◌, length, Some, refl, subst}
+use Rattle.std.proofs.Common.{◌≡◌, ℕ, ◌+◌, ◌<◌, ◌≤◌, ◌==◌, ◌&&◌, true, List, [], ◌∷◌, length, Some, arith, refl, subst}
 use Rattle.std.specs.Prelude.{slice_get}
 use Rattle.tv_base.specs.declared.numbers.Version.{Version}
 use Rattle.letter_types.specs.declared.bodies.Body.{Body}
@@ -9,7 +9,10 @@ use Rattle.letter_types.specs.declared.bodies.What.TheVariants.{Turn as ToTurn, 
 use Rattle.letter_types.specs.declared.entries.Entry.{Entry}
 use Rattle.letter_types.specs.declared.entries.Letter.{Letter}
 use Rattle.node_versions.specs.declared.turns.Turns.{Turns}
+use Rattle.tx_trees.specs.Counts.{advances_in}
 use Rattle.tx_trees.specs.ScriptData.{ScriptData}
+use Rattle.tx_trees.specs.Valid.{IsValid}
+use Rattle.tx_trees.proofs.Rebuilding.{asked_most}
 use Rattle.world_model.specs.Counts.{Each, one_if}
 use Rattle.world_model.specs.Kept.{outstanding}
 use Rattle.world_model.specs.Restarting.{Restarting, target}
@@ -215,6 +218,45 @@ steady_in s past phase good at knows = by phase knows (in_phase s past phase goo
   by (Counting reads) known is = is
   by (Paused reads) known is = is
   by Recovering known is = absurd (known refl)
+
+-- How far nodes are: no further than what was given, nor than the advancements that the client asks for.
+pub low_turned : (past : List Entry) (turns : Turns) → IsWithin past turns → turns.low.0 + 1 ≤ greatest_given TurnStage past
+low_turned past turns w = omega (arith, w.low_swept, w.swept_read, w.read_showed, w.showed_update, w.update_turned)
+
+pub read_turned : (past : List Entry) (turns : Turns) → IsWithin past turns
+    → turns.read.0 + 1 ≤ greatest_given TurnStage past
+read_turned past turns w = omega (arith, w.read_showed, w.showed_update, w.update_turned)
+
+pub turned_most : (s : ScriptData) (past : List Entry) → IsGood s past
+    → greatest_given TurnStage past ≤ advances_in s.rows + 1
+turned_most s past good = omega (arith, good.asked, asked_most (client_in s past).next s.rows)
+
+pub low_few : (s : ScriptData) (past : List Entry) (q : ℕ) → IsValid s → IsGood s past → q < s.nodes
+    → (turns_in s past q).low.0 ≤ 100
+low_few s past q valid good lt =
+    omega (
+      arith,
+      low_turned past (turns_in s past q) (good.within q lt),
+      turned_most s past good,
+      valid.limited.advances,
+    )
+
+-- nor have more of them ended
+pub ended_most : (s : ScriptData) (past : List Entry) (phase : RestartPhase) → IsValid s → IsGood s past
+    → IsSteady s past phase → (restarting_in s past).ended ≤ advances_in s.rows
+ended_most s past phase valid good steady =
+    let some = valid.some_nodes in
+    omega (
+      arith,
+      (steady.level 0 some).low,
+      low_turned past (turns_in s past 0) (good.within 0 some),
+      turned_most s past good,
+    )
+
+pub ended_few : (s : ScriptData) (past : List Entry) (phase : RestartPhase) → IsValid s → IsGood s past
+    → IsSteady s past phase → (restarting_in s past).ended ≤ 100
+ended_few s past phase valid good steady =
+    omega (arith, ended_most s past phase valid good steady, valid.limited.advances)
 
 -- The letter that is taken is as it should be.
 pub took_right : (s : ScriptData) (past : List Entry) (e : Entry) (body : Body) → IsGood s past → MayFollow s past e

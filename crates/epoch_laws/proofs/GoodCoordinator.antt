@@ -26,8 +26,8 @@ use Rattle.phase_laws.proofs.Lawful.{IsTreeLawful}
 use Rattle.phase_laws.proofs.Progress.{MadeByRestarting, TellsAnew}
 use Rattle.phase_laws.proofs.Rounds.{silent_agreed}
 use Rattle.epoch_laws.proofs.Few.{IsFew, few, took_asked}
-use Rattle.epoch_laws.proofs.Good.{AllGood, IsGood, in_phase, token}
-use Rattle.epoch_laws.proofs.GoodOutcomes.{asks_begun, few_ended, last_answer, well_begins, well_ends, well_forgets, well_goes, well_shows, well_sweeps}
+use Rattle.epoch_laws.proofs.Good.{AllGood, IsGood, ended_few, in_phase, token}
+use Rattle.epoch_laws.proofs.GoodOutcomes.{asks_begun, last_answer, well_begins, well_ends, well_forgets, well_goes, well_shows, well_sweeps}
 use Rattle.epoch_laws.proofs.GoodResumes.{heard_more, well_recovers}
 use Rattle.epoch_laws.proofs.GoodSteps.{AllAsk, IsAsk, IsCountOf, IsMove, asks_nothing, good_acks, good_counts, good_rests, good_same}
 use Rattle.epoch_laws.proofs.GoodTells.{IsWell, well_by}
@@ -107,12 +107,11 @@ agreed_silent s past e reads v k row n h takes verdict is new =
     (takes_row (restarting_in s past) e.took.from.0 e.took.body reads v k row takes)
     (h.all, subst (λ (m : ℕ). IsNotGiven reads m past) (sym version) new) verdict)
 
-counted_few : (s : ScriptData) (past : List Entry) (e : Entry) (reads : Bool) → IsTold s past e → (restarting_in s past).phase ≡ Counting reads
-    → (restarting_in s past).ended ≤ 100
+counted_few : (s : ScriptData) (past : List Entry) (e : Entry) (reads : Bool) → IsTold s past e
+    → (restarting_in s past).phase ≡ Counting reads → (restarting_in s past).ended ≤ 100
 counted_few s past e reads h at =
     let good = good_before s past e h in
-    few_ended s past (Counting reads) h.laws.valid.some_nodes good (few_before s past e h)
-    (in_phase s past (Counting reads) good at)
+    ended_few s past (Counting reads) h.laws.valid good (in_phase s past (Counting reads) good at)
 
 agrees : (s : ScriptData) (past : List Entry) (e : Entry) (reads : Bool) (v : Version) (k : ℕ) (row : List ℕ) → IsTold s past e
     → TakesRequests (restarting_in s past) e.took.from.0 e.took.body reads v k row

@@ -14,14 +14,13 @@ use Rattle.letter_types.specs.declared.entries.Outgoing.{Outgoing}
 use Rattle.node_versions.specs.declared.turns.Turns.{Turns}
 use Rattle.tx_trees.specs.ScriptData.{ScriptData}
 use Rattle.tx_trees.specs.Valid.{IsValid}
-use Rattle.tx_trees.proofs.Rebuilding.{asked_most}
 use Rattle.world_model.specs.AllApt.{AllApt}
 use Rattle.world_model.specs.Core.{Core}
 use Rattle.world_model.specs.Counts.{Each}
 use Rattle.world_model.specs.Kept.{outstanding}
 use Rattle.script_parts.specs.Counts.{is_lossy}
 use Rattle.world_model.specs.Restarting.{Restarting, target}
-use Rattle.world_model.specs.Runs.{IsStepRun, MayFollow, client_in, keeping_in, node_in, restarting_in}
+use Rattle.world_model.specs.Runs.{IsStepRun, MayFollow, keeping_in, node_in, restarting_in}
 use Rattle.world_model.specs.declared.restarting.RestartPhase.{RestartPhase}
 use Rattle.world_model.specs.declared.restarting.RestartPhase.TheVariants.{Idle, Recovering, Doing, Counting, Paused}
 use Rattle.world_model.proofs.EachOutstanding.{each_outstanding}
@@ -40,7 +39,7 @@ use Rattle.phase_laws.proofs.Waves.{going}
 use Rattle.phase_laws.proofs.Working.{SentIn}
 use Rattle.epoch_laws.proofs.Aside.{Answered as AnsweredBy, Aside, Asks, Bare, IsBare, IsSentBy, Numbered, OfTree, aside, sends_aside}
 use Rattle.epoch_laws.proofs.Away.{given_kept, restarting_kept}
-use Rattle.epoch_laws.proofs.Good.{AreTokens, IsCurrent, IsGood, IsHeard, IsHeardOf, IsInPhase, IsSteady, IsUpTo, LevelOf, due, epoch_in, order_to, reached, token, turns_in}
+use Rattle.epoch_laws.proofs.Good.{AreTokens, IsCurrent, IsGood, IsHeard, IsHeardOf, IsInPhase, IsSteady, IsUpTo, LevelOf, due, ended_few, epoch_in, order_to, reached, read_turned, token, turns_in}
 use Rattle.epoch_laws.proofs.GoodClient.{asked_rises, heard_after}
 use Rattle.epoch_laws.proofs.GoodLetters.{Remains, latest_stays, letters_right, same_epoch, same_phase, told_stays}
 use Rattle.epoch_laws.proofs.Passing.{Answered, Passes, Stay, passes}
@@ -98,7 +97,7 @@ work_version s past e p r body good m work sent =
     each_of_brought (λ (l : Letter). tree_version l.body ≤ turned) s past e p r work.brings m good.trees in
     in_up_to turned s (node_in s past p) r.body body
     (done_up_to turned s (node_in s past p) r.body within.update_turned
-    (omega (arith, within.read_showed, within.showed_update, within.update_turned)) own) sent
+    (omega (arith, read_turned past (turns_in s past p) within)) own) sent
 
 sent_version : (s : ScriptData) (past : List Entry) (e : Entry) (body : Body) → IsGood s past → MayFollow s past e
     → IsSentBy s past e body → tree_version body ≤ greatest_given TurnStage past
@@ -144,7 +143,7 @@ level_stays phase f n c d orders more rises same was =
     level_up phase f n c d orders more rises was (omega (arith, was.comes, reached_rises phase c d rises, same))
 
 -- where it has obeyed the order of the phase
-target_due : (what : What) (f : ℕ) → f ≤ 200 → (target what f).0 ≡ due (Doing what) f
+target_due : (what : What) (f : ℕ) → f ≤ 100 → (target what f).0 ≡ due (Doing what) f
 target_due ToTurn f few = omega (arith, few)
 target_due ToShow f few = omega (arith, few)
 target_due ToSweep f few = omega (arith, few)
@@ -156,28 +155,10 @@ reached_by ToSweep t = refl
 
 comes_by : (c : Restarting) (phase : RestartPhase) (what : What) (v : Version) (t : Turns) (more : ℕ) → c.phase ≡ phase
     → IsCurrent c what v
-    → c.ended ≤ 200 → v.0 ≤ version_of what t → due phase c.ended ≤ reached phase t + more
+    → c.ended ≤ 100 → v.0 ≤ version_of what t → due phase c.ended ≤ reached phase t + more
 comes_by c phase what v t more at current few there =
     subst (λ (ph : RestartPhase). due ph c.ended ≤ reached ph t + more) (sym current.phase ∙ at)
     (omega (arith, target_due what c.ended few, reached_by what t, current.version, there))
-
--- so few advancements have ended
-ended_few : (s : ScriptData) (past : List Entry) (q : ℕ) (phase : RestartPhase) → IsValid s → IsGood s past → q < s.nodes
-    → IsSteady s past phase → (restarting_in s past).ended ≤ 200
-ended_few s past q phase valid good lt was =
-    let within : IsWithin past (turns_in s past q) = good.within q lt in
-    omega (
-      arith,
-      (was.level q lt).low,
-      within.low_swept,
-      within.swept_read,
-      within.read_showed,
-      within.showed_update,
-      within.update_turned,
-      good.asked,
-      asked_most (client_in s past).next s.rows,
-      valid.limited.advances,
-    )
 
 -- a phase in which the coordinator knows how many have ended, with that coordinator
 record SteadyBy (s : ScriptData) (past : List Entry) (phase : RestartPhase) (c : Restarting) : Type 0 where
@@ -216,7 +197,7 @@ level_after s past e q p phase what v valid good left at lt current there others
     let more = going (order_to c.epoch q) s (e ∷ past) in
     level_up phase c.ended c.epoch (keeping_in s past q).core (keeping_in s (e ∷ past) q).core (going (order_to c.epoch q) s past) more
     (left.fares q lt).rises (was.level q lt)
-    (comes_by c phase what v (turns_in s (e ∷ past) q) more at current (ended_few s past q phase valid good lt was)
+    (comes_by c phase what v (turns_in s (e ∷ past) q) more at current (ended_few s past phase valid good was)
     (subst (λ (n : ℕ). v.0 ≤ version_of what (turns_in s (e ∷ past) n)) (sym is) there))
 level_after s past e q p phase what v valid good left at lt current there others was (inr ne) =
     let c = restarting_in s past in

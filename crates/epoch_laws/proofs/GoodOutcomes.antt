@@ -18,7 +18,6 @@ use Rattle.world_model.specs.Coordinator.{to_nodes, version}
 use Rattle.world_model.specs.Counts.{Each, tally}
 use Rattle.world_model.specs.Restarting.{Restarting, begin_counting, enter, forget, in_restart_phase, next_epoch, orders, target, to_client, version_counted}
 use Rattle.world_model.specs.Runs.{in_flight, restarting_in}
-use Rattle.world_model.specs.declared.restarting.RestartPhase.{RestartPhase}
 use Rattle.world_model.specs.declared.restarting.RestartPhase.TheVariants.{Idle, Doing, Counting}
 use Rattle.world_model.proofs.Bags.{tally-drop}
 use Rattle.world_model.proofs.Every.{each_append}
@@ -33,20 +32,10 @@ use Rattle.phase_laws.proofs.Waves.{going}
 use Rattle.epoch_laws.proofs.AfterCoordinator.{IsLast, OrderNothing, OrdersNothing, fits_still, given_still, good_now, letters_forgotten}
 use Rattle.epoch_laws.proofs.AtCoordinator.{calm_none, left_of, none_left, order_most}
 use Rattle.epoch_laws.proofs.Few.{IsFew}
-use Rattle.epoch_laws.proofs.Good.{IsCurrent, IsGood, IsHeard, IsInPhase, IsRight, IsSteady, IsUpTo, LevelOf, epoch_in, in_phase, order_to, token, turns_in}
+use Rattle.epoch_laws.proofs.Good.{IsCurrent, IsHeard, IsInPhase, IsRight, IsUpTo, LevelOf, ended_few, epoch_in, in_phase, order_to, token, turns_in}
 use Rattle.epoch_laws.proofs.GoodSteps.{AllAsk, IsAsk, IsMove, answer_token, asks_nothing, asks_right, steady_at, told_order, up_still}
 use Rattle.epoch_laws.proofs.GoodTells.{AllEnd, IsBegun, IsWell, ends_nothing, ends_right, good_calm, good_tells, well_by}
 use Rattle.epoch_laws.proofs.ToldLists.{HasTold, none_told}
-
--- How many advancements may have ended.
-pub few_low : (s : ScriptData) (past : List Entry) (q : ℕ) → IsGood s past → IsFew s past → q < s.nodes → (turns_in s past q).low.0 ≤ 100
-few_low s past q good few lt =
-    let w = good.within q lt in
-    omega (arith, w.low_swept, w.swept_read, w.read_showed, w.showed_update, w.update_turned, good.asked, few.asked)
-
-pub few_ended : (s : ScriptData) (past : List Entry) (phase : RestartPhase) → 1 ≤ s.nodes → IsGood s past → IsFew s past → IsSteady s past phase
-    → (restarting_in s past).ended ≤ 100
-few_ended s past phase some good few was = omega (arith, (was.level 0 (omega (arith, some))).low, few_low s past 0 good few (omega (arith, some)))
 
 -- 1. It forgets: it gives nothing, and each node and the client are asked.
 nothing_heard : (s : ScriptData) (past : List Entry) (e : Entry) → IsMove s past e (next_epoch (restarting_in s past)) → IsHeard s (e ∷ past)
@@ -245,7 +234,7 @@ ends_turn s past e m last is at lt few =
     let f = one_more c.ended in
     let x = in_restart_phase (Doing ToTurn) (record c { ended = f }) in
     let was = in_phase s past (Doing ToSweep) m.good at in
-    let next : f ≡ c.ended + 1 = omega (arith, few_ended s past (Doing ToSweep) m.laws.valid.some_nodes m.good few was) in
+    let next : f ≡ c.ended + 1 = omega (arith, ended_few s past (Doing ToSweep) m.laws.valid m.good was) in
     let level = λ (q k : ℕ) (lq : q < s.nodes) (some : 1 ≤ k).
     swept_level c.ended f c.epoch (epoch_in s past q) (turns_in s past q) k next some (obeyed_level s past e x ToSweep q m last at lq) in
     good_tells s past e x ToTurn f c.wanted m last (record { phase = refl; epoch = refl; ended = refl; wanted = refl; acks = refl }) (record {
@@ -267,13 +256,13 @@ ends_idle : (s : ScriptData) (past : List Entry) (e : Entry)
     → IsMove s past e (in_restart_phase Idle (record (restarting_in s past) { ended = one_more (restarting_in s past).ended }))
     → IsLast s past e
     → e.sent ≡ to_client (Advanced (version (one_more (restarting_in s past).ended))) (restarting_in s past) ∷ []
-    → (restarting_in s past).phase ≡ Doing ToSweep → IsFew s past → IsWell s past e
-ends_idle s past e m last is at few =
+    → (restarting_in s past).phase ≡ Doing ToSweep → IsWell s past e
+ends_idle s past e m last is at =
     let c = restarting_in s past in
     let f = one_more c.ended in
     let x = in_restart_phase Idle (record c { ended = f }) in
     let was = in_phase s past (Doing ToSweep) m.good at in
-    let next : f ≡ c.ended + 1 = omega (arith, few_ended s past (Doing ToSweep) m.laws.valid.some_nodes m.good few was) in
+    let next : f ≡ c.ended + 1 = omega (arith, ended_few s past (Doing ToSweep) m.laws.valid m.good was) in
     let level = λ (q k : ℕ) (lq : q < s.nodes).
     idle_level c.ended f c.epoch (epoch_in s past q) (turns_in s past q) k next (obeyed_level s past e x ToSweep q m last at lq) in
     let ends : AllEnd f e.sent = subst (AllEnd f) (sym is) (refl, tt) in
@@ -294,7 +283,7 @@ pub well_ends : (s : ScriptData) (past : List Entry) (e : Entry) (test : Bool)
     → (restarting_in s past).phase ≡ Doing ToSweep → IsFew s past → IsWell s past e
 well_ends s past e true test m last is at few =
     let lt : one_more (restarting_in s past).ended < (restarting_in s past).wanted = grind (arith, nat_tests) in ends_turn s past e m last is at lt few
-well_ends s past e false test m last is at few = ends_idle s past e m last is at few
+well_ends s past e false test m last is at few = ends_idle s past e m last is at
 
 -- 5. A count agrees: the version is shown, or swept to.
 counting_calm : (s : ScriptData) (past : List Entry) (reads : Bool) → (restarting_in s past).phase ≡ Counting reads → (what : What) (v : Version)
@@ -332,7 +321,7 @@ pub well_shows : (s : ScriptData) (past : List Entry) (e : Entry) (x : Restartin
 well_shows s past e x m begun is at few silent =
     let c = restarting_in s past in
     let was = in_phase s past (Counting false) m.good at in
-    let most = few_ended s past (Counting false) m.laws.valid.some_nodes m.good few was in
+    let most = ended_few s past (Counting false) m.laws.valid m.good was in
     let next : (target ToShow c.ended).0 ≡ c.ended + 1 = omega (arith, most) in
     good_tells s past e x ToShow c.ended c.wanted m (took_none s past e x m (counting_calm s past false at)) begun (record {
       before = [];
@@ -360,7 +349,7 @@ pub well_sweeps : (s : ScriptData) (past : List Entry) (e : Entry) (x : Restarti
 well_sweeps s past e x m begun is at few silent =
     let c = restarting_in s past in
     let was = in_phase s past (Counting true) m.good at in
-    let most = few_ended s past (Counting true) m.laws.valid.some_nodes m.good few was in
+    let most = ended_few s past (Counting true) m.laws.valid m.good was in
     let next : (target ToSweep c.ended).0 ≡ c.ended + 1 = omega (arith, most) in
     let some = was.level 0 m.laws.valid.some_nodes in
     let from : c.ended ≤ greatest_given SweepStage past = omega (arith, some.low, (m.good.within 0 m.laws.valid.some_nodes).low_swept) in

@@ -12,6 +12,7 @@ use Rattle.letter_types.specs.declared.bodies.What.{What}
 use Rattle.letter_types.specs.declared.bodies.What.TheVariants.{Turn as ToTurn, Show as ToShow, Sweep as ToSweep}
 use Rattle.letter_types.specs.declared.entries.Entry.{Entry}
 use Rattle.tx_trees.specs.ScriptData.{ScriptData}
+use Rattle.tx_trees.specs.Valid.{IsValid}
 use Rattle.world_model.specs.Coordinator.{to_nodes, version}
 use Rattle.world_model.specs.Restarting.{AllTold, Restarting, in_restart_phase, least_low, low_differs, orders, read_is, recover, resume_if, target, to_client, update_is, with_advances}
 use Rattle.world_model.specs.Runs.{MayFollow, restarting_in}
@@ -25,8 +26,8 @@ use Rattle.phase_laws.specs.Phases.{TurnStage, ShowStage, SweepStage}
 use Rattle.phase_laws.proofs.Waves.{going, set_get}
 use Rattle.epoch_laws.proofs.AfterCoordinator.{given_still}
 use Rattle.epoch_laws.proofs.Few.{IsFew, took_asked}
-use Rattle.epoch_laws.proofs.Good.{AreNumbers, AreWanted, IsGood, IsHeardOf, IsInPhase, IsUpTo, LevelOf, epoch_in, in_phase, order_to, took_right, turns_in}
-use Rattle.epoch_laws.proofs.GoodOutcomes.{few_low, took_none}
+use Rattle.epoch_laws.proofs.Good.{AreNumbers, AreWanted, IsGood, IsHeardOf, IsInPhase, IsUpTo, LevelOf, epoch_in, in_phase, low_few, order_to, took_right, turns_in}
+use Rattle.epoch_laws.proofs.GoodOutcomes.{took_none}
 use Rattle.epoch_laws.proofs.GoodSteps.{AllAsk, IsMove, asks_nothing, good_stays, heard_at, steady_at, up_still}
 use Rattle.epoch_laws.proofs.GoodTells.{AllEnd, IsWell, MayBeTold, ends_nothing, ends_right, good_calm, good_tells, well_by}
 use Rattle.epoch_laws.proofs.RestartSteps.{HearsMore, OfClient, OfNode}
@@ -106,13 +107,13 @@ pub record IsFound (s : ScriptData) (past : List Entry) (d : Restarting) (f w : 
   pub up_to : IsUpTo past f w
   pub wanted : w ≤ asked_for s past
 
-found : (s : ScriptData) (past : List Entry) (d : Restarting) (k : ℕ) → 1 ≤ s.nodes → IsGood s past → IsFew s past → HasHeard s past d
+found : (s : ScriptData) (past : List Entry) (d : Restarting) (k : ℕ) → IsValid s → IsGood s past → HasHeard s past d
     → list_all is_some d.told ≡ true → d.heard ≡ Some k → IsFound s past d (least_low d.told) (max d.wanted k)
-found s past d k some good few heard all has =
+found s past d k valid good heard all has =
     let small : AreSmall d.told = λ q t told.
     let lt : q < s.nodes = omega (arith, slice_get_within d.told q (Some t) told, heard.places) in
-    omega (arith, (heard.nodes q t lt told).told.low, few_low s past q good few lt) in
-    let least = least_told d.told all (omega (arith, some, heard.places)) small in
+    omega (arith, (heard.nodes q t lt told).told.low, low_few s past q valid good lt) in
+    let least = least_told d.told all (omega (arith, valid.some_nodes, heard.places)) small in
     let there : least.node < s.nodes = omega (arith, least.below, heard.places) in
     let latest = (heard.nodes least.node least.told there least.has).latest in
     let client = heard.client k has in
@@ -295,7 +296,7 @@ well_recovers_by : (s : ScriptData) (past : List Entry) (e : Entry) (d : Restart
     → e.sent ≡ (resume_if all k d).sent → IsWell s past e
 well_recovers_by s past e d true (Some k) all has m heard few at is =
     resumes s past e d (max d.wanted k) _ _ _ _ refl refl refl refl m heard
-    (found s past d k m.laws.valid.some_nodes m.good few heard all has) at is
+    (found s past d k m.laws.valid m.good heard all has) at is
 well_recovers_by s past e d true None all has m heard few at is = still_recovers s past e d m heard at is
 well_recovers_by s past e d false k all has m heard few at is = still_recovers s past e d m heard at is
 

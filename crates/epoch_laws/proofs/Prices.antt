@@ -296,7 +296,7 @@ resumes_if n c d from body false heard at hears all = waits n c d from body at h
 
 -- each step, where numbers are small
 pub step_costs : (n : ℕ) (c : Restarting) (from : ℕ) (body : Body) (out : Out Restarting) → 1 ≤ n → c.nodes ≡ n
-    → (Knows c.phase → c.ended ≤ 200) → RestartStep c from body out → StepCosts n c from body out
+    → (Knows c.phase → c.ended ≤ 100) → RestartStep c from body out → StepCosts n c from body out
 step_costs n c from body out some nodes few (Rests left is) =
     subst (λ (o : Out Restarting). StepCosts n c from body o) (sym is) (stays n c from body c.wanted)
 step_costs n c from body out some nodes few (StepForgets bd is) = Forgets bd is

@@ -15,11 +15,10 @@ use Rattle.node_versions.specs.declared.turns.Turns.{Turns}
 use Rattle.tx_trees.specs.Counts.{advances_in}
 use Rattle.tx_trees.specs.ScriptData.{ScriptData}
 use Rattle.tx_trees.specs.Valid.{IsValid}
-use Rattle.tx_trees.proofs.Rebuilding.{asked_most}
 use Rattle.world_model.specs.Coordinator.{to_nodes}
 use Rattle.world_model.specs.Counts.{one_if, tally}
 use Rattle.world_model.specs.Restarting.{AllTold, Restarting, forget, least_low, low_differs, next_advance, phase_by, read_is, target, to_client, update_is}
-use Rattle.world_model.specs.Runs.{client_in, in_flight, restarting_in}
+use Rattle.world_model.specs.Runs.{in_flight, restarting_in}
 use Rattle.world_model.specs.declared.restarting.RestartPhase.{RestartPhase}
 use Rattle.world_model.specs.declared.restarting.RestartPhase.TheVariants.{Idle, Recovering, Doing, Counting, Paused}
 use Rattle.world_model.proofs.Bags.{tally-append}
@@ -28,10 +27,9 @@ use Rattle.world_model.proofs.Orders.{of, to_nodes_each}
 use Rattle.world_model.proofs.Sends.{on}
 use Rattle.phase_laws.specs.Given.{greatest_given}
 use Rattle.phase_laws.specs.Phases.{TurnStage, stage_of}
-use Rattle.phase_laws.proofs.Outcomes.{one_more_is}
 use Rattle.phase_laws.proofs.Waves.{going}
 use Rattle.epoch_laws.proofs.Floors.{AllAskAnew, AsksAnew, IsFrom, IsRestored}
-use Rattle.epoch_laws.proofs.Good.{IsCurrent, IsGood, IsLetterRight, IsRight, IsSteady, LevelOf, least_read, least_update, order_to, turns_in}
+use Rattle.epoch_laws.proofs.Good.{IsCurrent, IsGood, IsLetterRight, IsRight, IsSteady, LevelOf, ended_few, ended_most, least_read, least_update, low_turned, order_to, read_turned, turned_most, turns_in}
 use Rattle.epoch_laws.proofs.Prices.{IsEntered, begun, doing_entered, next_entered, next_orders, ordered, price, to_nodes_price}
 
 -- in these phases each node reads the next version already
@@ -162,37 +160,9 @@ resume_pays n ts wanted f shown rest = by shown refl (same_or_more f (least_low 
   by true is (inr more) = omega (arith, mul-le-mul_right (14 * n + 1) more, by_orders n ts wanted g)
 
 -- How much it has done.
--- some node's versions
-pub low_most : (s : ScriptData) (past : List Entry) (q : ℕ) → IsGood s past → q < s.nodes
-    → (turns_in s past q).low.0 + 1 ≤ greatest_given TurnStage past
-low_most s past q good lt =
-    let within = good.within q lt in
-    omega (arith, within.low_swept, within.swept_read, within.read_showed, within.showed_update, within.update_turned)
-
-read_most : (s : ScriptData) (past : List Entry) (q : ℕ) → IsGood s past → q < s.nodes
-    → (turns_in s past q).read.0 + 1 ≤ greatest_given TurnStage past
-read_most s past q good lt =
-    let within = good.within q lt in
-    omega (arith, within.read_showed, within.showed_update, within.update_turned)
-
-pub turned_most : (s : ScriptData) (past : List Entry) → IsGood s past → greatest_given TurnStage past ≤ advances_in s.rows + 1
-turned_most s past good = omega (arith, good.asked, asked_most (client_in s past).next s.rows)
-
-pub ended_most : (s : ScriptData) (past : List Entry) (phase : RestartPhase) → IsValid s → IsGood s past → IsSteady s past phase
-    → (restarting_in s past).ended ≤ advances_in s.rows
-ended_most s past phase valid good steady =
-    let some : 0 < s.nodes = omega (arith, valid.some_nodes) in
-    omega (arith, (steady.level 0 some).low, low_most s past 0 good some, turned_most s past good)
-
 -- While nodes turn, they were told so.
-target_turn : (f : ℕ) → f ≤ 200 → (target ToTurn f).0 ≡ f + 2
-target_turn f few =
-    let one : one_more f ≡ f + 1 = one_more_is f (omega (arith, few)) in
-    let two : one_more (one_more f) ≡ one_more f + 1 = one_more_is (one_more f) (omega (arith, few, one)) in
-    omega (arith, one, two)
-
 -- an order of the present epoch says so
-current_turn : (s : ScriptData) (past : List Entry) (what : What) (v : Version) → (restarting_in s past).ended ≤ 200
+current_turn : (s : ScriptData) (past : List Entry) (what : What) (v : Version) → (restarting_in s past).ended ≤ 100
     → (restarting_in s past).phase ≡ Doing ToTurn → IsCurrent (restarting_in s past) what v
     → v.0 ≤ greatest_given (stage_of what) past
     → (restarting_in s past).ended + 2 ≤ greatest_given TurnStage past
@@ -201,12 +171,12 @@ current_turn s past what v few at current given =
     let is : what ≡ ToTurn = cc (sym current.phase ∙ at) in
     let told : v.0 ≤ greatest_given TurnStage past = subst (λ (w : What). v.0 ≤ greatest_given (stage_of w) past) is given in
     let version : v.0 ≡ (target ToTurn c.ended).0 = current.version ∙ ap (λ (w : What). (target w c.ended).0) is in
-    omega (arith, told, version, target_turn c.ended few)
+    omega (arith, told, version, few)
 
 apart : (a b : ℕ) (test : Bool) → (a ≡ b → ⊥) → one_if ((a == b) && test) ≡ 0
 apart a b test ne = let no : (a == b) ≡ false = grind (arith, nat_tests) in rw no refl
 
-order_none : (s : ScriptData) (past : List Entry) (q from to : ℕ) (body : Body) → (restarting_in s past).ended ≤ 200
+order_none : (s : ScriptData) (past : List Entry) (q from to : ℕ) (body : Body) → (restarting_in s past).ended ≤ 100
     → (restarting_in s past).phase ≡ Doing ToTurn → greatest_given TurnStage past < (restarting_in s past).ended + 2
     → IsRight s past from to body → order_to (restarting_in s past).epoch q from to body ≡ 0
 order_none s past q from to (Order e what v) few at less right =
@@ -218,7 +188,7 @@ order_none s past q from to _ few at less right = refl
 less_or : (a b : ℕ) → (b ≤ a) ⊎ (a < b)
 less_or a b = grind arith
 
-turn_given : (s : ScriptData) (past : List Entry) (q : ℕ) → IsGood s past → q < s.nodes → (restarting_in s past).ended ≤ 200
+turn_given : (s : ScriptData) (past : List Entry) (q : ℕ) → IsGood s past → q < s.nodes → (restarting_in s past).ended ≤ 100
     → (restarting_in s past).phase ≡ Doing ToTurn → IsSteady s past (Doing ToTurn)
     → (restarting_in s past).ended + 2 ≤ greatest_given TurnStage past
 turn_given s past q good lt few at steady =
@@ -257,10 +227,9 @@ spent_most s past Idle valid good at steady =
     omega (arith, mul-le-mul_right (14 * s.nodes + 1) (ended_most s past Idle valid good steady))
 spent_most s past (Doing ToTurn) valid good at steady =
     let some : 0 < s.nodes = omega (arith, valid.some_nodes) in
-    let few = ended_most s past (Doing ToTurn) valid good steady in
     all_done s.nodes (advances_in s.rows) (restarting_in s past).ended (Doing ToTurn) (omega (
       arith,
-      turn_given s past 0 good some (omega (arith, few, valid.limited.advances)) at steady,
+      turn_given s past 0 good some (ended_few s past (Doing ToTurn) valid good steady) at steady,
       turned_most s past good,
     ))
 spent_most s past (Doing ToShow) valid good at steady = updates_all s past (Doing ToShow) valid good steady refl
@@ -280,9 +249,9 @@ kept_most s past f shown valid good from = by shown refl where
 
   by : (b : Bool) → shown ≡ b → f * (14 * s.nodes + 1) + kept_of s.nodes b ≤ advances_in s.rows * (14 * s.nodes + 1)
   by false is =
-      let few : f ≤ advances_in s.rows = omega (arith, from.low, low_most s past 0 good some, turned_most s past good) in
+      let few : f ≤ advances_in s.rows = omega (arith, from.low, low_turned past (turns_in s past 0) (good.within 0 some), turned_most s past good) in
       omega (arith, mul-le-mul_right (14 * s.nodes + 1) few)
   by true is =
       let less : f + 1 ≤ advances_in s.rows =
-      omega (arith, from.read, ap one_if is, read_most s past 0 good some, turned_most s past good) in
+      omega (arith, from.read, ap one_if is, read_turned past (turns_in s past 0) (good.within 0 some), turned_most s past good) in
       omega (arith, mul-le-mul_right (14 * s.nodes + 1) less)

@@ -36,8 +36,7 @@ use Rattle.phase_laws.proofs.Outcomes.{one_more_is}
 use Rattle.phase_laws.proofs.Progress.{restarts}
 use Rattle.phase_laws.proofs.Sending.{AllPlain, IsPlain}
 use Rattle.epoch_laws.proofs.Few.{IsFew, few}
-use Rattle.epoch_laws.proofs.Good.{AllGood, IsGood, IsSteady, in_phase}
-use Rattle.epoch_laws.proofs.GoodOutcomes.{few_ended}
+use Rattle.epoch_laws.proofs.Good.{AllGood, IsGood, IsSteady, ended_few, in_phase}
 use Rattle.epoch_laws.proofs.RestartSteps.{HearsMore, IsLeft, OfClient, OfNode, RestartStep, asked_kept, asks_with, done_kept, restart_step}
 use Rattle.epoch_laws.proofs.RestartSteps.{Acks, Agrees, Ends, Flags, Forgets, Goes, KeepsAsked, KeepsDone, Pauses, Recounts, Recovers, Rests, Resumes, Wants}
 use Rattle.epoch_laws.proofs.RestartSteps.{TakesRequests as TakesAsked}
@@ -403,7 +402,7 @@ open_in : (s : ScriptData) (past : List Entry) (reads : Bool) → IsTreeLawful s
 open_in s past reads laws loses run apt at new =
     let good = good_now s past new.0 in
     let steady = in_phase s past (Counting reads) good at in
-    let small = few_ended s past (Counting reads) laws.valid.some_nodes good (few s past laws loses run apt) steady in
+    let small = ended_few s past (Counting reads) laws.valid good steady in
     let is : (restarting_in s past).count.current.version.0 ≡ (version_counted reads (restarting_in s past)).0 =
     ap (λ (v : Version). v.0) (versioned s past reads at) in
     subst (Open s past) (sym is) (open_by s past reads good steady small (subst (λ (v : ℕ). IsNotGiven reads v past) is new.1))

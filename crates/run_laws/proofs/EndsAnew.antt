@@ -27,9 +27,8 @@ use Rattle.epoch_laws.proofs.Ending.{all_heard}
 use Rattle.epoch_laws.proofs.Exact.{exact_in}
 use Rattle.epoch_laws.proofs.ExactAside.{current_now, near_now}
 use Rattle.epoch_laws.proofs.ExactSteps.{AreExact}
-use Rattle.epoch_laws.proofs.Few.{few}
 use Rattle.epoch_laws.proofs.Forgetting.{good_run}
-use Rattle.epoch_laws.proofs.Good.{IsGood, in_phase, token, turns_in}
+use Rattle.epoch_laws.proofs.Good.{IsGood, in_phase, low_turned, read_turned, token, turns_in}
 use Rattle.epoch_laws.proofs.Orderly.{orderly_in}
 use Rattle.epoch_laws.proofs.Recovers.{never_waits}
 use Rattle.epoch_laws.proofs.RestartCounts.{IsNewCount, counting_is, pace_of, restart_count, restarting_counts, versioned}
@@ -67,7 +66,7 @@ low_most s past reads p valid loses run apt at lt =
     let exact : AreExact s.nodes (Counting reads) c.ended c.told (turns_in s past) =
     subst (λ (phase : RestartPhase). AreExact s.nodes phase c.ended c.told (turns_in s past)) at
     (exact_in s past laws loses run apt).nodes in
-    let near = near_now s past laws (few s past laws loses run apt) (good_run s past laws loses run apt)
+    let near = near_now s past valid (good_run s past laws loses run apt)
     (λ waits. (let clash : Counting reads ≡ Recovering = sym at ∙ waits in cc clash)) in
     let version : c.count.current.version.0 ≡ (version_counted reads c).0 =
     ap (λ (v : Version). v.0) (versioned s past reads at) in
@@ -135,8 +134,7 @@ above_anew s past valid loses run empty p lt =
       level.update,
       steady.up_to.asked,
       (orderly_in s past valid.some_nodes).idle idle,
-      within.read_showed,
-      within.showed_update,
+      read_turned past (node_in s past p).turns within,
       within.update_turned,
     )
 
@@ -150,17 +148,12 @@ ended_anew s past valid loses run empty =
     let knows : (restarting_in s past).phase ≡ Recovering → ⊥ =
     λ waits. (let clash : Idle ≡ Recovering = sym idle ∙ waits in cc clash) in
     let some : 0 < s.nodes = omega (arith, valid.some_nodes) in
-    let within = good.within 0 some in
     omega (
       arith,
       all_wanted s past laws loses run apt empty knows,
       (orderly_in s past valid.some_nodes).idle idle,
       all_heard s past laws loses run apt empty knows,
       good.heard 0 some,
-      within.low_swept,
-      within.swept_read,
-      within.read_showed,
-      within.showed_update,
-      within.update_turned,
+      low_turned past (node_in s past 0).turns (good.within 0 some),
       good.asked,
     )
