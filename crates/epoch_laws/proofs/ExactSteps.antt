@@ -1,7 +1,7 @@
 -- What each step of a coordinator that forgets makes of exact versions: it keeps what it was told just as it is, and goes on in
 -- the phase in which nodes are.
 use Rattle.std.proofs.Common.{◌≡◌, ◌≢◌, ◌⊎◌, inl, inr, ℕ, zero, suc, ◌+◌, ◌<◌, ◌≤◌, ◌==◌, ◌||◌, Bool, true, false, [], ◌∷◌, length, refl, sym, subst, ◌∙◌, arith, Option, Some}
-use Rattle.std.specs.Prelude.{if◌then◌else◌, max, nat_lt, not, slice_set}
+use Rattle.std.specs.Prelude.{max, not, slice_set}
 use Rattle.std.specs.List.{list_any}
 use Rattle.std.proofs.lemmas.Bool.Decides.{nat_tests}
 use Rattle.std.proofs.lemmas.List.{length-set}
@@ -14,7 +14,7 @@ use Rattle.letter_types.specs.declared.bodies.What.{What}
 use Rattle.letter_types.specs.declared.bodies.What.TheVariants.{Turn as ToTurn, Show as ToShow, Sweep as ToSweep}
 use Rattle.letter_types.specs.Steps.{Out, still}
 use Rattle.node_versions.specs.declared.turns.Turns.{Turns}
-use Rattle.world_model.specs.Restarting.{AllTold, Restarting, after_doing, begin_counting, end_counting, enter, forget, in_restart_phase, least_low, low_differs, next_advance, phase_by, read_is, resume, update_is, with_wanted}
+use Rattle.world_model.specs.Restarting.{AllTold, Restarting, after_doing, begin_counting, end_counting, enter, forget, in_restart_phase, least_low, low_differs, next_advance, phase_by, read_is, resume, with_wanted}
 use Rattle.world_model.specs.declared.restarting.RestartPhase.{RestartPhase}
 use Rattle.world_model.specs.declared.restarting.RestartPhase.TheVariants.{Idle, Recovering, Doing, Counting, Paused}
 use Rattle.world_model.specs.declared.restarting.Told.{Told}
@@ -22,7 +22,7 @@ use Rattle.phase_out.specs.Counts.{nudged}
 use Rattle.phase_laws.proofs.Outcomes.{one_more_is}
 use Rattle.phase_laws.proofs.Waves.{set_get}
 use Rattle.epoch_laws.proofs.Good.{Knows}
-use Rattle.epoch_laws.proofs.RecoverSteps.{HasHeard, Misses, Recovery, by_knows, recovery}
+use Rattle.epoch_laws.proofs.RecoverSteps.{HasHeard, Misses, Recovery, by_knows, next_each, phase_each, recovery}
 use Rattle.epoch_laws.proofs.RestartSteps.{HearsMore, OfClient, OfNode, RestartStep, asked_kept, asks_with, done_kept}
 use Rattle.epoch_laws.proofs.RestartSteps.{Acks, Agrees, Ends, Flags, Forgets, Goes, KeepsAsked, KeepsDone, Pauses, Recounts, Recovers, Rests, Resumes, Wants}
 use Rattle.epoch_laws.proofs.ToldLists.{HasTold, all_told, none_told}
@@ -83,10 +83,10 @@ in_phase n c at phase is was = subst (λ (p : RestartPhase). AreExact n p c.ende
 
 next_exact : (n f wanted : ℕ) (ts : AllTold) (at : ℕ → Turns)
     → ((q : ℕ) → q < n → ((at q).low.0 ≤ f) × ((at q).read.0 ≤ f)) → AreExact n (next_advance wanted f) f ts at
-next_exact n f wanted ts at all = by (nat_lt f wanted) where
-  by : (b : Bool) → AreExact n (if b then Doing ToTurn else Idle) f ts at
-  by true = λ q lt. record { low = (all q lt).0; read = (all q lt).1 }
-  by false = λ q lt. record { low = (all q lt).0; read = (all q lt).1 }
+next_exact n f wanted ts at all =
+    next_each (λ (p : RestartPhase). AreExact n p f ts at) wanted f
+    (λ less q lt. record { low = (all q lt).0; read = (all q lt).1 })
+    (λ most q lt. record { low = (all q lt).0; read = (all q lt).1 })
 
 counting_exact : (n f : ℕ) (reads : Bool) (at : ℕ → Turns) → AreNoFurther n (Paused reads) f at
     → AreNoFurther n (Counting reads) f at
@@ -154,27 +154,18 @@ reads_are n ts at f q told near none lt =
     at_most (at q).read.0 f (one_more f) (near.read q lt) (one_more_is f (omega (arith, near.small)))
     (λ same. other (sym is ∙ same))
 
-resumes_by : (n : ℕ) (ts : AllTold) (at : ℕ → Turns) (f wanted : ℕ) (sweeps shows turns : Bool) → HasToldAll n ts at
-    → AreNear n f at
-    → list_any (low_differs f) ts ≡ sweeps → list_any (read_is (one_more f)) ts ≡ shows
-    → AreExact n
-    (if sweeps then Doing ToSweep else if shows then Doing ToShow else if turns then Doing ToTurn else next_advance wanted f)
-    f ts at
-resumes_by n ts at f wanted true shows turns told near lows reads =
-    λ q lt. record { low = near.low q lt; read = near.read q lt }
-resumes_by n ts at f wanted false true turns told near lows reads =
-    λ q lt. record { low = omega (arith, lows_are n ts at f q told lows lt); read = near.read q lt }
-resumes_by n ts at f wanted false false true told near lows reads =
-    λ q lt. record { low = omega (arith, lows_are n ts at f q told lows lt); read = reads_are n ts at f q told near reads lt }
-resumes_by n ts at f wanted false false false told near lows reads =
-    next_exact n f wanted ts at
-    (λ q lt. (omega (arith, lows_are n ts at f q told lows lt), reads_are n ts at f q told near reads lt))
-
 resumes_exact : (n : ℕ) (ts : AllTold) (at : ℕ → Turns) (f wanted : ℕ) → HasToldAll n ts at → AreNear n f at
     → AreExact n (phase_by ts wanted f) f ts at
 resumes_exact n ts at f wanted told near =
-    resumes_by n ts at f wanted (list_any (low_differs f) ts) (list_any (read_is (one_more f)) ts)
-    (list_any (update_is (one_more (one_more f))) ts) told near refl refl
+    phase_each (λ (p : RestartPhase). AreExact n p f ts at) ts wanted f
+    (λ a q lt. record { low = near.low q lt; read = near.read q lt })
+    (λ a b q lt. record { low = omega (arith, lows_are n ts at f q told a lt); read = near.read q lt })
+    (λ a b c q lt. record {
+      low = omega (arith, lows_are n ts at f q told a lt);
+      read = reads_are n ts at f q told near b lt;
+    })
+    (λ a b. next_exact n f wanted ts at
+    (λ q lt. (omega (arith, lows_are n ts at f q told a lt), reads_are n ts at f q told near b lt)))
 
 recovered_exact : (n : ℕ) (d : Restarting) (at : ℕ → Turns) (out : Out Restarting) → d.phase ≡ Recovering → length d.told ≡ n
     → AreStill n d.told at → IsNearIn n out.state at → Recovery d out → IsExactFor n out.state at

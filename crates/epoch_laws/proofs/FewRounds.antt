@@ -1,9 +1,8 @@
 -- How many rounds a coordinator that forgets may begin in one epoch, and what each of its steps makes of its numbers.
-use Rattle.std.proofs.Common.{◌≡◌, ℕ, ◌+◌, ◌-◌, ◌*◌, ◌^◌, ◌<◌, ◌≤◌, Bool, true, false, List, refl, sym, ap, subst, ◌∙◌, Option, Some, None, arith}
-use Rattle.std.specs.Prelude.{if◌then◌else◌, max, nat_lt, not, is_some}
-use Rattle.std.specs.List.{list_all, list_any}
+use Rattle.std.proofs.Common.{◌≡◌, ℕ, ◌+◌, ◌-◌, ◌*◌, ◌^◌, ◌≤◌, Bool, true, false, List, refl, sym, ap, subst, ◌∙◌, Option, Some, None, arith}
+use Rattle.std.specs.Prelude.{max, not, is_some}
+use Rattle.std.specs.List.{list_all}
 use Rattle.std.proofs.Math.Nat.{max-le, min-le_left}
-use Rattle.std.proofs.lemmas.Bool.Decides.{nat_tests}
 use Rattle.tv_base.specs.Outside.{one_more}
 use Rattle.tv_base.proofs.Chosen.{one_more_most}
 use Rattle.phase_out.specs.Counts.{nudged}
@@ -13,10 +12,11 @@ use Rattle.letter_types.specs.declared.bodies.What.{What}
 use Rattle.letter_types.specs.declared.bodies.What.TheVariants.{Turn as ToTurn, Show as ToShow, Sweep as ToSweep}
 use Rattle.letter_types.specs.Steps.{Out}
 use Rattle.world_model.specs.Counts.{one_if}
-use Rattle.world_model.specs.Restarting.{AllTold, Restarting, after_doing, begin_counting, end_advancing, end_counting, first_number, in_restart_phase, least_low, low_differs, next_advance, phase_by, read_is, recover, resume_if, update_is}
+use Rattle.world_model.specs.Restarting.{AllTold, Restarting, after_doing, begin_counting, end_advancing, end_counting, first_number, in_restart_phase, least_low, next_advance, phase_by, recover, resume_if}
 use Rattle.world_model.specs.declared.restarting.RestartPhase.{RestartPhase}
 use Rattle.world_model.specs.declared.restarting.RestartPhase.TheVariants.{Idle, Recovering, Doing, Counting, Paused}
 use Rattle.world_model.proofs.Lawful.{is_nudge}
+use Rattle.epoch_laws.proofs.RecoverSteps.{next_each, phase_each}
 use Rattle.epoch_laws.proofs.RestartSteps.{RestartStep, HearsMore, asked_kept, done_kept}
 use Rattle.epoch_laws.proofs.RestartSteps.{OfNode, OfClient}
 use Rattle.epoch_laws.proofs.RestartSteps.{Rests, Forgets, Wants, Goes, Recovers, Acks, Ends, Flags, Resumes, KeepsDone, KeepsAsked, Agrees, Recounts, Pauses}
@@ -88,31 +88,16 @@ one_less : (a f : ℕ) → a ≤ 100 → a - one_more f ≤ a - (f + 1)
 one_less a f few = omega (arith, few)
 
 -- The phases with which it goes on.
-next_by : (P : RestartPhase → Type 0) (wanted f : ℕ) (test : Bool) → nat_lt f wanted ≡ test → (f < wanted → P (Doing ToTurn))
-    → P Idle → P (if test then Doing ToTurn else Idle)
-next_by P wanted f true is turns rests = turns (grind (arith, nat_tests))
-next_by P wanted f false is turns rests = rests
-
 -- the next advancement begins where it is wanted, so where not as many have ended as may be wanted
 next_due : (a wanted f : ℕ) (flag : Bool) → wanted ≤ a → still_due a (next_advance wanted f) flag f ≤ 2 * (a - f)
 next_due a wanted f flag few =
-    next_by (λ phase. still_due a phase flag f ≤ 2 * (a - f)) wanted f (nat_lt f wanted) refl
-    (λ lt. omega (arith, lt, few)) (omega arith)
-
-by_told : (P : RestartPhase → Type 0) (lows reads updates : Bool) (next : RestartPhase) → P (Doing ToSweep) → P (Doing ToShow)
-    → P (Doing ToTurn) → P next
-    → P (if lows then Doing ToSweep else if reads then Doing ToShow else if updates then Doing ToTurn else next)
-by_told P true reads updates next sweeps shows turns goes = sweeps
-by_told P false true updates next sweeps shows turns goes = shows
-by_told P false false true next sweeps shows turns goes = turns
-by_told P false false false next sweeps shows turns goes = goes
+    next_each (λ phase. still_due a phase flag f ≤ 2 * (a - f)) wanted f (λ lt. omega (arith, lt, few)) (λ le. omega arith)
 
 -- on resuming, at most as many are left as before
 told_due : (a wanted f : ℕ) (flag : Bool) (ts : AllTold) → wanted ≤ a → still_due a (phase_by ts wanted f) flag f ≤ 2 * a + 2
 told_due a wanted f flag ts few =
-    by_told (λ phase. still_due a phase flag f ≤ 2 * a + 2) (list_any (low_differs f) ts) (list_any (read_is (one_more f)) ts)
-    (list_any (update_is (one_more (one_more f))) ts) (next_advance wanted f) (omega arith) (omega arith) (omega arith)
-    (omega (arith, next_due a wanted f flag few))
+    phase_each (λ phase. still_due a phase flag f ≤ 2 * a + 2) ts wanted f (λ l. omega arith) (λ l r. omega arith)
+    (λ l r u. omega arith) (λ l r. omega (arith, next_due a wanted f flag few))
 
 -- Steps.
 -- the epoch, what is wanted and what was heard stay

@@ -1,6 +1,6 @@
 -- Each entry of the coordinator leaves all as it should be.
 use Rattle.std.proofs.Common.{◌≡◌, ℕ, ◌+◌, ◌≤◌, ◌==◌, inl, inr, Bool, true, false, List, [], ◌∷◌, refl, sym, ap, subst, ◌∙◌, arith, Some}
-use Rattle.std.specs.Prelude.{if◌then◌else◌, max, nat_lt}
+use Rattle.std.specs.Prelude.{if◌then◌else◌, max}
 use Rattle.std.proofs.Math.Nat.{le-max_left, max-le}
 use Rattle.tv_base.specs.Outside.{one_more}
 use Rattle.tv_base.specs.declared.numbers.Version.{Version}
@@ -152,7 +152,7 @@ ends s past e ToSweep h at bd last is =
     let c = restarting_in s past in
     let out = after_doing ToSweep c in
     let m = move s past e out h is in
-    well_ends s past e (nat_lt (one_more c.ended) c.wanted) refl m (last_answer s past e out.state ToSweep (few_nodes s h.laws) m at bd last)
+    well_ends s past e m (last_answer s past e out.state ToSweep (few_nodes s h.laws) m at bd last)
     (sent_so s past e out h is) at (few_before s past e h)
 
 -- each outcome
@@ -176,7 +176,7 @@ by_step s past e h (Goes i bd at is) =
     let c = restarting_in s past in
     let out = enter (next_advance (max c.wanted i) c.ended) (with_wanted i c) in
     let few = few_before s past e h in
-    well_goes s past e (max c.wanted i) (nat_lt c.ended (max c.wanted i)) refl (move s past e out h is) (sent_so s past e out h is) at
+    well_goes s past e (max c.wanted i) (move s past e out h is) (sent_so s past e out h is) at
     (le-max_left c.wanted i) (max-le few.wanted (took_asked s past e (AdvanceNo i) few h.run.0 bd)) few
 by_step s past e h (Recovers d at hears is) =
     let few = few_before s past e h in

@@ -1,6 +1,5 @@
 -- Entries of the coordinator, outcome by outcome: it forgets, an advancement is asked for or goes on, or the count does.
 use Rattle.std.proofs.Common.{◌≡◌, ◌⊎◌, inl, inr, ℕ, ◌+◌, ◌<◌, ◌≤◌, ◌-◌, ◌==◌, Bool, true, false, List, [], ◌∷◌, length, refl, sym, ap, subst, ◌∙◌, arith, Some, None}
-use Rattle.std.specs.Prelude.{if◌then◌else◌, nat_lt}
 use Rattle.std.proofs.lemmas.Bool.Decides.{nat_tests}
 use Rattle.std.proofs.lemmas.List.{length-replicate}
 use Rattle.tv_base.specs.Outside.{one_more}
@@ -16,8 +15,9 @@ use Rattle.node_versions.specs.declared.turns.Turns.{Turns}
 use Rattle.tx_trees.specs.ScriptData.{ScriptData}
 use Rattle.world_model.specs.Coordinator.{to_nodes, version}
 use Rattle.world_model.specs.Counts.{Each, tally}
-use Rattle.world_model.specs.Restarting.{Restarting, begin_counting, enter, forget, in_restart_phase, next_epoch, orders, target, to_client, version_counted}
+use Rattle.world_model.specs.Restarting.{Restarting, after_doing, begin_counting, enter, forget, in_restart_phase, next_advance, next_epoch, orders, target, to_client, version_counted}
 use Rattle.world_model.specs.Runs.{in_flight, restarting_in}
+use Rattle.world_model.specs.declared.restarting.RestartPhase.{RestartPhase}
 use Rattle.world_model.specs.declared.restarting.RestartPhase.TheVariants.{Idle, Doing, Counting}
 use Rattle.world_model.proofs.Bags.{tally-drop}
 use Rattle.world_model.proofs.Every.{each_append}
@@ -35,6 +35,7 @@ use Rattle.epoch_laws.proofs.Few.{IsFew}
 use Rattle.epoch_laws.proofs.Good.{IsCurrent, IsHeard, IsInPhase, IsRight, IsUpTo, LevelOf, ended_few, epoch_in, in_phase, order_to, token, turns_in}
 use Rattle.epoch_laws.proofs.GoodSteps.{AllAsk, IsAsk, IsMove, answer_token, asks_nothing, asks_right, steady_at, told_order, up_still}
 use Rattle.epoch_laws.proofs.GoodTells.{AllEnd, IsBegun, IsWell, ends_nothing, ends_right, good_calm, good_tells, well_by}
+use Rattle.epoch_laws.proofs.RecoverSteps.{next_each}
 use Rattle.epoch_laws.proofs.ToldLists.{HasTold, none_told}
 
 -- 1. It forgets: it gives nothing, and each node and the client are asked.
@@ -130,13 +131,14 @@ goes_idle s past e w m none at more =
     nothing (asks_right s (e ∷ past) e.actor.0 e.sent asks)
     (steady_at s past e x Idle m (λ q lt. omega (arith, was.level q lt)) tt (up_still past e c.ended c.wanted w (given_still past e nothing) more was.up_to)))
 
-pub well_goes : (s : ScriptData) (past : List Entry) (e : Entry) (w : ℕ) (test : Bool) → nat_lt (restarting_in s past).ended w ≡ test
-    → IsMove s past e (enter (if test then Doing ToTurn else Idle) (record (restarting_in s past) { wanted = w })).state
-    → e.sent ≡ (enter (if test then Doing ToTurn else Idle) (record (restarting_in s past) { wanted = w })).sent
+pub well_goes : (s : ScriptData) (past : List Entry) (e : Entry) (w : ℕ)
+    → IsMove s past e (enter (next_advance w (restarting_in s past).ended) (record (restarting_in s past) { wanted = w })).state
+    → e.sent ≡ (enter (next_advance w (restarting_in s past).ended) (record (restarting_in s past) { wanted = w })).sent
     → (restarting_in s past).phase ≡ Idle → (restarting_in s past).wanted ≤ w → w ≤ asked_for s past → IsFew s past → IsWell s past e
-well_goes s past e w true is m sent at more asked few =
-    let lt : (restarting_in s past).ended < w = grind (arith, nat_tests) in goes_turn s past e w m sent at lt more asked few
-well_goes s past e w false is m sent at more asked few = goes_idle s past e w m sent at more
+well_goes s past e w m sent at more asked few =
+    let c = record (restarting_in s past) { wanted = w } in
+    next_each (λ (p : RestartPhase). IsMove s past e (enter p c).state → e.sent ≡ (enter p c).sent → IsWell s past e) w c.ended
+    (λ lt n is. goes_turn s past e w n is at lt more asked few) (λ le n is. goes_idle s past e w n is at more) m sent
 
 -- 4. The last node has obeyed.
 left_none : (ls : List Letter) (d q : ℕ) → Each (λ (l : Letter). token d l.from.0 l.to.0 l.body ≡ 0) ls
@@ -274,16 +276,17 @@ ends_idle s past e m last is at =
     (steady_at s past e x Idle m (λ q lq. level q (going (order_to c.epoch q) s (e ∷ past)) lq) tt
     (up_still past e f c.wanted c.wanted still (omega arith) (subst (λ (n : ℕ). IsUpTo past n c.wanted) (sym next) (up_next past c.ended c.wanted was.up_to)))))
 
-pub well_ends : (s : ScriptData) (past : List Entry) (e : Entry) (test : Bool)
-    → nat_lt (one_more (restarting_in s past).ended) (restarting_in s past).wanted ≡ test
-    → IsMove s past e (in_restart_phase (if test then Doing ToTurn else Idle) (record (restarting_in s past) { ended = one_more (restarting_in s past).ended }))
-    → IsLast s past e
-    → e.sent ≡ to_client (Advanced (version (one_more (restarting_in s past).ended))) (restarting_in s past)
-    ∷ orders (if test then Doing ToTurn else Idle) (record (restarting_in s past) { ended = one_more (restarting_in s past).ended })
+pub well_ends : (s : ScriptData) (past : List Entry) (e : Entry) → IsMove s past e (after_doing ToSweep (restarting_in s past)).state
+    → IsLast s past e → e.sent ≡ (after_doing ToSweep (restarting_in s past)).sent
     → (restarting_in s past).phase ≡ Doing ToSweep → IsFew s past → IsWell s past e
-well_ends s past e true test m last is at few =
-    let lt : one_more (restarting_in s past).ended < (restarting_in s past).wanted = grind (arith, nat_tests) in ends_turn s past e m last is at lt few
-well_ends s past e false test m last is at few = ends_idle s past e m last is at
+well_ends s past e m last is at few =
+    let c = restarting_in s past in
+    let f = one_more c.ended in
+    let x = record c { ended = f } in
+    next_each
+    (λ (p : RestartPhase). IsMove s past e (in_restart_phase p x)
+    → e.sent ≡ to_client (Advanced (version f)) c ∷ orders p x → IsWell s past e) c.wanted f
+    (λ lt n sent. ends_turn s past e n last sent at lt few) (λ le n sent. ends_idle s past e n last sent at) m is
 
 -- 5. A count agrees: the version is shown, or swept to.
 counting_calm : (s : ScriptData) (past : List Entry) (reads : Bool) → (restarting_in s past).phase ≡ Counting reads → (what : What) (v : Version)

@@ -1,9 +1,8 @@
 -- The coordinator recovers: it hears more, and once it has heard all it goes on from what it was told.
 use Rattle.std.proofs.Common.{◌≡◌, ◌≢◌, ◌⊎◌, inl, inr, ℕ, ◌+◌, ◌<◌, ◌≤◌, Bool, true, false, List, [], ◌∷◌, length, refl, sym, ap, subst, ◌∙◌, arith, Option, Some, None}
-use Rattle.std.specs.Prelude.{if◌then◌else◌, is_some, max, nat_lt, slice_get, slice_set}
+use Rattle.std.specs.Prelude.{is_some, max, slice_get, slice_set}
 use Rattle.std.specs.List.{list_all, list_any}
 use Rattle.std.proofs.Math.Nat.{le-max_right, max-le}
-use Rattle.std.proofs.lemmas.Bool.Decides.{nat_tests}
 use Rattle.std.proofs.lemmas.List.{length-set}
 use Rattle.std.proofs.lemmas.Option.{slice_get_within}
 use Rattle.tv_base.specs.Outside.{one_more}
@@ -14,7 +13,7 @@ use Rattle.letter_types.specs.declared.entries.Entry.{Entry}
 use Rattle.tx_trees.specs.ScriptData.{ScriptData}
 use Rattle.tx_trees.specs.Valid.{IsValid}
 use Rattle.world_model.specs.Coordinator.{to_nodes, version}
-use Rattle.world_model.specs.Restarting.{AllTold, Restarting, in_restart_phase, least_low, low_differs, orders, read_is, recover, resume_if, target, to_client, update_is, with_advances}
+use Rattle.world_model.specs.Restarting.{AllTold, Restarting, in_restart_phase, least_low, low_differs, next_advance, orders, phase_by, read_is, recover, resume_if, target, to_client, update_is, with_advances}
 use Rattle.world_model.specs.Runs.{MayFollow, restarting_in}
 use Rattle.world_model.specs.declared.restarting.RestartPhase.{RestartPhase}
 use Rattle.world_model.specs.declared.restarting.RestartPhase.TheVariants.{Idle, Recovering, Doing}
@@ -30,6 +29,7 @@ use Rattle.epoch_laws.proofs.Good.{AreNumbers, AreWanted, IsGood, IsHeardOf, IsI
 use Rattle.epoch_laws.proofs.GoodOutcomes.{took_none}
 use Rattle.epoch_laws.proofs.GoodSteps.{AllAsk, IsMove, asks_nothing, good_stays, heard_at, steady_at, up_still}
 use Rattle.epoch_laws.proofs.GoodTells.{AllEnd, IsWell, MayBeTold, ends_nothing, ends_right, good_calm, good_tells, well_by}
+use Rattle.epoch_laws.proofs.RecoverSteps.{next_each, phase_each}
 use Rattle.epoch_laws.proofs.RestartSteps.{HearsMore, OfClient, OfNode}
 use Rattle.epoch_laws.proofs.ToldLists.{AreSmall, HasTold, SomeTold, all_told, least_most, least_told, some_low, some_read, some_update}
 
@@ -213,15 +213,18 @@ rests_by s past e d f w m heard found at is =
     tt (up_still past e f w w still (omega arith) found.up_to)))
 
 -- whichever comes
-goes_on : (s : ScriptData) (past : List Entry) (e : Entry) (d : Restarting) (f w : ℕ) (test : Bool) → nat_lt f w ≡ test
-    → IsMove s past e (in_restart_phase (if test then Doing ToTurn else Idle) (with_advances w f d)) → HasHeard s past d → IsFound s past d f w
-    → (restarting_in s past).phase ≡ Recovering
-    → e.sent ≡ to_client (Advanced (version f)) d ∷ orders (if test then Doing ToTurn else Idle) (with_advances w f d) → IsWell s past e
-goes_on s past e d f w true test m heard found at is =
-    let lt : f < w = grind (arith, nat_tests) in
+abbrev GoesOnIn : ScriptData → List Entry → Entry → Restarting → ℕ → ℕ → RestartPhase → Type 0
+GoesOnIn s past e d f w phase = IsMove s past e (in_restart_phase phase (with_advances w f d))
+    → e.sent ≡ to_client (Advanced (version f)) d ∷ orders phase (with_advances w f d) → IsWell s past e
+
+goes_on : (s : ScriptData) (past : List Entry) (e : Entry) (d : Restarting) (f w : ℕ) → HasHeard s past d
+    → IsFound s past d f w → (restarting_in s past).phase ≡ Recovering → GoesOnIn s past e d f w (next_advance w f)
+goes_on s past e d f w heard found at =
+    next_each (GoesOnIn s past e d f w) w f
+    (λ lt m is.
     resumes_by s past e d ToTurn f w m heard found at
-    (record { turn = λ same. omega (arith, lt); show = λ same. absurd (cc same); sweep = λ same. absurd (cc same) }) is
-goes_on s past e d f w false test m heard found at is = rests_by s past e d f w m heard found at is
+    (record { turn = λ same. omega (arith, lt); show = λ same. absurd (cc same); sweep = λ same. absurd (cc same) }) is)
+    (λ le m is. rests_by s past e d f w m heard found at is)
 
 above_by : (a f : ℕ) → f ≤ a → a ≢ f → f + 1 ≤ a
 above_by a f le ne = grind arith
@@ -231,14 +234,14 @@ below_told : (s : ScriptData) (past : List Entry) (d : Restarting) (P : Told →
 below_told s past d P some heard = omega (arith, some.below, heard.places)
 
 -- some node has swept, or shown, or turned
-swept_next : (s : ScriptData) (past : List Entry) (d : Restarting) (w : ℕ) → IsGood s past → HasHeard s past d
-    → list_any (low_differs (least_low d.told)) d.told ≡ true → IsNext s past ToSweep (least_low d.told) w
-swept_next s past d w good heard any =
-    let f = least_low d.told in
+swept_next : (s : ScriptData) (past : List Entry) (d : Restarting) (f w : ℕ) → f ≡ least_low d.told → IsGood s past
+    → HasHeard s past d → list_any (low_differs f) d.told ≡ true → IsNext s past ToSweep f w
+swept_next s past d f w least good heard any =
     let some = some_low d.told f any in
     let lt = below_told s past d (λ (t : Told). t.low.0 ≢ f) some heard in
     let told = (heard.nodes some.node some.told lt some.has).told in
-    let top = above_by some.told.low.0 f (least_most d.told some.node some.told some.has) some.fits in
+    let from : f ≤ some.told.low.0 = omega (arith, least, least_most d.told some.node some.told some.has) in
+    let top = above_by some.told.low.0 f from some.fits in
     record {
       turn = λ same. absurd (cc same);
       show = λ same. absurd (cc same);
@@ -269,34 +272,25 @@ turned_next s past d f w few good heard up any =
       sweep = λ same. absurd (cc same);
     }
 
--- the phase by these tests
-abbrev phase_of : Bool → Bool → Bool → Bool → RestartPhase
-phase_of swept shown turned goes =
-    if swept then Doing ToSweep else if shown then Doing ToShow else if turned then Doing ToTurn else if goes then Doing ToTurn else Idle
-
-resumes : (s : ScriptData) (past : List Entry) (e : Entry) (d : Restarting) (w : ℕ) (swept shown turned goes : Bool)
-    → list_any (low_differs (least_low d.told)) d.told ≡ swept → list_any (read_is (one_more (least_low d.told))) d.told ≡ shown
-    → list_any (update_is (one_more (one_more (least_low d.told)))) d.told ≡ turned → nat_lt (least_low d.told) w ≡ goes
-    → IsMove s past e (in_restart_phase (phase_of swept shown turned goes) (with_advances w (least_low d.told) d)) → HasHeard s past d
-    → IsFound s past d (least_low d.told) w → (restarting_in s past).phase ≡ Recovering
-    → e.sent ≡ to_client (Advanced (version (least_low d.told))) d ∷ orders (phase_of swept shown turned goes) (with_advances w (least_low d.told) d)
-    → IsWell s past e
-resumes s past e d w true shown turned goes a b c g m heard found at is =
-    resumes_by s past e d ToSweep (least_low d.told) w m heard found at (swept_next s past d w m.good heard a) is
-resumes s past e d w false true turned goes a b c g m heard found at is =
-    resumes_by s past e d ToShow (least_low d.told) w m heard found at (shown_next s past d (least_low d.told) w found.few m.good heard b) is
-resumes s past e d w false false true goes a b c g m heard found at is =
-    resumes_by s past e d ToTurn (least_low d.told) w m heard found at
-    (turned_next s past d (least_low d.told) w found.few m.good heard found.up_to c) is
-resumes s past e d w false false false goes a b c g m heard found at is = goes_on s past e d (least_low d.told) w goes g m heard found at is
+resumes : (s : ScriptData) (past : List Entry) (e : Entry) (d : Restarting) (f w : ℕ) → f ≡ least_low d.told
+    → HasHeard s past d → IsFound s past d f w → (restarting_in s past).phase ≡ Recovering
+    → GoesOnIn s past e d f w (phase_by d.told w f)
+resumes s past e d f w least heard found at =
+    phase_each (GoesOnIn s past e d f w) d.told w f
+    (λ a m is. resumes_by s past e d ToSweep f w m heard found at (swept_next s past d f w least m.good heard a) is)
+    (λ a b m is.
+    resumes_by s past e d ToShow f w m heard found at (shown_next s past d f w found.few m.good heard b) is)
+    (λ a b c m is.
+    resumes_by s past e d ToTurn f w m heard found at (turned_next s past d f w found.few m.good heard found.up_to c) is)
+    (λ a b. goes_on s past e d f w heard found at)
 
 -- So the coordinator recovers.
 well_recovers_by : (s : ScriptData) (past : List Entry) (e : Entry) (d : Restarting) (all : Bool) (k : Option ℕ) → list_all is_some d.told ≡ all
     → d.heard ≡ k → IsMove s past e (resume_if all k d).state → HasHeard s past d → IsFew s past → (restarting_in s past).phase ≡ Recovering
     → e.sent ≡ (resume_if all k d).sent → IsWell s past e
 well_recovers_by s past e d true (Some k) all has m heard few at is =
-    resumes s past e d (max d.wanted k) _ _ _ _ refl refl refl refl m heard
-    (found s past d k m.laws.valid m.good heard all has) at is
+    resumes s past e d (least_low d.told) (max d.wanted k) refl heard
+    (found s past d k m.laws.valid m.good heard all has) at m is
 well_recovers_by s past e d true None all has m heard few at is = still_recovers s past e d m heard at is
 well_recovers_by s past e d false k all has m heard few at is = still_recovers s past e d m heard at is
 

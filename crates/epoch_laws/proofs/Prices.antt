@@ -1,6 +1,6 @@
 -- What the steps of a coordinator that forgets cost, in entries.
 use Rattle.std.proofs.Common.{if◌then◌else◌, ◌≡◌, ◌⊎◌, inl, inr, ℕ, zero, suc, ◌+◌, ◌*◌, ◌<◌, ◌≤◌, ◌&&◌, not, Bool, true, false, List, [], ◌∷◌, length, set, refl, sym, ap, subst, ◌∙◌, arith, Option, Some, None}
-use Rattle.std.specs.Prelude.{max, nat_lt, is_some, slice_set}
+use Rattle.std.specs.Prelude.{max, is_some, slice_set}
 use Rattle.std.specs.List.{list_all}
 use Rattle.tv_base.specs.Outside.{one_more}
 use Rattle.tv_base.specs.declared.numbers.Version.{Version}
@@ -22,6 +22,7 @@ use Rattle.world_model.proofs.Lawful.{is_nudge}
 use Rattle.world_model.proofs.Sends.{on}
 use Rattle.phase_laws.proofs.Outcomes.{one_more_is}
 use Rattle.epoch_laws.proofs.Good.{Knows}
+use Rattle.epoch_laws.proofs.RecoverSteps.{next_each}
 use Rattle.epoch_laws.proofs.RestartSteps.{HearsMore, OfClient, OfNode, RestartStep, asked_kept, asks_with, done_kept}
 use Rattle.epoch_laws.proofs.RestartSteps.{Acks, Agrees, Ends, Flags, Forgets as StepForgets, Goes, KeepsAsked, KeepsDone, Pauses, Recounts, Recovers, Rests, Resumes as StepResumes, Wants}
 
@@ -139,20 +140,16 @@ pub record IsEntered (n : ℕ) (phase : RestartPhase) : Type 0 where
   pub unasked : (dones : NodeRows) → unasked n phase dones ≡ 0
   pub promised : (flag : Bool) → promised n phase flag ≡ 0
 
-pub next_entered : (n wanted f : ℕ) → IsEntered n (next_advance wanted f)
-next_entered n wanted f = by (nat_lt f wanted) where
-  by : (b : Bool) → IsEntered n (if b then Doing ToTurn else Idle)
-  by true = record { known = λ is. cc is; unasked = λ dones. refl; promised = λ flag. refl }
-  by false = record { known = λ is. cc is; unasked = λ dones. refl; promised = λ flag. refl }
-
-pub next_orders : (n wanted f : ℕ) → ordered n (next_advance wanted f) ≡ begun n (next_advance wanted f)
-next_orders n wanted f = by (nat_lt f wanted) where
-  by : (b : Bool) → ordered n (if b then Doing ToTurn else Idle) ≡ begun n (if b then Doing ToTurn else Idle)
-  by true = refl
-  by false = refl
-
 pub doing_entered : (n : ℕ) (what : What) → IsEntered n (Doing what)
 doing_entered n what = record { known = λ is. cc is; unasked = λ dones. refl; promised = λ flag. refl }
+
+pub next_entered : (n wanted f : ℕ) → IsEntered n (next_advance wanted f)
+next_entered n wanted f =
+    next_each (IsEntered n) wanted f (λ lt. doing_entered n ToTurn)
+    (λ le. record { known = λ is. cc is; unasked = λ dones. refl; promised = λ flag. refl })
+
+pub next_orders : (n wanted f : ℕ) → ordered n (next_advance wanted f) ≡ begun n (next_advance wanted f)
+next_orders n wanted f = next_each (λ (p : RestartPhase). ordered n p ≡ begun n p) wanted f (λ lt. refl) (λ le. refl)
 
 -- Steps.
 pub recovers_or : (phase : RestartPhase) → (phase ≡ Recovering) ⊎ Knows phase

@@ -17,7 +17,7 @@ use Rattle.tx_trees.specs.ScriptData.{ScriptData}
 use Rattle.tx_trees.specs.Valid.{IsValid}
 use Rattle.world_model.specs.Coordinator.{to_nodes}
 use Rattle.world_model.specs.Counts.{one_if, tally}
-use Rattle.world_model.specs.Restarting.{AllTold, Restarting, forget, least_low, low_differs, next_advance, phase_by, read_is, target, to_client, update_is}
+use Rattle.world_model.specs.Restarting.{AllTold, Restarting, forget, least_low, phase_by, read_is, target, to_client}
 use Rattle.world_model.specs.Runs.{in_flight, restarting_in}
 use Rattle.world_model.specs.declared.restarting.RestartPhase.{RestartPhase}
 use Rattle.world_model.specs.declared.restarting.RestartPhase.TheVariants.{Idle, Recovering, Doing, Counting, Paused}
@@ -31,6 +31,7 @@ use Rattle.phase_laws.proofs.Waves.{going}
 use Rattle.epoch_laws.proofs.Floors.{AllAskAnew, AsksAnew, IsFrom, IsRestored}
 use Rattle.epoch_laws.proofs.Good.{IsCurrent, IsGood, IsLetterRight, IsRight, IsSteady, LevelOf, ended_few, ended_most, least_read, least_update, low_turned, order_to, read_turned, turned_most, turns_in}
 use Rattle.epoch_laws.proofs.Prices.{IsEntered, begun, doing_entered, next_entered, next_orders, ordered, price, to_nodes_price}
+use Rattle.epoch_laws.proofs.RecoverSteps.{phase_each}
 
 -- in these phases each node reads the next version already
 abbrev pub shown_in : RestartPhase → Bool
@@ -100,44 +101,22 @@ forget_asks c =
     (to_nodes_each (λ to b. AsksAnew b) c.nodes (Ask (one_more c.epoch)) (λ to lt. tt)) (tt, tt)
 
 -- Resuming: the phases with which it goes on.
-told_entered : (n : ℕ) (lows reads updates : Bool) (next : RestartPhase) → IsEntered n next
-    → IsEntered n (if lows then Doing ToSweep else if reads then Doing ToShow else if updates then Doing ToTurn else next)
-told_entered n true reads updates next goes = doing_entered n ToSweep
-told_entered n false true updates next goes = doing_entered n ToShow
-told_entered n false false true next goes = doing_entered n ToTurn
-told_entered n false false false next goes = goes
-
 pub by_entered : (n : ℕ) (ts : AllTold) (wanted f : ℕ) → IsEntered n (phase_by ts wanted f)
 by_entered n ts wanted f =
-    told_entered n (list_any (low_differs f) ts) (list_any (read_is (one_more f)) ts)
-    (list_any (update_is (one_more (one_more f))) ts) (next_advance wanted f) (next_entered n wanted f)
-
-told_orders : (n : ℕ) (lows reads updates : Bool) (next : RestartPhase) → ordered n next ≤ begun n next
-    → ordered n (if lows then Doing ToSweep else if reads then Doing ToShow else if updates then Doing ToTurn else next)
-    ≤ begun n (if lows then Doing ToSweep else if reads then Doing ToShow else if updates then Doing ToTurn else next)
-told_orders n true reads updates next goes = omega arith
-told_orders n false true updates next goes = omega arith
-told_orders n false false true next goes = omega arith
-told_orders n false false false next goes = goes
+    phase_each (IsEntered n) ts wanted f (λ a. doing_entered n ToSweep) (λ a b. doing_entered n ToShow)
+    (λ a b c. doing_entered n ToTurn) (λ a b. next_entered n wanted f)
 
 by_orders : (n : ℕ) (ts : AllTold) (wanted f : ℕ) → ordered n (phase_by ts wanted f) ≤ begun n (phase_by ts wanted f)
 by_orders n ts wanted f =
-    told_orders n (list_any (low_differs f) ts) (list_any (read_is (one_more f)) ts)
-    (list_any (update_is (one_more (one_more f))) ts) (next_advance wanted f) (omega (arith, next_orders n wanted f))
+    phase_each (λ (p : RestartPhase). ordered n p ≤ begun n p) ts wanted f (λ a. omega arith) (λ a b. omega arith)
+    (λ a b c. omega arith) (λ a b. omega (arith, next_orders n wanted f))
 
 -- where some node reads the next version, it goes on with a sweep, or with its show
-shown_orders : (n : ℕ) (lows reads updates : Bool) (next : RestartPhase) → reads ≡ true
-    → 6 * n + ordered n (if lows then Doing ToSweep else if reads then Doing ToShow else if updates then Doing ToTurn else next)
-    ≤ begun n (if lows then Doing ToSweep else if reads then Doing ToShow else if updates then Doing ToTurn else next)
-shown_orders n true reads updates next is = omega arith
-shown_orders n false true updates next is = omega arith
-shown_orders n false false updates next is = absurd (cc is)
-
 by_shown : (n : ℕ) (ts : AllTold) (wanted f : ℕ) → list_any (read_is (one_more f)) ts ≡ true
     → 6 * n + ordered n (phase_by ts wanted f) ≤ begun n (phase_by ts wanted f)
 by_shown n ts wanted f is =
-    shown_orders n (list_any (low_differs f) ts) (list_any (read_is (one_more f)) ts)
-    (list_any (update_is (one_more (one_more f))) ts) (next_advance wanted f) is
+    phase_each (λ (p : RestartPhase). 6 * n + ordered n p ≤ begun n p) ts wanted f (λ a. omega arith)
+    (λ a b. omega arith) (λ a b c. absurd (cc (is, b))) (λ a b. absurd (cc (is, b)))
 
 same_or_more : (f g : ℕ) → f ≤ g → (g ≡ f) ⊎ (f + 1 ≤ g)
 same_or_more f g le = grind arith

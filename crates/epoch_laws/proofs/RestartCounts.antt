@@ -1,8 +1,8 @@
 -- The count of a coordinator that forgets: each of its entries is a step of a count, and the version that it counts is open
 -- where it wasn't given yet.
 use Rattle.std.proofs.Common.{◌≡◌, ℕ, ◌+◌, ◌*◌, ◌^◌, ◌<◌, ◌≤◌, ◌==◌, Bool, true, false, List, [], ◌∷◌, refl, sym, ap, subst, ◌∙◌, Option, Some, None, arith}
-use Rattle.std.specs.Prelude.{if◌then◌else◌, max, nat_lt, is_some}
-use Rattle.std.specs.List.{list_all, list_any}
+use Rattle.std.specs.Prelude.{if◌then◌else◌, max, is_some}
+use Rattle.std.specs.List.{list_all}
 use Rattle.tv_base.specs.Outside.{one_more}
 use Rattle.tv_base.specs.declared.numbers.Version.{Version}
 use Rattle.phase_out.specs.Counts.{nudged}
@@ -18,7 +18,7 @@ use Rattle.tx_trees.specs.ScriptData.{ScriptData}
 use Rattle.world_model.specs.AllApt.{AllApt}
 use Rattle.world_model.specs.Coordinator.{to_nodes}
 use Rattle.script_parts.specs.Counts.{is_lossy}
-use Rattle.world_model.specs.Restarting.{Restarting, AllTold, after_doing, begin_counting, end_counting, enter, first_number, forget, in_restart_phase, enter_telling, least_low, low_differs, next_advance, orders, phase_by, read_is, recover, restarting_row, resume_if, target, update_is, version_counted, with_advances, with_told, with_wanted}
+use Rattle.world_model.specs.Restarting.{Restarting, AllTold, after_doing, begin_counting, end_counting, enter, first_number, forget, in_restart_phase, enter_telling, least_low, next_advance, orders, phase_by, recover, restarting_row, resume_if, target, version_counted, with_advances, with_told, with_wanted}
 use Rattle.world_model.specs.Runs.{IsStepRun, restarting_in}
 use Rattle.world_model.specs.Tables.{restarting_table}
 use Rattle.world_model.specs.declared.restarting.RestartPhase.{RestartPhase}
@@ -37,6 +37,7 @@ use Rattle.phase_laws.proofs.Progress.{restarts}
 use Rattle.phase_laws.proofs.Sending.{AllPlain, IsPlain}
 use Rattle.epoch_laws.proofs.Few.{IsFew, few}
 use Rattle.epoch_laws.proofs.Good.{AllGood, IsGood, IsSteady, ended_few, in_phase}
+use Rattle.epoch_laws.proofs.RecoverSteps.{next_each, phase_each}
 use Rattle.epoch_laws.proofs.RestartSteps.{HearsMore, IsLeft, OfClient, OfNode, RestartStep, asked_kept, asks_with, done_kept, restart_step}
 use Rattle.epoch_laws.proofs.RestartSteps.{Acks, Agrees, Ends, Flags, Forgets, Goes, KeepsAsked, KeepsDone, Pauses, Recounts, Recovers, Rests, Resumes, Wants}
 use Rattle.epoch_laws.proofs.RestartSteps.{TakesRequests as TakesAsked}
@@ -75,24 +76,12 @@ counting_is Recovering reads is = absurd (cc is)
 
 -- 1. The phases that a coordinator goes to without a count, and what it sends then.
 next_none : (wanted f : ℕ) → pace_of (next_advance wanted f) ≡ NoRound
-next_none wanted f = by (nat_lt f wanted) where
-  by : (b : Bool) → pace_of (if b then Doing ToTurn else Idle) ≡ NoRound
-  by true = refl
-  by false = refl
-
-told_none : (sweeps shows turns : Bool) (wanted f : ℕ)
-    → pace_of (
-    if sweeps then Doing ToSweep else if shows then Doing ToShow else if turns then Doing ToTurn else next_advance wanted f
-    ) ≡ NoRound
-told_none true shows turns wanted f = refl
-told_none false true turns wanted f = refl
-told_none false false true wanted f = refl
-told_none false false false wanted f = next_none wanted f
+next_none wanted f = next_each (λ (p : RestartPhase). pace_of p ≡ NoRound) wanted f (λ lt. refl) (λ le. refl)
 
 by_none : (ts : AllTold) (wanted f : ℕ) → pace_of (phase_by ts wanted f) ≡ NoRound
 by_none ts wanted f =
-    told_none (list_any (low_differs f) ts) (list_any (read_is (one_more f)) ts)
-    (list_any (update_is (one_more (one_more f))) ts) wanted f
+    phase_each (λ (p : RestartPhase). pace_of p ≡ NoRound) ts wanted f (λ a. refl) (λ a b. refl) (λ a b c. refl)
+    (λ a b. next_none wanted f)
 
 -- no order is a letter of a round
 orders_plain : (phase : RestartPhase) (c : Restarting) → AllPlain (orders phase c)
