@@ -152,25 +152,11 @@ pub record IsFit (past : List Entry) (e : Entry) (turns : Turns) : Type 0 where
   pub reached : greatest_given SweepStage (e ∷ past) ≤ turns.read.0
 
 within_now : (past : List Entry) (e : Entry) (turns : Turns) → IsWithin past turns → IsFit past e turns → IsWithin (e ∷ past) turns
-within_now past e turns was fit = record {
-  turned_low = fit.turned;
-  showed_low = fit.showed;
-  swept_low = fit.swept;
-  showed_update = fit.above;
-  swept_read = fit.reached;
-  update_turned = omega (arith, was.update_turned, given_rises TurnStage e past);
-  read_showed = omega (arith, was.read_showed, given_rises ShowStage e past);
-  low_swept = omega (arith, was.low_swept, given_rises SweepStage e past);
-}
+within_now past e turns was fit =
+    omega (arith, was, fit, given_rises TurnStage e past, given_rises ShowStage e past, given_rises SweepStage e past)
 
 pub fits_still : (past : List Entry) (e : Entry) (turns : Turns) → IsGivenStill past e → IsWithin past turns → IsFit past e turns
-fits_still past e turns still was = record {
-  turned = omega (arith, still TurnStage, was.turned_low);
-  showed = omega (arith, still ShowStage, was.showed_low);
-  swept = omega (arith, still SweepStage, was.swept_low);
-  above = omega (arith, still ShowStage, was.showed_update);
-  reached = omega (arith, still SweepStage, was.swept_read);
-}
+fits_still past e turns still was = omega (arith, was, still TurnStage, still ShowStage, still SweepStage)
 
 -- Below what was swept to, nothing is born.
 pub closed_below : (s : ScriptData) (past : List Entry) (v : ℕ) → IsGood s past → v < greatest_given SweepStage past → Closed s past v

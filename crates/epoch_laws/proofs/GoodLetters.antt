@@ -44,25 +44,21 @@ same_phase s past e left = ap (λ (c : Restarting). c.phase) left.same
 -- What was right stays so.
 pub told_stays : (s : ScriptData) (past : List Entry) (e : Entry) (q : ℕ) (u r l : Version) → Remains s past e → q < s.nodes
     → IsAsTold (turns_in s past q) u r l → IsAsTold (turns_in s (e ∷ past) q) u r l
-told_stays s past e q u r l left lt was =
-    let rises : Rises (keeping_in s past q).core (keeping_in s (e ∷ past) q).core = (left.fares q lt).rises in
-    record {
-      update = omega (arith, was.update, rises.update);
-      read = omega (arith, was.read, rises.read);
-      low = omega (arith, was.low, rises.low);
-    }
+told_stays s past e q u r l left lt was = omega (arith, was, (left.fares q lt).rises)
 
 pub latest_stays : (s : ScriptData) (past : List Entry) (e : Entry) (q l : ℕ) → Remains s past e → q < s.nodes
     → IsLatest s past q l
     → IsLatest s (e ∷ past) q l
 latest_stays s past e q l left lt was =
-    let rises : Rises (keeping_in s past q).core (keeping_in s (e ∷ past) q).core = (left.fares q lt).rises in
-    record {
-      epoch = omega (arith, was.epoch, rises.epoch, same_epoch s past e left);
-      turned = omega (arith, was.turned, left.given TurnStage);
-      showed = omega (arith, was.showed, left.given ShowStage);
-      swept = omega (arith, was.swept, left.given SweepStage);
-    }
+    omega (
+      arith,
+      was,
+      (left.fares q lt).rises,
+      same_epoch s past e left,
+      left.given TurnStage,
+      left.given ShowStage,
+      left.given SweepStage,
+    )
 
 current_stays : (s : ScriptData) (past : List Entry) (e : Entry) (n : ℕ) (what : What) (v : Version) → Remains s past e
     → (n ≡ (restarting_in s past).epoch → IsCurrent (restarting_in s past) what v)

@@ -43,29 +43,23 @@ use Rattle.epoch_laws.proofs.Good.{AreTokens, IsCurrent, IsGood, IsHeard, IsHear
 use Rattle.epoch_laws.proofs.GoodClient.{asked_rises, heard_after}
 use Rattle.epoch_laws.proofs.GoodLetters.{Remains, latest_stays, letters_right, same_epoch, same_phase, told_stays}
 use Rattle.epoch_laws.proofs.Passing.{Answered, Passes, Stay, passes}
-use Rattle.epoch_laws.proofs.Rising.{Fares, Rises, fares}
+use Rattle.epoch_laws.proofs.Rising.{Rises, fares}
 use Rattle.epoch_laws.proofs.AfterCoordinator.{closed_below}
 
 -- What nodes come to stays within what was given.
 within_after : (s : ScriptData) (past : List Entry) (e : Entry) (p : ℕ) → IsGood s past → Remains s past e → p < s.nodes
     → IsWithin (e ∷ past) (turns_in s (e ∷ past) p)
 within_after s past e p good left lt =
-    let was : IsWithin past (turns_in s past p) = good.within p lt in
-    let fares : Fares s past (keeping_in s past p).core (keeping_in s (e ∷ past) p).core = left.fares p lt in
-    let rises : Rises (keeping_in s past p).core (keeping_in s (e ∷ past) p).core = fares.rises in
-    let turned = left.given TurnStage in
-    let showed = left.given ShowStage in
-    let swept = left.given SweepStage in
-    record {
-      turned_low = omega (arith, turned, was.turned_low, rises.low);
-      showed_low = omega (arith, showed, was.showed_low, rises.low);
-      swept_low = omega (arith, swept, was.swept_low, rises.low);
-      showed_update = omega (arith, showed, was.showed_update, rises.update);
-      swept_read = omega (arith, swept, was.swept_read, rises.read);
-      update_turned = omega (arith, turned, fares.turned);
-      read_showed = omega (arith, showed, fares.showed);
-      low_swept = omega (arith, swept, fares.swept);
-    }
+    let fares = left.fares p lt in
+    omega (
+      arith,
+      good.within p lt,
+      fares,
+      fares.rises,
+      left.given TurnStage,
+      left.given ShowStage,
+      left.given SweepStage,
+    )
 
 -- Below what was swept to no root is born, so all stays silent.
 silent_after : (s : ScriptData) (past : List Entry) (e : Entry) (v : ℕ) → IsTreeLawful s → IsStepRun s (e ∷ past)
@@ -128,13 +122,7 @@ reached_rises _ c d rises = omega arith
 level_up : (phase : RestartPhase) (f n : ℕ) (c d : Core) (orders more : ℕ) → Rises c d
     → LevelOf phase f n c.epoch c.node.turns orders
     → due phase f ≤ reached phase d.node.turns + more → LevelOf phase f n d.epoch d.node.turns more
-level_up phase f n c d orders more rises was comes = record {
-  since = omega (arith, was.since, rises.epoch);
-  low = omega (arith, was.low, rises.low);
-  read = omega (arith, was.read, rises.read);
-  update = omega (arith, was.update, rises.update);
-  comes = comes;
-}
+level_up phase f n c d orders more rises was comes = omega (arith, was, rises, comes)
 
 -- where as many orders are in flight to the node
 level_stays : (phase : RestartPhase) (f n : ℕ) (c d : Core) (orders more : ℕ) → Rises c d → more ≡ orders
@@ -176,12 +164,8 @@ with_same s past e phase left steady =
 
 up_to_after : (s : ScriptData) (past : List Entry) (e : Entry) (f wanted : ℕ) → Remains s past e → IsUpTo past f wanted
     → IsUpTo (e ∷ past) f wanted
-up_to_after s past e f wanted left was = record {
-  turned = omega (arith, was.turned, left.given TurnStage);
-  showed = omega (arith, was.showed, left.given ShowStage);
-  swept = omega (arith, was.swept, left.given SweepStage);
-  asked = omega (arith, was.asked, left.given TurnStage);
-}
+up_to_after s past e f wanted left was =
+    omega (arith, was, left.given TurnStage, left.given ShowStage, left.given SweepStage)
 
 level_after : (s : ScriptData) (past : List Entry) (e : Entry) (q p : ℕ) (phase : RestartPhase) (what : What) (v : Version)
     → IsValid s

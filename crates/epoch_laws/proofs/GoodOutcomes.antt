@@ -102,12 +102,7 @@ goes_turn s past e w m sent at lt more asked few =
       ends = tt;
       few = omega (arith, lt, asked, few.asked);
       level = λ q k lq some. omega (arith, was.level q lq, some);
-      up_to = record {
-        turned = was.up_to.turned;
-        showed = was.up_to.showed;
-        swept = was.up_to.swept;
-        asked = omega (arith, was.up_to.asked, more);
-      };
+      up_to = omega (arith, was.up_to, more);
       may = λ q lq. (was.level q lq).low;
       wanted = λ is. omega (arith, lt);
       asked = asked;

@@ -122,12 +122,7 @@ found s past d k valid good heard all has =
       few = omega (arith, least.fits, small least.node least.told least.has);
       epoch = λ q lt. let (t, told) = at q lt in (heard.nodes q t lt told).latest.epoch;
       low = λ q lt. let (t, told) = at q lt in omega (arith, least_most d.told q t told, (heard.nodes q t lt told).told.low);
-      up_to = record {
-        turned = omega (arith, latest.turned, least.fits);
-        showed = omega (arith, latest.showed, least.fits);
-        swept = omega (arith, latest.swept, least.fits);
-        asked = omega (arith, client.0, le-max_right d.wanted k);
-      };
+      up_to = omega (arith, latest, least.fits, client.0, le-max_right d.wanted k);
       wanted = max-le heard.wanted client.1;
     }
 

@@ -111,12 +111,7 @@ heard_at s past e x m still epoch places nodes client =
     }
 
 pub up_still : (past : List Entry) (e : Entry) (f w v : ℕ) → IsGivenStill past e → w ≤ v → IsUpTo past f w → IsUpTo (e ∷ past) f v
-up_still past e f w v still le was = record {
-  turned = omega (arith, still TurnStage, was.turned);
-  showed = omega (arith, still ShowStage, was.showed);
-  swept = omega (arith, still SweepStage, was.swept);
-  asked = omega (arith, still TurnStage, was.asked, le);
-}
+up_still past e f w v still le was = omega (arith, was, le, still TurnStage, still ShowStage, still SweepStage)
 
 -- 1. It asks at most, in the same epoch, and waits for what it waited for.
 pub good_stays : (s : ScriptData) (past : List Entry) (e : Entry) (x : Restarting) → IsMove s past e x

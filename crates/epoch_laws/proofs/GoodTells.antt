@@ -197,73 +197,40 @@ given_so s past e ToTurn f w good t =
     let most = given_most s past e ToTurn f w in
     let two = target_is ToTurn f t.few in
     let turned : greatest_given TurnStage (e ∷ past) ≤ f + 2 = most TurnStage (f + 2) t two.1 t.up_to.turned in
-    let showed : greatest_given ShowStage (e ∷ past) ≤ greatest_given ShowStage past = most ShowStage (greatest_given ShowStage past) t (omega arith) (omega arith) in
-    let swept : greatest_given SweepStage (e ∷ past) ≤ greatest_given SweepStage past = most SweepStage (greatest_given SweepStage past) t (omega arith) (omega arith) in
+    let asked = most TurnStage (w + 1) t (omega (arith, two.1, t.wanted refl)) t.up_to.asked in
+    let showed = most ShowStage (greatest_given ShowStage past) t (omega arith) (omega arith) in
+    let swept = most SweepStage (greatest_given SweepStage past) t (omega arith) (omega arith) in
     record {
-      up_to = record {
-        turned = turned;
-        showed = omega (arith, showed, t.up_to.showed);
-        swept = omega (arith, swept, t.up_to.swept);
-        asked = most TurnStage (w + 1) t (omega (arith, two.1, t.wanted refl)) t.up_to.asked;
-      };
+      up_to = omega (arith, t.up_to, turned, showed, swept, asked);
       fit = λ q lt.
-          let was = good.within q lt in
           let may : f ≤ (turns_in s past q).low.0 = t.may q lt in
-          record {
-            turned = omega (arith, turned, may);
-            showed = omega (arith, showed, was.showed_low);
-            swept = omega (arith, swept, was.swept_low);
-            above = omega (arith, showed, was.showed_update);
-            reached = omega (arith, swept, was.swept_read);
-          };
+          omega (arith, good.within q lt, turned, showed, swept, may);
       silent = λ v from lt. absurd (omega (arith, from, lt, swept));
     }
 given_so s past e ToShow f w good t =
     let most = given_most s past e ToShow f w in
-    let turned : greatest_given TurnStage (e ∷ past) ≤ greatest_given TurnStage past = most TurnStage (greatest_given TurnStage past) t (omega arith) (omega arith) in
-    let showed : greatest_given ShowStage (e ∷ past) ≤ f + 1 = most ShowStage (f + 1) t (omega (arith, t.few)) t.up_to.showed in
-    let swept : greatest_given SweepStage (e ∷ past) ≤ greatest_given SweepStage past = most SweepStage (greatest_given SweepStage past) t (omega arith) (omega arith) in
+    let turned = most TurnStage (greatest_given TurnStage past) t (omega arith) (omega arith) in
+    let showed : greatest_given ShowStage (e ∷ past) ≤ f + 1 =
+    most ShowStage (f + 1) t (omega (arith, t.few)) t.up_to.showed in
+    let swept = most SweepStage (greatest_given SweepStage past) t (omega arith) (omega arith) in
     record {
-      up_to = record {
-        turned = omega (arith, turned, t.up_to.turned);
-        showed = showed;
-        swept = omega (arith, swept, t.up_to.swept);
-        asked = omega (arith, turned, t.up_to.asked);
-      };
+      up_to = omega (arith, t.up_to, turned, showed, swept);
       fit = λ q lt.
-          let was = good.within q lt in
           let may : (f ≤ (turns_in s past q).low.0) × (f + 1 < (turns_in s past q).update.0) = t.may q lt in
-          record {
-            turned = omega (arith, turned, was.turned_low);
-            showed = omega (arith, showed, may.0);
-            swept = omega (arith, swept, was.swept_low);
-            above = omega (arith, showed, may.1);
-            reached = omega (arith, swept, was.swept_read);
-          };
+          omega (arith, good.within q lt, turned, showed, swept, may);
       silent = λ v from lt. absurd (omega (arith, from, lt, swept));
     }
 given_so s past e ToSweep f w good t =
     let most = given_most s past e ToSweep f w in
-    let turned : greatest_given TurnStage (e ∷ past) ≤ greatest_given TurnStage past = most TurnStage (greatest_given TurnStage past) t (omega arith) (omega arith) in
-    let showed : greatest_given ShowStage (e ∷ past) ≤ greatest_given ShowStage past = most ShowStage (greatest_given ShowStage past) t (omega arith) (omega arith) in
-    let swept : greatest_given SweepStage (e ∷ past) ≤ f + 1 = most SweepStage (f + 1) t (omega (arith, t.few)) t.up_to.swept in
+    let turned = most TurnStage (greatest_given TurnStage past) t (omega arith) (omega arith) in
+    let showed = most ShowStage (greatest_given ShowStage past) t (omega arith) (omega arith) in
+    let swept : greatest_given SweepStage (e ∷ past) ≤ f + 1 =
+    most SweepStage (f + 1) t (omega (arith, t.few)) t.up_to.swept in
     record {
-      up_to = record {
-        turned = omega (arith, turned, t.up_to.turned);
-        showed = omega (arith, showed, t.up_to.showed);
-        swept = swept;
-        asked = omega (arith, turned, t.up_to.asked);
-      };
+      up_to = omega (arith, t.up_to, turned, showed, swept);
       fit = λ q lt.
-          let was = good.within q lt in
           let may : (f ≤ (turns_in s past q).low.0) × (f + 1 ≤ (turns_in s past q).read.0) = t.may q lt in
-          record {
-            turned = omega (arith, turned, was.turned_low);
-            showed = omega (arith, showed, was.showed_low);
-            swept = omega (arith, swept, may.0);
-            above = omega (arith, showed, was.showed_update);
-            reached = omega (arith, swept, may.1);
-          };
+          omega (arith, good.within q lt, turned, showed, swept, may);
       silent = λ v from lt.
           same_at s past v f (omega (arith, from, lt, swept, t.from refl)) (t.silent refl (omega (arith, from, lt, swept)));
     }

@@ -44,19 +44,11 @@ pub record Fares (s : ScriptData) (past : List Entry) (c d : Core) : Type 0 wher
   pub swept : d.node.turns.low.0 ≤ greatest_given SweepStage past
 
 rises_same : (c : Core) → Rises c c
-rises_same c = record { epoch = omega arith; update = omega arith; read = omega arith; low = omega arith }
+rises_same c = omega arith
 
 stays : (s : ScriptData) (past : List Entry) (p : ℕ) → IsGood s past → p < s.nodes
     → Fares s past (keeping_in s past p).core (keeping_in s past p).core
-stays s past p good lt =
-    let within = good.within p lt in
-    record {
-      rises = rises_same (keeping_in s past p).core;
-      begun = good.epochs p lt;
-      turned = within.update_turned;
-      showed = within.read_showed;
-      swept = within.low_swept;
-    }
+stays s past p good lt = omega (arith, good.within p lt, good.epochs p lt)
 
 -- A node that works for a tree may raise its update version to that of a letter.
 raiser_version : (s : ScriptData) (v : ℕ) (body : Body) → IsRaiser s v body → v ≤ tree_version body
@@ -134,14 +126,7 @@ count_fares s past e p good count =
 -- A node that heeds an order or a question comes to its epoch, and by an order to its version, if it wasn't there yet.
 in_epoch : (s : ScriptData) (past : List Entry) (c d : Core) (n : ℕ) → n ≤ (restarting_in s past).epoch → c.epoch ≤ n
     → d ≡ record c { epoch = n } → Fares s past c c → Fares s past c d
-in_epoch s past c d n begun new is was =
-    subst (Fares s past c) (sym is) (record {
-      rises = record { epoch = new; update = omega arith; read = omega arith; low = omega arith };
-      begun = begun;
-      turned = was.turned;
-      showed = was.showed;
-      swept = was.swept;
-    })
+in_epoch s past c d n begun new is was = subst (Fares s past c) (sym is) (omega (arith, was, begun, new))
 
 at_version : (s : ScriptData) (past : List Entry) (c : Core) (n : ℕ) (what : What) (v : Version)
     → v.0 ≤ greatest_given (stage_of what) past
