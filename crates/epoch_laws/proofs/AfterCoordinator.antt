@@ -1,5 +1,5 @@
 -- What is left to show of an entry of the coordinator, once its letters are as they should be.
-use Rattle.std.proofs.Common.{◌≡◌, ◌⊎◌, inl, inr, ℕ, ◌+◌, ◌<◌, ◌≤◌, List, ◌∷◌, refl, ap, arith}
+use Rattle.std.proofs.Common.{◌≡◌, ◌⊎◌, inl, inr, ℕ, ◌+◌, ◌<◌, ◌≤◌, List, ◌∷◌, ap, arith}
 use Rattle.std.proofs.lemmas.Bool.{cases_lt}
 use Rattle.letter_types.specs.declared.bodies.Body.{Body}
 use Rattle.letter_types.specs.declared.bodies.Body.TheVariants.{Go, Numbers, Obeyed, Order, Show, Sweep, Turn}
@@ -103,17 +103,7 @@ abbrev pub OrderNothing : List Outgoing → Type 0
 OrderNothing os = Each (λ (o : Outgoing). OrdersNothing o.body) os
 
 told_nothing : (g : Stage) (body : Body) → OrdersNothing body → version_told g body ≡ 0
-told_nothing g (Turn v) none = absurd none
-told_nothing g (Show v) none = absurd none
-told_nothing g (Sweep v) none = absurd none
-told_nothing g (Order e what v) none = absurd none
-told_nothing g (Obeyed e what v) none = absurd none
-told_nothing TurnStage Go none = refl
-told_nothing ShowStage Go none = refl
-told_nothing SweepStage Go none = refl
-told_nothing TurnStage _ none = refl
-told_nothing ShowStage _ none = refl
-told_nothing SweepStage _ none = refl
+told_nothing g body none = grind arith
 
 pub given_still : (past : List Entry) (e : Entry) → OrderNothing e.sent → IsGivenStill past e
 given_still past e none =
@@ -121,10 +111,7 @@ given_still past e none =
     (each_map (λ (o : Outgoing). OrdersNothing o.body) (λ (o : Outgoing). version_told g o.body ≡ 0) e.sent (λ o is. told_nothing g o.body is) none)
 
 no_token : (e from to : ℕ) (body : Body) → OrdersNothing body → token e from to body ≡ 0
-no_token e from to (Order d what v) none = absurd none
-no_token e from to (Obeyed d what v) none = absurd none
-no_token e from to Go none = refl
-no_token e from to _ none = refl
+no_token e from to body none = grind arith
 
 pub tokens_none : (e a : ℕ) (os : List Outgoing) → OrderNothing os → tally (leaving (token e) a) os ≡ 0
 tokens_none e a os none =
@@ -132,10 +119,7 @@ tokens_none e a os none =
     (each_map (λ (o : Outgoing). OrdersNothing o.body) (λ (o : Outgoing). leaving (token e) a o ≡ 0) os (λ o is. no_token e a o.to.0 o.body is) none)
 
 no_order : (e q from to : ℕ) (body : Body) → OrdersNothing body → order_to e q from to body ≡ 0
-no_order e q from to (Order d what v) none = absurd none
-no_order e q from to (Obeyed d what v) none = absurd none
-no_order e q from to Go none = refl
-no_order e q from to _ none = refl
+no_order e q from to body none = grind arith
 
 pub orders_none : (e q a : ℕ) (os : List Outgoing) → OrderNothing os → tally (leaving (order_to e q) a) os ≡ 0
 orders_none e q a os none =

@@ -47,39 +47,15 @@ kept_of n shown = if shown then 6 * n else 0
 
 -- the rest is the orders and a round at most
 pub begun_most : (n : ℕ) (phase : RestartPhase) → begun n phase ≤ kept_of n (shown_in phase) + 8 * n
-begun_most n Idle = omega arith
-begun_most n Recovering = omega arith
-begun_most n (Doing ToTurn) = omega arith
-begun_most n (Doing ToShow) = omega arith
-begun_most n (Doing ToSweep) = omega arith
-begun_most n (Counting true) = omega arith
-begun_most n (Counting false) = omega arith
-begun_most n (Paused true) = omega arith
-begun_most n (Paused false) = omega arith
+begun_most n phase = grind arith
 
 -- all of an advancement
 begun_all : (n : ℕ) (phase : RestartPhase) → begun n phase ≤ 14 * n
-begun_all n Idle = omega arith
-begun_all n Recovering = omega arith
-begun_all n (Doing ToTurn) = omega arith
-begun_all n (Doing ToShow) = omega arith
-begun_all n (Doing ToSweep) = omega arith
-begun_all n (Counting true) = omega arith
-begun_all n (Counting false) = omega arith
-begun_all n (Paused true) = omega arith
-begun_all n (Paused false) = omega arith
+begun_all n phase = grind arith
 
 -- so far each node is in each phase
 read_from : (phase : RestartPhase) (f : ℕ) → f + one_if (shown_in phase) ≤ least_read phase f
-read_from Idle f = omega arith
-read_from Recovering f = omega arith
-read_from (Doing ToTurn) f = omega arith
-read_from (Doing ToShow) f = omega arith
-read_from (Doing ToSweep) f = omega arith
-read_from (Counting true) f = omega arith
-read_from (Counting false) f = omega arith
-read_from (Paused true) f = omega arith
-read_from (Paused false) f = omega arith
+read_from phase f = grind arith
 
 pub from_level : (phase : RestartPhase) (f e epoch : ℕ) (turns : Turns) (orders : ℕ) → LevelOf phase f e epoch turns orders
     → IsFrom f (shown_in phase) turns.read.0 turns.low.0

@@ -62,31 +62,15 @@ by_numbers s past c d n t epoch turns fares =
     let update : d.node.turns.update.0 ≡ t.update.0 = ap (λ (x : Turns). x.update.0) turns in
     let read : d.node.turns.read.0 ≡ t.read.0 = ap (λ (x : Turns). x.read.0) turns in
     let low : d.node.turns.low.0 ≡ t.low.0 = ap (λ (x : Turns). x.low.0) turns in
-    record {
-      rises = record {
-        epoch = omega (arith, epoch, fares.rises.epoch);
-        update = omega (arith, update, fares.rises.update);
-        read = omega (arith, read, fares.rises.read);
-        low = omega (arith, low, fares.rises.low);
-      };
-      begun = omega (arith, epoch, fares.begun);
-      turned = omega (arith, update, fares.turned);
-      showed = omega (arith, read, fares.showed);
-      swept = omega (arith, low, fares.swept);
-    }
+    omega (arith, epoch, update, read, low, fares)
 
 raised : (s : ScriptData) (past : List Entry) (c d : Core) (raises : Bool) (v : ℕ)
     → d.node.turns ≡ raised_if raises v c.node.turns
     → (raises ≡ true → c.node.turns.update.0 < v) → (raises ≡ true → v ≤ greatest_given TurnStage past) → d.epoch ≡ c.epoch
     → Fares s past c c → Fares s past c d
 raised s past c d true v is higher most epoch was =
-    by_numbers s past c d c.epoch (record c.node.turns { update = record { 0 = v } }) epoch is (record {
-      rises = record { epoch = omega arith; update = omega (arith, higher refl); read = omega arith; low = omega arith };
-      begun = was.begun;
-      turned = most refl;
-      showed = was.showed;
-      swept = was.swept;
-    })
+    by_numbers s past c d c.epoch (record c.node.turns { update = record { 0 = v } }) epoch is
+    (omega (arith, was, higher refl, most refl))
 raised s past c d false v is higher most epoch was = by_numbers s past c d c.epoch c.node.turns epoch is was
 
 tree_of_none : (body : Body) → IsOfTrees body → IsOfNoEpoch body
@@ -132,27 +116,9 @@ at_version : (s : ScriptData) (past : List Entry) (c : Core) (n : ℕ) (what : W
     → v.0 ≤ greatest_given (stage_of what) past
     → version_of what c.node.turns < v.0 → c.epoch ≤ n → n ≤ (restarting_in s past).epoch → Fares s past c c
     → Fares s past c (record c { epoch = n; node = record c.node { turns = turned_to what v c.node.turns } })
-at_version s past c n ToTurn v given less new begun was = record {
-  rises = record { epoch = new; update = omega (arith, less); read = omega arith; low = omega arith };
-  begun = begun;
-  turned = given;
-  showed = was.showed;
-  swept = was.swept;
-}
-at_version s past c n ToShow v given less new begun was = record {
-  rises = record { epoch = new; update = omega arith; read = omega (arith, less); low = omega arith };
-  begun = begun;
-  turned = was.turned;
-  showed = given;
-  swept = was.swept;
-}
-at_version s past c n ToSweep v given less new begun was = record {
-  rises = record { epoch = new; update = omega arith; read = omega arith; low = omega (arith, less) };
-  begun = begun;
-  turned = was.turned;
-  showed = was.showed;
-  swept = given;
-}
+at_version s past c n ToTurn v given less new begun was = omega (arith, was, given, less, new, begun)
+at_version s past c n ToShow v given less new begun was = omega (arith, was, given, less, new, begun)
+at_version s past c n ToSweep v given less new begun was = omega (arith, was, given, less, new, begun)
 
 heed_fares : (s : ScriptData) (past : List Entry) (e : Entry) (p : ℕ) → IsGood s past → MayFollow s past e → p < s.nodes
     → Heed s (keeping_in s past p).core (keeping_in s (e ∷ past) p).core e.took.body e.sent
