@@ -2,7 +2,7 @@
 use Rattle.std.proofs.Common.{◌≡◌, ◌⊎◌, inl, inr, ℕ, ◌+◌, ◌<◌, ◌≤◌, List, ◌∷◌, ap, arith}
 use Rattle.std.proofs.lemmas.Bool.{cases_lt}
 use Rattle.letter_types.specs.declared.bodies.Body.{Body}
-use Rattle.letter_types.specs.declared.bodies.Body.TheVariants.{Go, Numbers, Obeyed, Order, Show, Sweep, Turn}
+use Rattle.letter_types.specs.declared.bodies.Body.TheVariants.{Go, Obeyed, Order, Show, Sweep, Turn}
 use Rattle.letter_types.specs.declared.entries.Entry.{Entry}
 use Rattle.letter_types.specs.declared.entries.Letter.{Letter}
 use Rattle.letter_types.specs.declared.entries.LetterId.{LetterId}
@@ -37,9 +37,7 @@ use Rattle.epoch_laws.proofs.RightAfter.{IsForgetting, IsGivenStill, IsOfNode, I
 
 -- Numbers come from nodes.
 of_node : (s : ScriptData) (from to : ℕ) (body : Body) → IsMeant s from to body → IsOfNode s from body
-of_node s from to (Numbers e u r l) meant = meant.0.0
-of_node s from to Go meant = tt
-of_node s from to _ meant = tt
+of_node s from to body meant = grind arith
 
 -- The letters that are left were right, and come from where they should.
 abbrev WasRight : ScriptData → List Entry → Letter → Type 0

@@ -118,9 +118,7 @@ tells_out c from body out (Pauses reads v k row takes verdict flag is) knows =
 
 -- what it takes tells of no end
 anew_none : (f : ℕ) (body : Body) → TellsAnew body → tells_end f body ≡ 0
-anew_none f (Advanced v) tells = absurd tells
-anew_none f Go tells = absurd tells
-anew_none f _ tells = refl
+anew_none f body tells = grind arith
 
 coordinator_by : (s : ScriptData) (past : List Entry) (e : Entry) (out : Out Restarting) → MayFollow s past e
     → TellsAnew e.took.body
@@ -152,9 +150,7 @@ coordinator_hears s past e m tells at made was =
 
 -- 2. Who takes a letter that tells of an end is the client, and has heard of it then.
 end_away : (s : ScriptData) (f from to : ℕ) (body : Body) → IsMeant s from to body → to ≢ client_of s → tells_end f body ≡ 0
-end_away s f from to (Advanced v) meant away = absurd (away meant)
-end_away s f from to Go meant away = refl
-end_away s f from to _ meant away = refl
+end_away s f from to body meant away = grind arith
 
 same_heard : (s : ScriptData) (past : List Entry) (e : Entry) (f : ℕ) → MayFollow s past e → tells_end f e.took.body ≡ 0
     → (client_in s (e ∷ past)).ended ≡ (client_in s past).ended

@@ -4,7 +4,7 @@ use Rattle.std.proofs.Common.{◌≡◌, ◌≢◌, inl, inr, ℕ, ◌+◌, ◌*
 use Rattle.std.proofs.Math.Seq.{take-add}
 use Rattle.std.proofs.lemmas.List.{take-append-drop}
 use Rattle.letter_types.specs.declared.bodies.Body.{Body}
-use Rattle.letter_types.specs.declared.bodies.Body.TheVariants.{Go, AdvanceNo, Wanted, Lose, Sub as SubLetter, Done, Reply, Decide, Decided, Release, Wake, Obeyed}
+use Rattle.letter_types.specs.declared.bodies.Body.TheVariants.{Go, AdvanceNo, Wanted, Lose, Wake, Obeyed}
 use Rattle.letter_types.specs.declared.entries.Entry.{Entry}
 use Rattle.letter_types.specs.declared.entries.Letter.{Letter}
 use Rattle.letter_types.specs.declared.entries.Outgoing.{Outgoing}
@@ -121,9 +121,7 @@ request_none Lose plain = absurd plain
 request_none _ plain = refl
 
 request_tells : (s : ScriptData) (past : List Entry) (body : Body) → IsNoRequest body → TellsAsked s past body
-request_tells s past (AdvanceNo i) plain = absurd plain
-request_tells s past (Wanted e k) plain = absurd plain
-request_tells s past _ plain = tt
+request_tells s past body plain = grind arith
 
 none_lose : (os : List Outgoing) → NoRequests os → tally (on is_lose_letter) os ≡ 0
 none_lose os none =
@@ -137,14 +135,7 @@ none_tell s past os none =
     (λ o plain. request_tells s past o.body plain) none
 
 trees_none : (s : ScriptData) (st : Node) (does body : Body) → SentIn s st does body → IsNoRequest body
-trees_none s st does (SubLetter t k v) sent = tt
-trees_none s st does (Done t k v notice) sent = tt
-trees_none s st does (Decide t v commit) sent = tt
-trees_none s st does (Decided t v) sent = tt
-trees_none s st does (Reply t v answer) sent = tt
-trees_none s st does (Release t) sent = tt
-trees_none s st does (Wake t k) sent = tt
-trees_none s st does _ sent = absurd sent
+trees_none s st does body sent = grind arith
 
 wake_none : (body : Body) → IsWake body → IsNoRequest body
 wake_none (Wake t k) wake = tt
@@ -185,9 +176,7 @@ restarts_none s past e made =
 -- What an entry leaves: what letters tell, where no less is asked for.
 tells_more : (s : ScriptData) (past : List Entry) (e : Entry) (body : Body) → asked_for s past ≤ asked_for s (e ∷ past)
     → TellsAsked s past body → TellsAsked s (e ∷ past) body
-tells_more s past e (AdvanceNo i) more tells = omega (arith, more, tells)
-tells_more s past e (Wanted n k) more tells = omega (arith, more, tells)
-tells_more s past e _ more tells = tt
+tells_more s past e body more tells = grind arith
 
 letters_after : (s : ScriptData) (past : List Entry) (e : Entry) → asked_for s past ≤ asked_for s (e ∷ past)
     → Each (λ (l : Letter). TellsAsked s past l.body) (in_flight s past) → AllTell s (e ∷ past) e.sent

@@ -6,7 +6,7 @@ use Rattle.std.proofs.lemmas.Bool.Decides.{nat_tests}
 use Rattle.tv_base.specs.declared.numbers.Version.{Version}
 use Rattle.letter_types.specs.Kept.{brought}
 use Rattle.letter_types.specs.declared.bodies.Body.{Body}
-use Rattle.letter_types.specs.declared.bodies.Body.TheVariants.{Go, AskAsked, AskDone, Order, Show, Sub as SubLetter, Sweep, Turn}
+use Rattle.letter_types.specs.declared.bodies.Body.TheVariants.{Go, Order, Sub as SubLetter}
 use Rattle.letter_types.specs.declared.bodies.What.{What}
 use Rattle.letter_types.specs.declared.bodies.What.TheVariants as whats
 use Rattle.letter_types.specs.declared.entries.Entry.{Entry}
@@ -149,13 +149,7 @@ order_timely s past p e what v good lt right = by (nat_lt e (epoch_in s past p))
 -- and orders of a coordinator that remembers never come
 plain_in : (s : ScriptData) (past : List Entry) (from p : ℕ) (body : Body) → is_lossy s ≡ true → IsMeant s from p body → IsOrderLetter body
     → is_timely s (node_in s past p) body ≡ true
-plain_in s past from p (Turn v) loses meant order = absurd (cc (sym loses ∙ meant.1))
-plain_in s past from p (Show v) loses meant order = absurd (cc (sym loses ∙ meant.1))
-plain_in s past from p (Sweep v) loses meant order = absurd (cc (sym loses ∙ meant.1))
-plain_in s past from p (AskDone v k) loses meant order = refl
-plain_in s past from p (AskAsked v k) loses meant order = refl
-plain_in s past from p Go loses meant order = absurd order
-plain_in s past from p _ loses meant order = absurd order
+plain_in s past from p body loses meant order = grind arith
 
 -- by the letter that is brought
 core_timely : (s : ScriptData) (past : List Entry) (e : Entry) (p : ℕ) (r : Letter) (body : Body) → IsGood s past → IsStepRun s (e ∷ past)
@@ -183,14 +177,7 @@ timely s past e r laws loses run apt lt is =
 -- 4. How far advancements are.
 order_given : (s : ScriptData) (past : List Entry) (from to : ℕ) (body : Body) → is_lossy s ≡ true → IsMeant s from to body
     → IsRight s past from to body → IsOrderGiven past body
-order_given s past from to (Turn v) loses meant right = absurd (cc (sym loses ∙ meant.1))
-order_given s past from to (Show v) loses meant right = absurd (cc (sym loses ∙ meant.1))
-order_given s past from to (Sweep v) loses meant right = absurd (cc (sym loses ∙ meant.1))
-order_given s past from to (Order e whats.Turn v) loses meant right = right.given
-order_given s past from to (Order e whats.Show v) loses meant right = right.given
-order_given s past from to (Order e whats.Sweep v) loses meant right = right.given
-order_given s past from to Go loses meant right = tt
-order_given s past from to _ loses meant right = tt
+order_given s past from to body loses meant right = grind arith
 
 turned_to : (s : ScriptData) (past : List Entry) (body : Body) → tree_version body ≤ greatest_given TurnStage past → IsTurnedTo s past body
 turned_to s past (SubLetter t k v) le = λ updates. le
@@ -199,10 +186,7 @@ turned_to s past _ le = tt
 
 is_ahead : (s : ScriptData) (past : List Entry) (from to p : ℕ) (body : Body) → is_lossy s ≡ true → IsMeant s from to body
     → IsAhead (node_in s past p).turns body
-is_ahead s past from to p (Show v) loses meant = absurd (cc (sym loses ∙ meant.1))
-is_ahead s past from to p (Sweep v) loses meant = absurd (cc (sym loses ∙ meant.1))
-is_ahead s past from to p Go loses meant = tt
-is_ahead s past from to p _ loses meant = tt
+is_ahead s past from to p body loses meant = grind arith
 
 advancing : (s : ScriptData) (past : List Entry) → IsTreeLawful s → is_lossy s ≡ true → IsStepRun s past → AllApt s past → IsAdvancing s past
 advancing s past laws loses run apt =
@@ -224,11 +208,7 @@ advancing s past laws loses run apt =
 
 -- 5. What is told was told before, or is told in quiet; and an entry that tells something has no act.
 apart_anew : (s : ScriptData) (past : List Entry) (body : Body) → IsApart body → IsGivenAnew s past body
-apart_anew s past (Show v) apart = absurd apart
-apart_anew s past (Sweep v) apart = absurd apart
-apart_anew s past (Order e what v) apart = absurd apart
-apart_anew s past Go apart = tt
-apart_anew s past _ apart = tt
+apart_anew s past body apart = grind arith
 
 away_anew : (s : ScriptData) (past : List Entry) (e : Entry) → e.actor.0 ≢ s.nodes → Sending s past e
     → Each (λ (o : Outgoing). IsGivenAnew s past o.body) e.sent

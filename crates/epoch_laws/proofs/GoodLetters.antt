@@ -3,7 +3,7 @@
 use Rattle.std.proofs.Common.{◌≡◌, ℕ, ◌<◌, ◌≤◌, List, ◌∷◌, sym, ap, subst, ◌∙◌, arith}
 use Rattle.tv_base.specs.declared.numbers.Version.{Version}
 use Rattle.letter_types.specs.declared.bodies.Body.{Body}
-use Rattle.letter_types.specs.declared.bodies.Body.TheVariants.{Root, Sub as SubLetter, Done, Reply, Nudge, Advance, DoneRow, AskedRow, Advanced, Decide, Decided, Release, Wake, Lose, AdvanceNo, Wanted, Ask, Order, Numbers, Obeyed}
+use Rattle.letter_types.specs.declared.bodies.Body.TheVariants.{Advanced, Wanted, Ask, Order, Numbers, Obeyed}
 use Rattle.letter_types.specs.declared.bodies.What.{What}
 use Rattle.letter_types.specs.declared.entries.Entry.{Entry}
 use Rattle.letter_types.specs.declared.entries.LetterId.{LetterId}
@@ -121,26 +121,11 @@ right_stays s past e from to _ left meant right = tt
 
 -- What is sent is right.
 bare_right : (s : ScriptData) (past : List Entry) (from to : ℕ) (body : Body) → IsBare body → IsRight s past from to body
-bare_right s past from to (Root t) bare = tt
-bare_right s past from to Nudge bare = tt
-bare_right s past from to Advance bare = tt
-bare_right s past from to (AdvanceNo i) bare = tt
-bare_right s past from to Lose bare = tt
-bare_right s past from to (DoneRow v k row) bare = tt
-bare_right s past from to (AskedRow v k row) bare = tt
-bare_right s past from to (Wake t k) bare = tt
-bare_right s past from to _ bare = absurd bare
+bare_right s past from to body bare = grind arith
 
 tree_right : (s : ScriptData) (past : List Entry) (from to : ℕ) (st : Node) (does body : Body) → SentIn s st does body
     → IsRight s past from to body
-tree_right s past from to st does (SubLetter t k v) sent = tt
-tree_right s past from to st does (Done t k v notice) sent = tt
-tree_right s past from to st does (Decide t v commit) sent = tt
-tree_right s past from to st does (Decided t v) sent = tt
-tree_right s past from to st does (Reply t v answer) sent = tt
-tree_right s past from to st does (Release t) sent = tt
-tree_right s past from to st does (Wake t k) sent = tt
-tree_right s past from to st does _ sent = absurd sent
+tree_right s past from to st does body sent = grind arith
 
 -- the client tells how many advancements it asked for, which is as many as nodes were told to turn, at least
 wanted_right : (s : ScriptData) (past : List Entry) (e : Entry) (n : ℕ) → IsGood s past → Remains s past e

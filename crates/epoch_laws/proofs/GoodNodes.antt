@@ -4,9 +4,7 @@ use Rattle.std.specs.Prelude.{slice_get}
 use Rattle.std.proofs.lemmas.Bool.{cases_eq}
 use Rattle.tv_base.specs.declared.numbers.Version.{Version}
 use Rattle.letter_types.specs.declared.bodies.Body.{Body}
-use Rattle.letter_types.specs.declared.bodies.Body.TheVariants.{Root, Nudge, Advance, AskedRow, DoneRow, Wake, Lose, AdvanceNo}
 use Rattle.letter_types.specs.declared.bodies.What.{What}
-use Rattle.letter_types.specs.declared.bodies.What.TheVariants.{Turn as ToTurn, Show as ToShow, Sweep as ToSweep}
 use Rattle.letter_types.specs.declared.entries.Entry.{Entry}
 use Rattle.letter_types.specs.declared.entries.Letter.{Letter}
 use Rattle.letter_types.specs.declared.entries.LetterId.{LetterId}
@@ -71,15 +69,7 @@ silent_after s past e v laws run apt good left lt =
 
 -- Letters of trees.
 bare_version : (m : ℕ) (body : Body) → IsBare body → tree_version body ≤ m
-bare_version m (Root t) bare = omega arith
-bare_version m Nudge bare = omega arith
-bare_version m Advance bare = omega arith
-bare_version m (AdvanceNo i) bare = omega arith
-bare_version m Lose bare = omega arith
-bare_version m (DoneRow v k row) bare = omega arith
-bare_version m (AskedRow v k row) bare = omega arith
-bare_version m (Wake t k) bare = omega arith
-bare_version m _ bare = absurd bare
+bare_version m body bare = grind arith
 
 work_version : (s : ScriptData) (past : List Entry) (e : Entry) (p : ℕ) (r : Letter) (body : Body) → IsGood s past
     → MayFollow s past e
@@ -113,11 +103,7 @@ trees_after s past e run good left aside =
 
 -- Levels.
 reached_rises : (phase : RestartPhase) (c d : Core) → Rises c d → reached phase c.node.turns ≤ reached phase d.node.turns
-reached_rises (Doing ToTurn) c d rises = rises.update
-reached_rises (Doing ToShow) c d rises = rises.read
-reached_rises (Doing ToSweep) c d rises = rises.low
-reached_rises Idle c d rises = omega arith
-reached_rises _ c d rises = omega arith
+reached_rises phase c d rises = grind arith
 
 level_up : (phase : RestartPhase) (f n : ℕ) (c d : Core) (orders more : ℕ) → Rises c d
     → LevelOf phase f n c.epoch c.node.turns orders
@@ -132,14 +118,10 @@ level_stays phase f n c d orders more rises same was =
 
 -- where it has obeyed the order of the phase
 target_due : (what : What) (f : ℕ) → f ≤ 100 → (target what f).0 ≡ due (Doing what) f
-target_due ToTurn f few = omega (arith, few)
-target_due ToShow f few = omega (arith, few)
-target_due ToSweep f few = omega (arith, few)
+target_due what f few = grind arith
 
 reached_by : (what : What) (t : Turns) → reached (Doing what) t ≡ version_of what t
-reached_by ToTurn t = refl
-reached_by ToShow t = refl
-reached_by ToSweep t = refl
+reached_by what t = grind arith
 
 comes_by : (c : Restarting) (phase : RestartPhase) (what : What) (v : Version) (t : Turns) (more : ℕ) → c.phase ≡ phase
     → IsCurrent c what v

@@ -178,14 +178,7 @@ obeyed_level s past e x what q m last at lt =
 -- a round begins
 begins_level : (what : What) (reads : Bool) (f e epoch : ℕ) (turns : Turns) (k : ℕ) → (what ≡ ToTurn) × (reads ≡ false) ⊎ (what ≡ ToShow) × (reads ≡ true)
     → LevelOf (Doing what) f e epoch turns 0 → LevelOf (Counting reads) f e epoch turns k
-begins_level ToTurn false f e epoch turns k is was = omega (arith, was)
-begins_level ToShow true f e epoch turns k is was = omega (arith, was)
-begins_level ToTurn true f e epoch turns k (inl is) was = absurd (cc is.1)
-begins_level ToTurn true f e epoch turns k (inr is) was = absurd (cc is.0)
-begins_level ToShow false f e epoch turns k (inl is) was = absurd (cc is.0)
-begins_level ToShow false f e epoch turns k (inr is) was = absurd (cc is.1)
-begins_level ToSweep reads f e epoch turns k (inl is) was = absurd (cc is.0)
-begins_level ToSweep reads f e epoch turns k (inr is) was = absurd (cc is.0)
+begins_level what reads f e epoch turns k is was = grind arith
 
 pub asks_begun : (reads : Bool) (c : Restarting) → AllAsk (begin_counting reads c).sent
 asks_begun reads c = to_nodes_each (λ to body. IsAsk body) c.nodes (AskDone (version_counted reads c) (one_more c.count.number)) (λ to lt. tt)

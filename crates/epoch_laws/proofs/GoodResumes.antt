@@ -143,9 +143,7 @@ next_level s past ToSweep f w q k good next lq some since low =
 
 next_may : (s : ScriptData) (past : List Entry) (what : What) (f w q : ℕ) → IsGood s past → IsNext s past what f w → q < s.nodes
     → f ≤ (turns_in s past q).low.0 → MayBeTold what f (turns_in s past q)
-next_may s past ToTurn f w q good next lq low = low
-next_may s past ToShow f w q good next lq low = (low, omega (arith, next.show refl, (good.within q lq).showed_update))
-next_may s past ToSweep f w q good next lq low = (low, omega (arith, next.sweep refl, (good.within q lq).swept_read))
+next_may s past what f w q good next lq low = grind arith
 
 next_anew : (s : ScriptData) (past : List Entry) (what : What) (d f w : ℕ) → f ≤ 100 → IsNext s past what f w
     → IsGivenAnew s past (Order d what (target what f))

@@ -6,7 +6,6 @@ use Rattle.tv_base.specs.declared.numbers.Version.{Version}
 use Rattle.letter_types.specs.declared.bodies.Body.{Body}
 use Rattle.letter_types.specs.declared.bodies.Body.TheVariants.{Go, AskAsked, AskDone, Obeyed, Order}
 use Rattle.letter_types.specs.declared.bodies.What.{What}
-use Rattle.letter_types.specs.declared.bodies.What.TheVariants.{Turn as ToTurn, Show as ToShow, Sweep as ToSweep}
 use Rattle.letter_types.specs.declared.entries.Entry.{Entry}
 use Rattle.letter_types.specs.declared.entries.LetterId.{LetterId}
 use Rattle.letter_types.specs.declared.entries.Outgoing.{Outgoing}
@@ -45,16 +44,10 @@ abbrev pub AllAsk : List Outgoing → Type 0
 AllAsk os = Each (λ (o : Outgoing). IsAsk o.body) os
 
 ask_nothing : (body : Body) → IsAsk body → OrdersNothing body
-ask_nothing (AskDone v k) is = tt
-ask_nothing (AskAsked v k) is = tt
-ask_nothing Go is = absurd is
-ask_nothing _ is = absurd is
+ask_nothing body is = grind arith
 
 ask_right : (s : ScriptData) (past : List Entry) (from to : ℕ) (body : Body) → IsAsk body → IsRight s past from to body
-ask_right s past from to (AskDone v k) is = tt
-ask_right s past from to (AskAsked v k) is = tt
-ask_right s past from to Go is = absurd is
-ask_right s past from to _ is = absurd is
+ask_right s past from to body is = grind arith
 
 pub asks_nothing : (os : List Outgoing) → AllAsk os → OrderNothing os
 asks_nothing os all = each_map (λ (o : Outgoing). IsAsk o.body) (λ (o : Outgoing). OrdersNothing o.body) os (λ o is. ask_nothing o.body is) all
@@ -137,9 +130,7 @@ good_stays s past e x m epoch asks current recovers phased =
 
 -- Orders and answers in flight then: of what is told the coordinator nothing is an order.
 pub told_order : (d q from to : ℕ) (body : Body) → TellsAnew body → order_to d q from to body ≡ 0
-told_order d q from to (Order n what v) tells = absurd tells
-told_order d q from to Go tells = absurd tells
-told_order d q from to _ tells = refl
+told_order d q from to body tells = grind arith
 
 orders_same : (s : ScriptData) (past : List Entry) (e : Entry) (d q : ℕ) → MayFollow s past e → TellsAnew e.took.body → AllAsk e.sent
     → going (order_to d q) s (e ∷ past) ≡ going (order_to d q) s past
@@ -158,9 +149,7 @@ tokens_same s past e d m asks =
 
 -- 2. The phase stays, and more advancements may be wanted.
 same_order : (what : What) → same_what what what ≡ true
-same_order ToTurn = refl
-same_order ToShow = refl
-same_order ToSweep = refl
+same_order what = grind arith
 
 answer_now : (d : ℕ) (what : What) (v : Version) (c : Restarting) → d ≡ c.epoch → v.0 ≡ (target what c.ended).0 → is_answer d what v what c ≡ true
 answer_now d what v c epoch version =

@@ -4,7 +4,7 @@ use Rattle.std.proofs.Common.{◌≡◌, ℕ, zero, suc, ◌+◌, ◌<◌, ◌�
 use Rattle.std.proofs.Math.Nat.{max-le}
 use Rattle.tv_base.specs.declared.numbers.Version.{Version}
 use Rattle.letter_types.specs.declared.bodies.Body.{Body}
-use Rattle.letter_types.specs.declared.bodies.Body.TheVariants.{Go, Advanced, Order, Show, Sweep}
+use Rattle.letter_types.specs.declared.bodies.Body.TheVariants.{Go, Advanced, Order}
 use Rattle.letter_types.specs.declared.bodies.What.{What}
 use Rattle.letter_types.specs.declared.bodies.What.TheVariants.{Turn as ToTurn, Show as ToShow, Sweep as ToSweep}
 use Rattle.letter_types.specs.declared.entries.Entry.{Entry}
@@ -72,9 +72,7 @@ abbrev pub AllEnd : ℕ → List Outgoing → Type 0
 AllEnd f os = Each (λ (o : Outgoing). IsEnd f o.body) os
 
 end_nothing : (f : ℕ) (body : Body) → IsEnd f body → OrdersNothing body
-end_nothing f (Advanced v) is = tt
-end_nothing f Go is = absurd is
-end_nothing f _ is = absurd is
+end_nothing f body is = grind arith
 
 -- it has ended at each node
 abbrev HasEndedAt : ScriptData → List Entry → ℕ → Type 0
@@ -102,9 +100,7 @@ ends_right s past e x f os m ended all =
 -- Where nodes are told something.
 -- the numbers of an order
 target_is : (what : What) (f : ℕ) → f ≤ 101 → (f + 1 ≤ (target what f).0) × ((target what f).0 ≤ f + 2)
-target_is ToTurn f few = (omega (arith, few), omega (arith, few))
-target_is ToShow f few = (omega (arith, few), omega (arith, few))
-target_is ToSweep f few = (omega (arith, few), omega (arith, few))
+target_is what f few = grind arith
 
 -- a node to which it may be told
 abbrev pub MayBeTold : What → ℕ → Turns → Type 0
@@ -137,11 +133,7 @@ pub record IsBegun (c x : Restarting) (what : What) (f w : ℕ) : Type 0 where
 
 -- what is given then
 end_told : (g : Stage) (f m : ℕ) (body : Body) → IsEnd f body → version_told g body ≤ m
-end_told TurnStage f m (Advanced v) is = omega arith
-end_told ShowStage f m (Advanced v) is = omega arith
-end_told SweepStage f m (Advanced v) is = omega arith
-end_told g f m Go is = absurd is
-end_told g f m _ is = absurd is
+end_told g f m body is = grind arith
 
 order_told : (g : Stage) (n d : ℕ) (what : What) (v : Version) (f m : ℕ) (before : List Outgoing) → AllEnd f before
     → version_told g (Order d what v) ≤ m → greatest_told g (before ++ to_nodes n (Order d what v)) ≤ m
@@ -170,9 +162,7 @@ last_of P [] (suc n) body some all = (n, behind P (to_nodes n body) (record { to
 last_of P (x ∷ xs) n body some all = last_of P xs n body some all.1
 
 version_is : (d : ℕ) (what : What) (v : Version) → version_told (stage_of what) (Order d what v) ≡ v.0
-version_is d ToTurn v = refl
-version_is d ToShow v = refl
-version_is d ToSweep v = refl
+version_is d what v = grind arith
 
 given_least : (s : ScriptData) (past : List Entry) (e : Entry) (what : What) (f w : ℕ) → 1 ≤ s.nodes → Tells s past e what f w
     → (target what f).0 ≤ greatest_given (stage_of what) (e ∷ past)
@@ -303,11 +293,7 @@ pub record IsWell (s : ScriptData) (past : List Entry) (e : Entry) : Type 0 wher
   pub anew : Each (λ (o : Outgoing). IsGivenAnew s past o.body) e.sent
 
 nothing_anew : (s : ScriptData) (past : List Entry) (body : Body) → OrdersNothing body → IsGivenAnew s past body
-nothing_anew s past (Show v) none = absurd none
-nothing_anew s past (Sweep v) none = absurd none
-nothing_anew s past (Order d what v) none = absurd none
-nothing_anew s past Go none = tt
-nothing_anew s past _ none = tt
+nothing_anew s past body none = grind arith
 
 all_anew : (s : ScriptData) (past : List Entry) (os : List Outgoing) → OrderNothing os → Each (λ (o : Outgoing). IsGivenAnew s past o.body) os
 all_anew s past os none =

@@ -7,7 +7,6 @@ use Rattle.tv_base.specs.declared.numbers.Version.{Version}
 use Rattle.letter_types.specs.declared.bodies.Body.{Body}
 use Rattle.letter_types.specs.declared.bodies.Body.TheVariants.{Wake, Ask, Order, Obeyed}
 use Rattle.letter_types.specs.declared.bodies.What.{What}
-use Rattle.letter_types.specs.declared.bodies.What.TheVariants.{Turn as ToTurn, Show as ToShow, Sweep as ToSweep}
 use Rattle.letter_types.specs.declared.entries.Entry.{Entry}
 use Rattle.letter_types.specs.declared.entries.Outgoing.{Outgoing}
 use Rattle.node_versions.specs.declared.turns.Turns.{Turns}
@@ -33,28 +32,20 @@ IsNoToken (Obeyed n what v) = ⊥
 IsNoToken _ = Unit {0}
 
 epochless_none : (body : Body) → IsEpochless body → IsNoToken body
-epochless_none (Order n what v) none = absurd none
-epochless_none (Obeyed n what v) none = absurd none
-epochless_none _ none = tt
+epochless_none body none = grind arith
 
 bare_none : (body : Body) → IsBare body → IsNoToken body
-bare_none (Order n what v) bare = absurd bare
-bare_none (Obeyed n what v) bare = absurd bare
-bare_none _ bare = tt
+bare_none body bare = grind arith
 
 wake_none : (body : Body) → IsWake body → IsNoToken body
 wake_none (Wake t k) wake = tt
 wake_none _ wake = absurd wake
 
 tree_none : (body : Body) → IsOfTrees body → IsNoToken body
-tree_none (Order n what v) of = absurd of
-tree_none (Obeyed n what v) of = absurd of
-tree_none _ of = tt
+tree_none body of = grind arith
 
 sent_none : (s : ScriptData) (st : Node) (does body : Body) → SentIn s st does body → IsNoToken body
-sent_none s st does (Order n what v) sent = absurd sent
-sent_none s st does (Obeyed n what v) sent = absurd sent
-sent_none s st does _ sent = tt
+sent_none s st does body sent = grind arith
 
 -- A number of letters of the present epoch.
 -- it counts neither a letter that is no token, nor one of an epoch before
@@ -67,9 +58,7 @@ apart_and : (m n : ℕ) (test : Bool) → m ≢ n → one_if ((m == n) && test) 
 apart_and m n test ne = let no : (m == n) ≡ false = grind (arith, nat_tests) in rw no refl
 
 no_token : (n from to : ℕ) (body : Body) → IsNoToken body → token n from to body ≡ 0
-no_token n from to (Order m what v) none = absurd none
-no_token n from to (Obeyed m what v) none = absurd none
-no_token n from to _ none = refl
+no_token n from to body none = grind arith
 
 no_order : (n q from to : ℕ) (body : Body) → IsNoToken body → order_to n q from to body ≡ 0
 no_order n q from to (Order m what v) none = absurd none
@@ -196,9 +185,7 @@ answered s past e p k what v more good m at lt bd sent woken there (inr ne) =
     old_passes s past e k what v more m bd sent woken ne
 
 turned_version : (what : What) (v : Version) (t : Turns) → version_of what (turned_to what v t) ≡ v.0
-turned_version ToTurn v t = refl
-turned_version ToShow v t = refl
-turned_version ToSweep v t = refl
+turned_version what v t = grind arith
 
 heed_passes : (s : ScriptData) (past : List Entry) (e : Entry) (p : ℕ) → IsGood s past → MayFollow s past e → e.actor.0 ≡ p
     → p < s.nodes

@@ -81,16 +81,10 @@ old_none : (d e a q : ℕ) → d ≢ e → one_if ((d == e) && (a == q)) ≡ 0
 old_none d e a q ne = grind (arith, nat_tests)
 
 epochless_none : (client : Bool) (e q from to : ℕ) (body : Body) → IsEpochless body → asking client e q from to body ≡ 0
-epochless_none client e q from to (Ask d) none = absurd none
-epochless_none client e q from to (Numbers d u r l) none = absurd none
-epochless_none client e q from to (Wanted d k) none = absurd none
-epochless_none client e q from to _ none = refl
+epochless_none client e q from to body none = grind arith
 
 trees_none : (client : Bool) (e q from to : ℕ) (body : Body) → IsOfTrees body → asking client e q from to body ≡ 0
-trees_none client e q from to (Ask d) of = absurd of
-trees_none client e q from to (Numbers d u r l) of = absurd of
-trees_none client e q from to (Wanted d k) of = absurd of
-trees_none client e q from to _ of = refl
+trees_none client e q from to body of = grind arith
 
 late_none : (client : Bool) (n e q from to : ℕ) (body : Body) → IsOfEpoch n body → n < e → asking client e q from to body ≡ 0
 late_none client n e q from to (Ask d) of less = old_none d e to q (λ is. omega (arith, is, of, less))

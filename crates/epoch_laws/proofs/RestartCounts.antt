@@ -7,7 +7,7 @@ use Rattle.tv_base.specs.Outside.{one_more}
 use Rattle.tv_base.specs.declared.numbers.Version.{Version}
 use Rattle.phase_out.specs.Counts.{nudged}
 use Rattle.letter_types.specs.declared.bodies.Body.{Body}
-use Rattle.letter_types.specs.declared.bodies.Body.TheVariants.{AdvanceNo, Ask, AskDone, AskedRow, DoneRow, Nudge, Obeyed, Order}
+use Rattle.letter_types.specs.declared.bodies.Body.TheVariants.{AdvanceNo, Ask, AskDone, AskedRow, Nudge, Obeyed, Order}
 use Rattle.letter_types.specs.declared.bodies.What.{What}
 use Rattle.letter_types.specs.declared.bodies.What.TheVariants.{Turn as ToTurn, Show as ToShow, Sweep as ToSweep}
 use Rattle.letter_types.specs.declared.entries.Entry.{Entry}
@@ -195,10 +195,7 @@ rests_step n c d from body out (Doing what) at ok same is = rests_none n c d fro
 
 left_counting : (body : Body) (reads : Bool) (from : ℕ) (c : Restarting) → IsLeft body (Counting reads) from c
     → NoNudge body × Refused body from c.count.current
-left_counting (DoneRow v k row) reads from c left = (tt, left)
-left_counting (AskedRow v k row) reads from c left = (tt, left)
-left_counting Nudge reads from c left = absurd left
-left_counting _ reads from c left = (tt, tt)
+left_counting body reads from c left = grind arith
 
 left_paused : (body : Body) (reads : Bool) (from : ℕ) (c : Restarting) → IsLeft body (Paused reads) from c → NoNudge body
 left_paused Nudge reads from c left = absurd left
@@ -213,11 +210,7 @@ left_passes body Recovering from c left = tt
 left_passes body (Doing what) from c left = tt
 
 advance_passes : (i : ℕ) (phase : RestartPhase) (from : ℕ) (c : Restarting) → Passes (AdvanceNo i) phase from c
-advance_passes i (Counting reads) from c = (tt, tt)
-advance_passes i (Paused reads) from c = tt
-advance_passes i Idle from c = tt
-advance_passes i Recovering from c = tt
-advance_passes i (Doing what) from c = tt
+advance_passes i phase from c = grind arith
 
 -- a round begins
 begins_by : (n : ℕ) (c : Restarting) (from : ℕ) (body other : Body) (out : Out Restarting) (reads : Bool) (d : Restarting)

@@ -1,5 +1,5 @@
 -- What a step of a coordinator that forgets can be.
-use Rattle.std.proofs.Common.{◌≡◌, ℕ, ◌+◌, ◌<◌, ◌&&◌, ◌==◌, Bool, true, false, List, [], length, refl, sym, ap, subst, ◌∙◌, Option, Some, None}
+use Rattle.std.proofs.Common.{◌≡◌, ℕ, ◌+◌, ◌<◌, ◌&&◌, ◌==◌, Bool, true, false, List, [], length, refl, sym, ap, subst, ◌∙◌, Option, Some, None, arith}
 use Rattle.std.specs.Prelude.{if◌then◌else◌, max, nat_lt, not}
 use Rattle.std.proofs.lemmas.Bool.{and_from, and_parts, eqb-true, ltb-true}
 use Rattle.tv_base.specs.declared.numbers.Version.{Version}
@@ -11,7 +11,6 @@ use Rattle.phase_out.specs.declared.count.Counted.TheVariants as counted
 use Rattle.letter_types.specs.declared.bodies.Body.{Body}
 use Rattle.letter_types.specs.declared.bodies.Body.TheVariants.{AdvanceNo, AskAsked, AskedRow, DoneRow, Lose, Nudge, Numbers, Obeyed, Wanted}
 use Rattle.letter_types.specs.declared.bodies.What.{What}
-use Rattle.letter_types.specs.declared.bodies.What.TheVariants.{Turn as ToTurn, Show as ToShow, Sweep as ToSweep}
 use Rattle.letter_types.specs.declared.entries.Outgoing.{Outgoing}
 use Rattle.letter_types.specs.Steps.{Out, still}
 use Rattle.world_model.specs.Coordinator.{to_nodes, with_asked, with_done}
@@ -91,15 +90,7 @@ pub data RestartStep (c : Restarting) (from : ℕ) (body : Body) (out : Out Rest
       → out ≡ still (in_restart_phase (Paused reads) (asked_kept from row c)) → RestartStep c from body out
 
 same_order : (a b : What) → same_what a b ≡ true → a ≡ b
-same_order ToTurn ToTurn is = refl
-same_order ToShow ToShow is = refl
-same_order ToSweep ToSweep is = refl
-same_order ToTurn ToShow is = absurd (cc is)
-same_order ToTurn ToSweep is = absurd (cc is)
-same_order ToShow ToTurn is = absurd (cc is)
-same_order ToShow ToSweep is = absurd (cc is)
-same_order ToSweep ToTurn is = absurd (cc is)
-same_order ToSweep ToShow is = absurd (cc is)
+same_order a b is = grind arith
 
 same_version : (v w : Version) → v.0 ≡ w.0 → v ≡ w
 same_version v w is = ap (λ (n : ℕ). record { 0 = n }) is

@@ -4,9 +4,8 @@ use Rattle.std.proofs.Common.{◌≡◌, ◌≢◌, ◌⊎◌, inl, inr, ℕ, �
 use Rattle.std.proofs.lemmas.Bool.{cases_eq}
 use Rattle.tv_base.specs.declared.numbers.Version.{Version}
 use Rattle.letter_types.specs.declared.bodies.Body.{Body}
-use Rattle.letter_types.specs.declared.bodies.Body.TheVariants.{Root, Sub as SubLetter, Done, Decide, Decided, Release, Wake, Ask, Order}
+use Rattle.letter_types.specs.declared.bodies.Body.TheVariants.{Sub as SubLetter, Ask, Order}
 use Rattle.letter_types.specs.declared.bodies.What.{What}
-use Rattle.letter_types.specs.declared.bodies.What.TheVariants.{Turn as ToTurn, Show as ToShow, Sweep as ToSweep}
 use Rattle.letter_types.specs.declared.entries.Entry.{Entry}
 use Rattle.letter_types.specs.declared.entries.Letter.{Letter}
 use Rattle.node_versions.specs.declared.turns.Turns.{Turns}
@@ -74,14 +73,7 @@ raised s past c d true v is higher most epoch was =
 raised s past c d false v is higher most epoch was = by_numbers s past c d c.epoch c.node.turns epoch is was
 
 tree_of_none : (body : Body) → IsOfTrees body → IsOfNoEpoch body
-tree_of_none (Root t) of = tt
-tree_of_none (SubLetter t k v) of = tt
-tree_of_none (Done t k v notice) of = tt
-tree_of_none (Decide t v commit) of = tt
-tree_of_none (Decided t v) of = tt
-tree_of_none (Release t) of = tt
-tree_of_none (Wake t k) of = tt
-tree_of_none _ of = absurd of
+tree_of_none body of = grind arith
 
 work_fares : (s : ScriptData) (past : List Entry) (e : Entry) (p : ℕ) (r : Letter) → IsGood s past → MayFollow s past e
     → Work s past e p r
@@ -96,9 +88,7 @@ work_fares s past e p r good m work =
 
 -- A node that tells what it has counted stays as it is.
 epochless_of_none : (body : Body) → IsEpochless body → IsOfNoEpoch body
-epochless_of_none (Ask n) none = absurd none
-epochless_of_none (Order n what v) none = absurd none
-epochless_of_none _ none = tt
+epochless_of_none body none = grind arith
 
 count_fares : (s : ScriptData) (past : List Entry) (e : Entry) (p : ℕ) → IsGood s past → TellsCounts s past e p
     → Fares s past (keeping_in s past p).core (keeping_in s (e ∷ past) p).core
@@ -116,9 +106,7 @@ at_version : (s : ScriptData) (past : List Entry) (c : Core) (n : ℕ) (what : W
     → v.0 ≤ greatest_given (stage_of what) past
     → version_of what c.node.turns < v.0 → c.epoch ≤ n → n ≤ (restarting_in s past).epoch → Fares s past c c
     → Fares s past c (record c { epoch = n; node = record c.node { turns = turned_to what v c.node.turns } })
-at_version s past c n ToTurn v given less new begun was = omega (arith, was, given, less, new, begun)
-at_version s past c n ToShow v given less new begun was = omega (arith, was, given, less, new, begun)
-at_version s past c n ToSweep v given less new begun was = omega (arith, was, given, less, new, begun)
+at_version s past c n what v given less new begun was = grind arith
 
 heed_fares : (s : ScriptData) (past : List Entry) (e : Entry) (p : ℕ) → IsGood s past → MayFollow s past e → p < s.nodes
     → Heed s (keeping_in s past p).core (keeping_in s (e ∷ past) p).core e.took.body e.sent

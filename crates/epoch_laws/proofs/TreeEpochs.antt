@@ -1,5 +1,5 @@
 -- A letter that is no order and no question of a coordinator that forgets leaves its node in the epoch in which it is.
-use Rattle.std.proofs.Common.{◌≡◌, ℕ, Bool, true, false, List, ◌∷◌, refl, ap, subst, ◌∙◌, Option, Some, None}
+use Rattle.std.proofs.Common.{◌≡◌, ℕ, Bool, true, false, List, ◌∷◌, refl, ap, subst, ◌∙◌, Option, Some, None, arith}
 use Rattle.std.specs.Prelude.{if◌then◌else◌, nat_lt}
 use Rattle.tv_base.specs.declared.numbers.SubNo.{SubNo}
 use Rattle.tv_base.specs.declared.numbers.TreeNo.{TreeNo}
@@ -38,9 +38,7 @@ IsOfNoEpoch (Ask e) = ⊥
 IsOfNoEpoch _ = Unit {0}
 
 asks_of_none : (body : Body) → IsAsking body → IsOfNoEpoch body
-asks_of_none (Root t) asks = tt
-asks_of_none (SubLetter t k v) asks = tt
-asks_of_none _ asks = absurd asks
+asks_of_none body asks = grind arith
 
 -- The row of such a letter.
 abbrev Stays : Core → Out Core → Type 0

@@ -8,7 +8,6 @@ use Rattle.phase_out.specs.Counts.{nudged}
 use Rattle.letter_types.specs.declared.bodies.Body.{Body}
 use Rattle.letter_types.specs.declared.bodies.Body.TheVariants.{Go, AdvanceNo, Wanted}
 use Rattle.letter_types.specs.declared.bodies.What.{What}
-use Rattle.letter_types.specs.declared.bodies.What.TheVariants.{Turn as ToTurn, Show as ToShow, Sweep as ToSweep}
 use Rattle.letter_types.specs.Steps.{Out, still}
 use Rattle.world_model.specs.Counts.{one_if}
 use Rattle.world_model.specs.Restarting.{Restarting, after_doing, begin_counting, end_counting, enter, forget, in_restart_phase, next_advance, resume, with_wanted}
@@ -73,9 +72,7 @@ asked_more a i c body out next is bd same =
 
 left_asks : (a : ℕ) (body : Body) (phase : RestartPhase) (from : ℕ) (c : Restarting) → IsLeft body phase from c
     → asks_for a body ≡ 0
-left_asks a (AdvanceNo i) phase from c left = absurd left
-left_asks a Go phase from c left = refl
-left_asks a _ phase from c left = refl
+left_asks a body phase from c left = grind arith
 
 hears_none : (a : ℕ) (c d : Restarting) (from : ℕ) (body : Body) → HearsMore c from body d
     → (asks_for a body ≡ 0) × (c.wanted ≡ d.wanted)
@@ -89,9 +86,7 @@ recovers_more a c d body out none same (HasHeard k told heard is) =
     same_more a c body out (resume k d) is none (omega (arith, same, le-max_left d.wanted k))
 
 done_wanted : (what : What) (c : Restarting) → (after_doing what c).state.wanted ≡ c.wanted
-done_wanted ToTurn c = refl
-done_wanted ToShow c = refl
-done_wanted ToSweep c = refl
+done_wanted what c = grind arith
 
 ends_wanted : (reads : Bool) (c : Restarting) → (end_counting reads c).state.wanted ≡ c.wanted
 ends_wanted true c = refl

@@ -135,9 +135,7 @@ asks_more s past e loses (Heeds p at lt heed) =
 
 -- 2. Entries of the client and of nodes: none takes a letter that asks for advancements.
 asks_away : (s : ScriptData) (a from to : ℕ) (body : Body) → IsMeant s from to body → to ≢ s.nodes → asks_for a body ≡ 0
-asks_away s a from to (AdvanceNo i) meant away = absurd (away meant.0)
-asks_away s a from to Go meant away = refl
-asks_away s a from to _ meant away = refl
+asks_away s a from to body meant away = grind arith
 
 bare_covers : (e a : ℕ) (body : Body) → IsBare body → Covers e a body
 bare_covers e a (Wanted d k) bare = absurd bare
