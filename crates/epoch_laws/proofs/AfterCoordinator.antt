@@ -142,9 +142,7 @@ fits_still past e turns still was = omega (arith, was, still TurnStage, still Sh
 
 -- Below what was swept to, nothing is born.
 pub closed_below : (s : ScriptData) (past : List Entry) (v : ℕ) → IsGood s past → v < greatest_given SweepStage past → Closed s past v
-closed_below s past v good lt = λ p lp.
-    let w = good.within p lp in
-    ((λ eq. omega (arith, eq, lt, w.swept_read, w.read_showed, w.showed_update)), (λ eq. omega (arith, eq, lt, w.swept_read)))
+closed_below s past v good lt = grind arith
 
 -- a version that is newly swept to has left one that is silent, in which nothing is born
 pub record IsNewlySilent (s : ScriptData) (past : List Entry) (v : ℕ) : Type 0 where

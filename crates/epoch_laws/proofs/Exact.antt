@@ -20,7 +20,7 @@ use Rattle.script_parts.specs.Counts.{is_lossy}
 use Rattle.world_model.specs.Restarting.{AllTold, Restarting, restarting_row}
 use Rattle.world_model.specs.Runs.{IsStepRun, in_flight, restarting_in}
 use Rattle.world_model.specs.declared.restarting.RestartPhase.{RestartPhase}
-use Rattle.world_model.specs.declared.restarting.RestartPhase.TheVariants.{Idle, Recovering, Doing, Counting, Paused}
+use Rattle.world_model.specs.declared.restarting.RestartPhase.TheVariants.{Recovering}
 use Rattle.world_model.proofs.Every.{each_map, each_step, each_taken}
 use Rattle.world_model.proofs.Orders.{of}
 use Rattle.world_model.proofs.Restarts.{OfRestarts, restarting_each}
@@ -31,7 +31,7 @@ use Rattle.phase_laws.proofs.Progress.{MadeByRestarting, course, restarts}
 use Rattle.epoch_laws.proofs.Aside.{aside}
 use Rattle.epoch_laws.proofs.AtCoordinator.{node_stays}
 use Rattle.epoch_laws.proofs.ExactAside.{IsExact, each_now, exact_aside, near_now}
-use Rattle.epoch_laws.proofs.ExactSteps.{AreExact, AreNear, IsExactFor, IsNearIn, IsNoFurther, IsStill, IsStillTold, exact_out}
+use Rattle.epoch_laws.proofs.ExactSteps.{AreExact, AreNear, IsExactFor, IsNearIn, IsStill, IsStillTold, exact_out}
 use Rattle.epoch_laws.proofs.Few.{IsFew, few}
 use Rattle.epoch_laws.proofs.Forgetting.{all_good}
 use Rattle.epoch_laws.proofs.Good.{AllGood, IsGood, IsLetterRight, IsRight, in_phase, turns_in}
@@ -75,9 +75,7 @@ still_at s past e epoch from to _ at meant was = tt
 still_none : (s : ScriptData) (past : List Entry) (epoch from to : ℕ) (body : Body) (at : ℕ → Turns)
     → (restarting_in s past).epoch < epoch
     → IsRight s past from to body → IsStillTold epoch at from body
-still_none s past epoch from to (Numbers n u r l) at less right = λ is. absurd (omega (arith, is, less, right.epoch))
-still_none s past epoch from to Go at less right = tt
-still_none s past epoch from to _ at less right = tt
+still_none s past epoch from to body at less right = grind arith
 
 old_letters : (s : ScriptData) (past : List Entry) (e : Entry) (d : Restarting) → IsTreeLawful s → IsStepRun s past
     → IsGood s past
@@ -118,15 +116,7 @@ new_letters s past e epoch made =
 -- Nodes after it.
 exact_same : (n : ℕ) (phase : RestartPhase) (f : ℕ) (ts : AllTold) (old new : ℕ → Turns) → ((q : ℕ) → q < n → new q ≡ old q)
     → AreExact n phase f ts old → AreExact n phase f ts new
-exact_same n Recovering f ts old new same was =
-    λ q t lt has. subst (λ (x : Turns). IsStill x t.read t.low) (sym (same q lt)) (was q t lt has)
-exact_same n Idle f ts old new same was = λ q lt. subst (λ (x : Turns). IsNoFurther Idle f x) (sym (same q lt)) (was q lt)
-exact_same n (Doing what) f ts old new same was =
-    λ q lt. subst (λ (x : Turns). IsNoFurther (Doing what) f x) (sym (same q lt)) (was q lt)
-exact_same n (Counting reads) f ts old new same was =
-    λ q lt. subst (λ (x : Turns). IsNoFurther (Counting reads) f x) (sym (same q lt)) (was q lt)
-exact_same n (Paused reads) f ts old new same was =
-    λ q lt. subst (λ (x : Turns). IsNoFurther (Paused reads) f x) (sym (same q lt)) (was q lt)
+exact_same n phase f ts old new same was = grind arith
 
 near_same : (n f : ℕ) (old new : ℕ → Turns) → ((q : ℕ) → q < n → new q ≡ old q) → AreNear n f new → AreNear n f old
 near_same n f old new same now = record {

@@ -133,10 +133,7 @@ in_present : (c : Restarting) (old new : Turns) (what : What) (v : Version) (pha
     → IsCurrent c what v
     → (IsNoFurther (Doing what) c.ended old → IsNoFurther (Doing what) c.ended new) → IsNoFurther phase c.ended old
     → IsNoFurther phase c.ended new
-in_present c old new what v phase at current goes was =
-    let same : phase ≡ Doing what = sym at ∙ current.phase in
-    subst (λ (p : RestartPhase). IsNoFurther p c.ended new) (sym same)
-    (goes (subst (λ (p : RestartPhase). IsNoFurther p c.ended old) same was))
+in_present c old new what v phase at current goes was = grind arith
 
 further_moved : (c : Restarting) (old new : Turns) (phase : RestartPhase) → c.phase ≡ phase → Moved c old new
     → IsNoFurther phase c.ended old → IsNoFurther phase c.ended new

@@ -27,7 +27,6 @@ use Rattle.world_model.proofs.Every.{each_append, each_map, each_none, each_step
 use Rattle.world_model.proofs.Flows.{client_kept, flow}
 use Rattle.world_model.proofs.Lawful.{nudged}
 use Rattle.world_model.proofs.Nexts.{MadeByClient, Order}
-use Rattle.world_model.proofs.Nexts.{Turns, Shows, Sweeps, TellsDone, TellsAsked as TellsRequests}
 use Rattle.world_model.proofs.Restarts.{restarting_each}
 use Rattle.world_model.proofs.Sends.{advance_each, on}
 use Rattle.phase_laws.specs.Advances.{asked_for}
@@ -148,11 +147,7 @@ wakes_none os more none woken =
     (λ o wake. wake_none o.body wake) woken)
 
 order_none : (s : ScriptData) (st : Node) (body : Body) (out : Out Node) → Order s st body out → NoRequests out.sent
-order_none s st body out (Turns v bd is) = subst (λ (o : Out Node). NoRequests o.sent) (sym is) (tt, tt)
-order_none s st body out (Shows v bd is) = subst (λ (o : Out Node). NoRequests o.sent) (sym is) (tt, tt)
-order_none s st body out (Sweeps v bd is) = subst (λ (o : Out Node). NoRequests o.sent) (sym is) (tt, tt)
-order_none s st body out (TellsDone v k bd is) = subst (λ (o : Out Node). NoRequests o.sent) (sym is) (tt, tt)
-order_none s st body out (TellsRequests v k bd is) = subst (λ (o : Out Node). NoRequests o.sent) (sym is) (tt, tt)
+order_none s st body out is = grind arith
 
 heed_none : (s : ScriptData) (c d : Core) (body : Body) (sent : List Outgoing) → Heed s c d body sent → NoRequests sent
 heed_none s c d body sent (Leaves n of late same none) = subst NoRequests (sym none) tt

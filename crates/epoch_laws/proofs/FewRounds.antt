@@ -18,7 +18,6 @@ use Rattle.world_model.specs.declared.restarting.RestartPhase.TheVariants.{Idle,
 use Rattle.world_model.proofs.Lawful.{is_nudge}
 use Rattle.epoch_laws.proofs.RecoverSteps.{next_each, phase_each}
 use Rattle.epoch_laws.proofs.RestartSteps.{RestartStep, HearsMore, asked_kept, done_kept}
-use Rattle.epoch_laws.proofs.RestartSteps.{OfNode, OfClient}
 use Rattle.epoch_laws.proofs.RestartSteps.{Rests, Forgets, Wants, Goes, Recovers, Acks, Ends, Flags, Resumes, KeepsDone, KeepsAsked, Agrees, Recounts, Pauses}
 
 -- a letter that makes it forget
@@ -165,19 +164,7 @@ resumes_small a m n c body false told most was at is = same_small a m n c c body
 -- what it hears it keeps, and then it resumes if all is there
 heard_small : (a m n : ℕ) (c d : Restarting) (from : ℕ) (body : Body) → TellsUpTo m body → AreSmall a m n c
     → HearsMore c from body d → (d.epoch ≡ c.epoch) × (d.phase ≡ c.phase) × AreSmall a m n d
-heard_small a m n c d from body tells was (OfNode u r l bd lt is) =
-    subst (λ (x : Restarting). (x.epoch ≡ c.epoch) × (x.phase ≡ c.phase) × AreSmall a m n x) (sym is)
-    (refl, refl, record { wanted = was.wanted; heard = was.heard; rounds = was.rounds })
-heard_small a m n c d from body tells was (OfClient k bd client is) =
-    subst (λ (x : Restarting). (x.epoch ≡ c.epoch) × (x.phase ≡ c.phase) × AreSmall a m n x) (sym is) (
-      refl,
-      refl,
-      record {
-        wanted = was.wanted;
-        heard = λ j told. let same : k ≡ j = grind arith in subst (λ (i : ℕ). i ≤ m) same (tells.told c.epoch k bd);
-        rounds = was.rounds;
-      },
-    )
+heard_small a m n c d from body tells was is = grind arith
 
 hears_small : (a m n : ℕ) (c d : Restarting) (from : ℕ) (body : Body) → m ≤ a → TellsUpTo m body → AreSmall a m n c
     → c.phase ≡ Recovering → HearsMore c from body d → StaysSmall a m n c body (recover d).state

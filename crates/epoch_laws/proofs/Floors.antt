@@ -162,9 +162,7 @@ floor_waits s past e f shown m at none same more was = record {
 earlier_from : (s : ScriptData) (past : List Entry) (n f : ℕ) (shown : Bool) (from to : ℕ) (body : Body)
     → (restarting_in s past).epoch < n
     → IsRight s past from to body → TellsFrom n f shown body
-earlier_from s past n f shown from to (Numbers d u r l) lt right = λ now. absurd (omega (arith, right.epoch, now, lt))
-earlier_from s past n f shown from to Go lt right = tt
-earlier_from s past n f shown from to _ lt right = tt
+earlier_from s past n f shown from to body lt right = grind arith
 
 pub floor_forgets : (s : ScriptData) (past : List Entry) (e : Entry) (f : ℕ) (shown : Bool) → IsGood s past
     → e.actor.0 ≡ s.nodes → (restarting_in s past).epoch < (restarting_in s (e ∷ past)).epoch

@@ -6,7 +6,7 @@ use Rattle.std.proofs.lemmas.Bool.Decides.{nat_tests}
 use Rattle.tv_base.specs.declared.numbers.Version.{Version}
 use Rattle.letter_types.specs.Kept.{brought}
 use Rattle.letter_types.specs.declared.bodies.Body.{Body}
-use Rattle.letter_types.specs.declared.bodies.Body.TheVariants.{Go, Order, Sub as SubLetter}
+use Rattle.letter_types.specs.declared.bodies.Body.TheVariants.{Go, Order}
 use Rattle.letter_types.specs.declared.bodies.What.{What}
 use Rattle.letter_types.specs.declared.bodies.What.TheVariants as whats
 use Rattle.letter_types.specs.declared.entries.Entry.{Entry}
@@ -180,9 +180,7 @@ order_given : (s : ScriptData) (past : List Entry) (from to : ℕ) (body : Body)
 order_given s past from to body loses meant right = grind arith
 
 turned_to : (s : ScriptData) (past : List Entry) (body : Body) → tree_version body ≤ greatest_given TurnStage past → IsTurnedTo s past body
-turned_to s past (SubLetter t k v) le = λ updates. le
-turned_to s past Go le = tt
-turned_to s past _ le = tt
+turned_to s past body le = grind arith
 
 is_ahead : (s : ScriptData) (past : List Entry) (from to p : ℕ) (body : Body) → is_lossy s ≡ true → IsMeant s from to body
     → IsAhead (node_in s past p).turns body

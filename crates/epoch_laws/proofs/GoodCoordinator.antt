@@ -10,9 +10,6 @@ use Rattle.letter_types.specs.declared.bodies.What.{What}
 use Rattle.letter_types.specs.declared.bodies.What.TheVariants.{Turn as ToTurn, Show as ToShow, Sweep as ToSweep}
 use Rattle.letter_types.specs.declared.entries.Entry.{Entry}
 use Rattle.letter_types.specs.Steps.{Out, still}
-use Rattle.script_parts.specs.Forms.{most_nodes}
-use Rattle.script_parts.specs.declared.parts.Form.{Form}
-use Rattle.script_parts.specs.declared.parts.Form.TheVariants.{One, Two}
 use Rattle.tx_trees.specs.ScriptData.{ScriptData}
 use Rattle.world_model.specs.AllApt.{AllApt}
 use Rattle.world_model.specs.Coordinator.{to_nodes, with_asked}
@@ -52,10 +49,7 @@ few_before : (s : ScriptData) (past : List Entry) (e : Entry) → IsTold s past 
 few_before s past e h = few s past h.laws h.loses h.run.1 h.apt.1
 
 few_nodes : (s : ScriptData) → IsTreeLawful s → s.nodes ≤ 64
-few_nodes s laws = by s.form laws.valid.few_nodes where
-  by : (form : Form) → s.nodes ≤ most_nodes form → s.nodes ≤ 64
-  by One most = omega (arith, most)
-  by Two most = most
+few_nodes s laws = grind arith
 
 -- it comes to what its row says
 move : (s : ScriptData) (past : List Entry) (e : Entry) (out : Out Restarting) → IsTold s past e

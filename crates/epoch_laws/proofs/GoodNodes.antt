@@ -139,10 +139,7 @@ record SteadyBy (s : ScriptData) (past : List Entry) (phase : RestartPhase) (c :
 
 with_same : (s : ScriptData) (past : List Entry) (e : Entry) (phase : RestartPhase) → Remains s past e
     → SteadyBy s (e ∷ past) phase (restarting_in s past) → IsSteady s (e ∷ past) phase
-with_same s past e phase left steady =
-    let now : SteadyBy s (e ∷ past) phase (restarting_in s (e ∷ past)) =
-    subst (λ (c : Restarting). SteadyBy s (e ∷ past) phase c) (sym left.same) steady in
-    record { level = now.level; tokens = now.tokens; up_to = now.up_to }
+with_same s past e phase left steady = grind arith
 
 up_to_after : (s : ScriptData) (past : List Entry) (e : Entry) (f wanted : ℕ) → Remains s past e → IsUpTo past f wanted
     → IsUpTo (e ∷ past) f wanted

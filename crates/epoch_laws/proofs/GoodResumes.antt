@@ -135,11 +135,7 @@ record IsNext (s : ScriptData) (past : List Entry) (what : What) (f w : ℕ) : T
 next_level : (s : ScriptData) (past : List Entry) (what : What) (f w q k : ℕ) → IsGood s past → IsNext s past what f w → q < s.nodes → 1 ≤ k
     → (restarting_in s past).epoch ≤ epoch_in s past q → f ≤ (turns_in s past q).low.0
     → LevelOf (Doing what) f (restarting_in s past).epoch (epoch_in s past q) (turns_in s past q) k
-next_level s past ToTurn f w q k good next lq some since low = let was = good.within q lq in omega (arith, was, some, since, low)
-next_level s past ToShow f w q k good next lq some since low =
-    let was = good.within q lq in omega (arith, was, some, since, low, next.show refl)
-next_level s past ToSweep f w q k good next lq some since low =
-    let was = good.within q lq in omega (arith, was, some, since, low, next.sweep refl)
+next_level s past what f w q k good next lq some since low = grind arith
 
 next_may : (s : ScriptData) (past : List Entry) (what : What) (f w q : ℕ) → IsGood s past → IsNext s past what f w → q < s.nodes
     → f ≤ (turns_in s past q).low.0 → MayBeTold what f (turns_in s past q)
@@ -147,9 +143,7 @@ next_may s past what f w q good next lq low = grind arith
 
 next_anew : (s : ScriptData) (past : List Entry) (what : What) (d f w : ℕ) → f ≤ 100 → IsNext s past what f w
     → IsGivenAnew s past (Order d what (target what f))
-next_anew s past ToTurn d f w few next = tt
-next_anew s past ToShow d f w few next = inl (omega (arith, few, next.show refl))
-next_anew s past ToSweep d f w few next = inl (omega (arith, few, next.sweep refl))
+next_anew s past what d f w few next = grind arith
 
 resumes_by : (s : ScriptData) (past : List Entry) (e : Entry) (d : Restarting) (what : What) (f w : ℕ)
     → IsMove s past e (in_restart_phase (Doing what) (with_advances w f d)) → HasHeard s past d → IsFound s past d f w

@@ -264,27 +264,15 @@ IsCountOf reads _ = ⊥
 
 -- whose bounds are the same in both phases
 counts_by : (phase : RestartPhase) (reads : Bool) → IsCountOf reads phase → (phase ≡ Counting reads) ⊎ (phase ≡ Paused reads)
-counts_by (Counting r) reads is = inl (ap Counting is)
-counts_by (Paused r) reads is = inr (ap Paused is)
-counts_by Idle reads is = absurd is
-counts_by Recovering reads is = absurd is
-counts_by (Doing what) reads is = absurd is
+counts_by phase reads is = grind arith
 
 steady_count : (s : ScriptData) (past : List Entry) (phase : RestartPhase) (reads : Bool) → (phase ≡ Counting reads) ⊎ (phase ≡ Paused reads)
     → IsInPhase s past phase → IsSteady s past (Counting reads)
-steady_count s past phase reads (inl is) was = subst (λ (p : RestartPhase). IsInPhase s past p) is was
-steady_count s past phase reads (inr is) was = paused reads (subst (λ (p : RestartPhase). IsInPhase s past p) is was) where
-  paused : (r : Bool) → IsSteady s past (Paused r) → IsSteady s past (Counting r)
-  paused true old = record { level = λ q lt. omega (arith, old.level q lt); tokens = tt; up_to = old.up_to }
-  paused false old = record { level = λ q lt. omega (arith, old.level q lt); tokens = tt; up_to = old.up_to }
+steady_count s past phase reads is was = grind arith
 
 back_count : (s : ScriptData) (past : List Entry) (phase : RestartPhase) (reads : Bool) → (phase ≡ Counting reads) ⊎ (phase ≡ Paused reads)
     → IsSteady s past (Counting reads) → IsInPhase s past phase
-back_count s past phase reads (inl is) was = subst (λ (p : RestartPhase). IsInPhase s past p) (sym is) was
-back_count s past phase reads (inr is) was = subst (λ (p : RestartPhase). IsInPhase s past p) (sym is) (paused reads was) where
-  paused : (r : Bool) → IsSteady s past (Counting r) → IsSteady s past (Paused r)
-  paused true old = record { level = λ q lt. omega (arith, old.level q lt); tokens = tt; up_to = old.up_to }
-  paused false old = record { level = λ q lt. omega (arith, old.level q lt); tokens = tt; up_to = old.up_to }
+back_count s past phase reads is was = grind arith
 
 not_doing : (phase : RestartPhase) (reads : Bool) (what : What) → (phase ≡ Counting reads) ⊎ (phase ≡ Paused reads) → phase ≡ Doing what → ⊥
 not_doing phase reads what (inl is) doing = cc (is, doing)

@@ -79,9 +79,7 @@ abbrev HasEndedAt : ScriptData → List Entry → ℕ → Type 0
 HasEndedAt s past f = (q : ℕ) → q < s.nodes → f ≤ (turns_in s past q).low.0
 
 end_right : (s : ScriptData) (past : List Entry) (f from to : ℕ) (body : Body) → HasEndedAt s past f → IsEnd f body → IsRight s past from to body
-end_right s past f from to (Advanced v) ended is = λ q lt. omega (arith, is, ended q lt)
-end_right s past f from to Go ended is = absurd is
-end_right s past f from to _ ended is = absurd is
+end_right s past f from to body ended is = grind arith
 
 ended_now : (s : ScriptData) (past : List Entry) (e : Entry) (x : Restarting) (f : ℕ) → IsMove s past e x → HasEndedAt s past f
     → HasEndedAt s (e ∷ past) f

@@ -5,7 +5,7 @@ use Rattle.std.proofs.lemmas.Bool.{cases_eq}
 use Rattle.std.proofs.lemmas.Bool.Decides.{nat_tests}
 use Rattle.tv_base.specs.declared.numbers.Version.{Version}
 use Rattle.letter_types.specs.declared.bodies.Body.{Body}
-use Rattle.letter_types.specs.declared.bodies.Body.TheVariants.{Wake, Ask, Order, Obeyed}
+use Rattle.letter_types.specs.declared.bodies.Body.TheVariants.{Wake, Order, Obeyed}
 use Rattle.letter_types.specs.declared.bodies.What.{What}
 use Rattle.letter_types.specs.declared.entries.Entry.{Entry}
 use Rattle.letter_types.specs.declared.entries.Outgoing.{Outgoing}
@@ -131,9 +131,7 @@ took_none s past e m none sent = stay s past e m (λ f weighs. weighs.none e.too
 
 -- a letter of an epoch before the node's isn't of the present one
 late_none : (m n from to : ℕ) (body : Body) (f : ℕ → ℕ → Body → ℕ) → Weighs n f → IsOfEpoch m body → m < n → f from to body ≡ 0
-late_none m n from to (Order k what v) f weighs of less = weighs.order from to k what v (λ same. omega (arith, of, less, same))
-late_none m n from to (Ask k) f weighs of less = weighs.none from to (Ask k) tt
-late_none m n from to _ f weighs of less = absurd of
+late_none m n from to body f weighs of less = grind arith
 
 -- an order of another epoch is answered
 old_passes : (s : ScriptData) (past : List Entry) (e : Entry) (k : ℕ) (what : What) (v : Version) (more : List Outgoing)

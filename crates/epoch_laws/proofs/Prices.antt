@@ -153,11 +153,7 @@ next_orders n wanted f = next_each (λ (p : RestartPhase). ordered n p ≡ begun
 
 -- Steps.
 pub recovers_or : (phase : RestartPhase) → (phase ≡ Recovering) ⊎ Knows phase
-recovers_or Recovering = inl refl
-recovers_or Idle = inr (λ is. cc is)
-recovers_or (Doing what) = inr (λ is. cc is)
-recovers_or (Counting reads) = inr (λ is. cc is)
-recovers_or (Paused reads) = inr (λ is. cc is)
+recovers_or phase = grind arith
 
 spends : (n : ℕ) (c : Restarting) (from : ℕ) (body : Body) (out next : Out Restarting) → out ≡ next → Knows c.phase
     → Knows next.state.phase → next.state.epoch ≡ c.epoch → Pays n c body next → StepCosts n c from body out

@@ -1,5 +1,5 @@
 -- What of an advancement a coordinator that forgets need not do again, and how much it has done of all.
-use Rattle.std.proofs.Common.{if◌then◌else◌, ◌≡◌, ◌⊎◌, inl, inr, ℕ, ◌+◌, ◌*◌, ◌<◌, ◌≤◌, ◌==◌, ◌&&◌, Bool, true, false, List, [], ◌∷◌, refl, sym, ap, subst, ◌∙◌, arith}
+use Rattle.std.proofs.Common.{if◌then◌else◌, ◌≡◌, ◌⊎◌, inl, inr, ℕ, ◌+◌, ◌*◌, ◌<◌, ◌≤◌, ◌==◌, ◌&&◌, Bool, true, false, List, [], ◌∷◌, refl, ap, arith}
 use Rattle.std.specs.List.{list_any}
 use Rattle.std.proofs.Math.Nat.{mul-le-mul_right}
 use Rattle.std.proofs.lemmas.Bool.Decides.{nat_tests}
@@ -17,7 +17,7 @@ use Rattle.tx_trees.specs.ScriptData.{ScriptData}
 use Rattle.tx_trees.specs.Valid.{IsValid}
 use Rattle.world_model.specs.Coordinator.{to_nodes}
 use Rattle.world_model.specs.Counts.{one_if, tally}
-use Rattle.world_model.specs.Restarting.{AllTold, Restarting, forget, least_low, phase_by, read_is, target, to_client}
+use Rattle.world_model.specs.Restarting.{AllTold, Restarting, forget, least_low, phase_by, read_is, to_client}
 use Rattle.world_model.specs.Runs.{in_flight, restarting_in}
 use Rattle.world_model.specs.declared.restarting.RestartPhase.{RestartPhase}
 use Rattle.world_model.specs.declared.restarting.RestartPhase.TheVariants.{Idle, Recovering, Doing, Counting, Paused}
@@ -121,12 +121,7 @@ current_turn : (s : ScriptData) (past : List Entry) (what : What) (v : Version) 
     → (restarting_in s past).phase ≡ Doing ToTurn → IsCurrent (restarting_in s past) what v
     → v.0 ≤ greatest_given (stage_of what) past
     → (restarting_in s past).ended + 2 ≤ greatest_given TurnStage past
-current_turn s past what v few at current given =
-    let c = restarting_in s past in
-    let is : what ≡ ToTurn = cc (sym current.phase ∙ at) in
-    let told : v.0 ≤ greatest_given TurnStage past = subst (λ (w : What). v.0 ≤ greatest_given (stage_of w) past) is given in
-    let version : v.0 ≡ (target ToTurn c.ended).0 = current.version ∙ ap (λ (w : What). (target w c.ended).0) is in
-    omega (arith, told, version, few)
+current_turn s past what v few at current given = grind arith
 
 apart : (a b : ℕ) (test : Bool) → (a ≡ b → ⊥) → one_if ((a == b) && test) ≡ 0
 apart a b test ne = let no : (a == b) ≡ false = grind (arith, nat_tests) in rw no refl

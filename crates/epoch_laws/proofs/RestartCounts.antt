@@ -68,11 +68,7 @@ IsNewCount s reads v past = AllGood s past × IsNotGiven reads v past
 
 -- the phase that counts is the one in which a round is counted
 pub counting_is : (phase : RestartPhase) (reads : Bool) → pace_of phase ≡ InRound reads → phase ≡ Counting reads
-counting_is (Counting r) reads is = let same : r ≡ reads = cc is in ap Counting same
-counting_is (Paused r) reads is = absurd (cc is)
-counting_is (Doing what) reads is = absurd (cc is)
-counting_is Idle reads is = absurd (cc is)
-counting_is Recovering reads is = absurd (cc is)
+counting_is phase reads is = grind arith
 
 -- 1. The phases that a coordinator goes to without a count, and what it sends then.
 next_none : (wanted f : ℕ) → pace_of (next_advance wanted f) ≡ NoRound

@@ -1,5 +1,5 @@
 -- What each step of a coordinator that forgets makes of the number of advancements that it wants.
-use Rattle.std.proofs.Common.{◌≡◌, ◌⊎◌, inl, inr, ℕ, ◌≤◌, Bool, true, false, [], refl, sym, ap, subst, ◌∙◌, arith, Some}
+use Rattle.std.proofs.Common.{◌≡◌, ◌⊎◌, inl, inr, ℕ, ◌≤◌, Bool, true, false, [], refl, sym, ap, subst, arith, Some}
 use Rattle.std.specs.Prelude.{max, nat_le}
 use Rattle.std.proofs.Math.Nat.{le-max_left, le-max_right}
 use Rattle.std.proofs.lemmas.Bool.Decides.{nat_tests}
@@ -129,12 +129,7 @@ wants_more a c from body out (Pauses reads v k row takes verdict flag is) =
 -- While it recovers, it waits on for what covers all, or resumes with that.
 pub heard_covers : (a : ℕ) (c d : Restarting) (from : ℕ) (body : Body) → HearsMore c from body d → Covers c.epoch a body
     → ((k : ℕ) → c.heard ≡ Some k → a ≤ k) → (k : ℕ) → d.heard ≡ Some k → a ≤ k
-heard_covers a c d from body (OfNode u r l bd lt is) covers was = λ k at. was k (sym (ap (λ (x : Restarting). x.heard) is) ∙ at)
-heard_covers a c d from body (OfClient j bd it is) covers was = λ k at.
-    let told : a ≤ j = subst (Covers c.epoch a) bd covers refl in
-    let same : Some j ≡ Some k = sym (ap (λ (x : Restarting). x.heard) is) ∙ at in
-    let here : j ≡ k = cc same in
-    omega (arith, told, here)
+heard_covers a c d from body k covers was = grind arith
 
 pub more_waits : (c d : Restarting) (from : ℕ) (body : Body) → HearsMore c from body d
     → (d.phase ≡ c.phase) × (d.epoch ≡ c.epoch)

@@ -8,7 +8,7 @@ use Rattle.std.proofs.lemmas.Bool.{cases_eq}
 use Rattle.std.proofs.lemmas.Bool.Decides.{nat_tests}
 use Rattle.tv_base.specs.Outside.{one_more}
 use Rattle.letter_types.specs.declared.bodies.Body.{Body}
-use Rattle.letter_types.specs.declared.bodies.Body.TheVariants.{Go, AdvanceNo, Wanted}
+use Rattle.letter_types.specs.declared.bodies.Body.TheVariants.{AdvanceNo, Wanted}
 use Rattle.letter_types.specs.declared.entries.Entry.{Entry}
 use Rattle.letter_types.specs.declared.entries.Letter.{Letter}
 use Rattle.letter_types.specs.declared.entries.LetterId.{LetterId}
@@ -216,9 +216,7 @@ letters_cover s past e epoch a made was =
 
 new_covers : (s : ScriptData) (past : List Entry) (epoch a from to : ℕ) (body : Body) → (restarting_in s past).epoch < epoch
     → IsRight s past from to body → Covers epoch a body
-new_covers s past epoch a from to (Wanted d k) less right = λ now. absurd (omega (arith, now, less, right.epoch))
-new_covers s past epoch a from to Go less right = tt
-new_covers s past epoch a from to _ less right = tt
+new_covers s past epoch a from to body less right = grind arith
 
 -- it forgets: nothing was told in the new epoch
 will_hear_anew : (s : ScriptData) (past : List Entry) (e : Entry) (a : ℕ) → IsGood s past → IsFew s past
