@@ -1,5 +1,5 @@
 -- An entry of the coordinator leaves nodes and the client, and letters that it doesn't take.
-use Rattle.std.proofs.Common.{◌≡◌, ◌⊎◌, inl, inr, ℕ, zero, suc, ◌+◌, ◌<◌, ◌≤◌, ◌==◌, List, [], ◌∷◌, refl, sym, ap, subst, ◌∙◌, arith}
+use Rattle.std.proofs.Common.{◌≡◌, ◌⊎◌, inl, inr, ℕ, zero, suc, ◌+◌, ◌<◌, ◌≤◌, List, [], ◌∷◌, refl, sym, ap, subst, ◌∙◌, arith}
 use Rattle.std.specs.Prelude.{take}
 use Rattle.letter_types.specs.Letters.{drop_id, letters_of}
 use Rattle.letter_types.specs.declared.bodies.Body.{Body}
@@ -80,10 +80,7 @@ none_left s past e m last =
 
 -- An order to a node is one of the epoch's letters.
 pub order_most : (e q from to : ℕ) (body : Body) → order_to e q from to body ≤ token e from to body
-order_most e q from to (Order d what v) = one_if_and (d == e) (to == q)
-order_most e q from to (Obeyed d what v) = omega arith
-order_most e q from to Go = omega arith
-order_most e q from to _ = omega arith
+order_most e q from to body = grind (arith, one_if_and)
 
 -- Orders to all nodes.
 pub orders_tokens : (n e a : ℕ) (what : What) (v : Version) → tally (leaving (token e) a) (to_nodes n (Order e what v)) ≡ n

@@ -14,7 +14,7 @@ use Rattle.tx_trees.specs.ScriptData.{ScriptData}
 use Rattle.tx_trees.specs.Valid.{IsValid}
 use Rattle.world_model.specs.AllApt.{AllApt}
 use Rattle.world_model.specs.Counts.{tally}
-use Rattle.world_model.specs.Restarting.{Restarting, forget, least_low, phase_by, restarting_row, resume, with_advances}
+use Rattle.world_model.specs.Restarting.{Restarting, forget, least_low, phase_by, restarting_row, resume}
 use Rattle.world_model.specs.Runs.{IsStepRun, MayFollow, restarting_in}
 use Rattle.world_model.specs.declared.restarting.RestartPhase.TheVariants.{Recovering}
 use Rattle.world_model.proofs.Lawful.{nudged}
@@ -206,18 +206,10 @@ paid_waits s past e out m at state sent is after epoch more none was =
 -- it resumes
 resume_price : (n k : ℕ) (d : Restarting) → d.nodes ≡ n
     → tally (on price) (resume k d).sent ≡ 1 + ordered n (phase_by d.told (max d.wanted k) (least_low d.told))
-resume_price n k d nodes =
-    omega (
-      arith,
-      orders_price n (phase_by d.told (max d.wanted k) (least_low d.told))
-          (with_advances (max d.wanted k) (least_low d.told) d) nodes,
-    )
+resume_price n k d nodes = grind (arith, orders_price)
 
 resume_owes : (n k : ℕ) (d : Restarting) → owed n (resume k d).state ≡ 0
-resume_owes n k d =
-    let e : IsEntered n (phase_by d.told (max d.wanted k) (least_low d.told)) =
-    by_entered n d.told (max d.wanted k) (least_low d.told) in
-    omega (arith, e.unasked d.count.current.dones, e.promised d.count.flag)
+resume_owes n k d = grind (arith, by_entered)
 
 paid_resumes : (s : ScriptData) (past : List Entry) (e : Entry) (k : ℕ) (d : Restarting) → IsValid s → IsGood s past
     → MayFollow s past e

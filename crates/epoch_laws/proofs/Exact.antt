@@ -5,7 +5,6 @@ use Rattle.std.proofs.Common.{◌≡◌, ◌≢◌, ◌⊎◌, inl, inr, ℕ, �
 use Rattle.std.proofs.lemmas.Bool.{cases_eq}
 use Rattle.tv_base.specs.Outside.{one_more}
 use Rattle.letter_types.specs.declared.bodies.Body.{Body}
-use Rattle.letter_types.specs.declared.bodies.Body.TheVariants.{Go, Numbers}
 use Rattle.letter_types.specs.declared.entries.Entry.{Entry}
 use Rattle.letter_types.specs.declared.entries.Letter.{Letter}
 use Rattle.letter_types.specs.declared.entries.LetterId.{LetterId}
@@ -31,7 +30,7 @@ use Rattle.phase_laws.proofs.Progress.{MadeByRestarting, course, restarts}
 use Rattle.epoch_laws.proofs.Aside.{aside}
 use Rattle.epoch_laws.proofs.AtCoordinator.{node_stays}
 use Rattle.epoch_laws.proofs.ExactAside.{IsExact, each_now, exact_aside, near_now}
-use Rattle.epoch_laws.proofs.ExactSteps.{AreExact, AreNear, IsExactFor, IsNearIn, IsStill, IsStillTold, exact_out}
+use Rattle.epoch_laws.proofs.ExactSteps.{AreExact, AreNear, IsExactFor, IsNearIn, IsStillTold, exact_out}
 use Rattle.epoch_laws.proofs.Few.{IsFew, few}
 use Rattle.epoch_laws.proofs.Forgetting.{all_good}
 use Rattle.epoch_laws.proofs.Good.{AllGood, IsGood, IsLetterRight, IsRight, in_phase, turns_in}
@@ -66,10 +65,7 @@ turns_stay s past e q at lt = ap (λ (n : KeepingNode). n.core.node.turns) (node
 still_at : (s : ScriptData) (past : List Entry) (e : Entry) (epoch from to : ℕ) (body : Body) → e.actor.0 ≡ s.nodes
     → IsMeant s from to body → IsStillTold epoch (turns_in s past) from body
     → IsStillTold epoch (turns_in s (e ∷ past)) from body
-still_at s past e epoch from to (Numbers n u r l) at meant was = λ is.
-    subst (λ (t : Turns). IsStill t r l) (sym (turns_stay s past e from at meant.0.0)) (was is)
-still_at s past e epoch from to Go at meant was = tt
-still_at s past e epoch from to _ at meant was = tt
+still_at s past e epoch from to body at meant was = grind (arith, turns_stay)
 
 -- no letter is of a new epoch
 still_none : (s : ScriptData) (past : List Entry) (epoch from to : ℕ) (body : Body) (at : ℕ → Turns)

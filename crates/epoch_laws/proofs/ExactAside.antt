@@ -90,9 +90,7 @@ raised_moved c old new false v is = Stood (ap (λ (t : Turns). t.read.0) is) (ap
 -- whoever's entry it is
 away_moved : (s : ScriptData) (past : List Entry) (e : Entry) (q : ℕ) → e.actor.0 ≢ q
     → Moved (restarting_in s past) (turns_in s past q) (turns_in s (e ∷ past) q)
-away_moved s past e q ne =
-    let same =
-    node_kept s past e q ne in Stood (ap (λ (st : Node). st.turns.read.0) same) (ap (λ (st : Node). st.turns.low.0) same)
+away_moved s past e q ne = grind (arith, node_kept)
 
 at_moved : (s : ScriptData) (past : List Entry) (e : Entry) (p q : ℕ) → e.actor.0 ≡ p
     → (p ≡ q → Moved (restarting_in s past) (turns_in s past p) (turns_in s (e ∷ past) p)) → (p ≡ q) ⊎ (p ≢ q)

@@ -1,6 +1,6 @@
 -- What each step of a coordinator that forgets makes of exact versions: it keeps what it was told just as it is, and goes on in
 -- the phase in which nodes are.
-use Rattle.std.proofs.Common.{◌≡◌, ◌≢◌, ◌⊎◌, inl, inr, ℕ, zero, suc, ◌+◌, ◌<◌, ◌≤◌, ◌==◌, ◌||◌, Bool, true, false, [], ◌∷◌, length, refl, sym, subst, ◌∙◌, arith, Option, Some}
+use Rattle.std.proofs.Common.{◌≡◌, ◌≢◌, ℕ, zero, suc, ◌+◌, ◌<◌, ◌≤◌, ◌==◌, ◌||◌, Bool, true, false, [], ◌∷◌, length, refl, sym, subst, ◌∙◌, arith, Option, Some}
 use Rattle.std.specs.Prelude.{max, not, slice_set}
 use Rattle.std.specs.List.{list_any}
 use Rattle.std.proofs.lemmas.Bool.Decides.{nat_tests}
@@ -83,10 +83,7 @@ in_phase n c at phase is was = subst (λ (p : RestartPhase). AreExact n p c.ende
 
 next_exact : (n f wanted : ℕ) (ts : AllTold) (at : ℕ → Turns)
     → ((q : ℕ) → q < n → ((at q).low.0 ≤ f) × ((at q).read.0 ≤ f)) → AreExact n (next_advance wanted f) f ts at
-next_exact n f wanted ts at all =
-    next_each (λ (p : RestartPhase). AreExact n p f ts at) wanted f
-    (λ less q lt. record { low = (all q lt).0; read = (all q lt).1 })
-    (λ most q lt. record { low = (all q lt).0; read = (all q lt).1 })
+next_exact n f wanted ts at all = grind (arith, next_each)
 
 counting_exact : (n f : ℕ) (reads : Bool) (at : ℕ → Turns) → AreNoFurther n (Paused reads) f at
     → AreNoFurther n (Counting reads) f at
@@ -193,12 +190,7 @@ record IsToldMore (n : ℕ) (d : Restarting) (at : ℕ → Turns) : Type 0 where
 
 put_still : (n : ℕ) (ts : AllTold) (at : ℕ → Turns) (from : ℕ) (t : Told) → AreStill n ts at → IsStill (at from) t.read t.low
     → AreStill n (slice_set ts from (Some t)) at
-put_still n ts at from t was now = λ q x lt has. by q x lt (set_get ts from q (Some t) (Some x) has) where
-  by : (q : ℕ) (x : Told) → q < n → ((from ≡ q) × (Some t ≡ Some x)) ⊎ HasTold ts q x → IsStill (at q) x.read x.low
-  by q x lt (inl (here, same)) =
-      let is : t ≡ x = cc same in
-      subst (λ (k : ℕ). IsStill (at k) x.read x.low) here (subst (λ (y : Told). IsStill (at from) y.read y.low) is now)
-  by q x lt (inr has) = was q x lt has
+put_still n ts at from t was now = grind (arith, set_get)
 
 hears_exact : (n : ℕ) (c d : Restarting) (at : ℕ → Turns) (from : ℕ) (body : Body) → length c.told ≡ n → c.phase ≡ Recovering
     → AreStill n c.told at → IsStillTold c.epoch at from body → HearsMore c from body d → IsToldMore n d at

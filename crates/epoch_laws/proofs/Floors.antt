@@ -190,13 +190,7 @@ record IsSeen (t : Told) (f : ℕ) (shown : Bool) : Type 0 where
 
 seen : (s : ScriptData) (past : List Entry) (q : ℕ) (t : Told) (f : ℕ) (shown : Bool) → IsValid s → IsGood s past → q < s.nodes
     → IsHeardOf s past q t → IsFrom f shown t.read.0 t.low.0 → IsSeen t f shown
-seen s past q t f shown valid good lt heard from =
-    let within = good.within q lt in
-    record {
-      from = from;
-      showed = omega (arith, heard.told.read, within.read_showed, heard.latest.showed);
-      small = omega (arith, heard.told.low, low_few s past q valid good lt);
-    }
+seen s past q t f shown valid good lt heard from = grind (arith, low_few)
 
 -- a test that one of the told numbers passes
 any_told : (test : Option Told → Bool) (ts : AllTold) (q : ℕ) (t : Told) → HasTold ts q t → test (Some t) ≡ true

@@ -1,5 +1,5 @@
 -- What holds after each entry of a run of a coordinator that forgets.
-use Rattle.std.proofs.Common.{◌≡◌, ℕ, ◌+◌, ◌<◌, ◌≤◌, ◌==◌, ◌&&◌, true, List, [], ◌∷◌, length, Some, arith, refl, subst}
+use Rattle.std.proofs.Common.{◌≡◌, ℕ, ◌+◌, ◌<◌, ◌≤◌, ◌==◌, ◌&&◌, true, List, [], ◌∷◌, length, Some, arith, subst}
 use Rattle.std.specs.Prelude.{slice_get}
 use Rattle.tv_base.specs.declared.numbers.Version.{Version}
 use Rattle.letter_types.specs.declared.bodies.Body.{Body}
@@ -211,13 +211,7 @@ Knows phase = phase ≡ Recovering → ⊥
 
 pub steady_in : (s : ScriptData) (past : List Entry) (phase : RestartPhase) → IsGood s past
     → (restarting_in s past).phase ≡ phase → Knows phase → IsSteady s past phase
-steady_in s past phase good at knows = by phase knows (in_phase s past phase good at) where
-  by : (p : RestartPhase) → Knows p → IsInPhase s past p → IsSteady s past p
-  by Idle known is = is
-  by (Doing what) known is = is
-  by (Counting reads) known is = is
-  by (Paused reads) known is = is
-  by Recovering known is = absurd (known refl)
+steady_in s past phase good at knows = grind (arith, in_phase)
 
 -- How far nodes are: no further than what was given, nor than the advancements that the client asks for.
 pub low_turned : (past : List Entry) (turns : Turns) → IsWithin past turns → turns.low.0 + 1 ≤ greatest_given TurnStage past

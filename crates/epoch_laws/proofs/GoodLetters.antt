@@ -49,16 +49,7 @@ told_stays s past e q u r l left lt was = omega (arith, was, (left.fares q lt).r
 pub latest_stays : (s : ScriptData) (past : List Entry) (e : Entry) (q l : ℕ) → Remains s past e → q < s.nodes
     → IsLatest s past q l
     → IsLatest s (e ∷ past) q l
-latest_stays s past e q l left lt was =
-    omega (
-      arith,
-      was,
-      (left.fares q lt).rises,
-      same_epoch s past e left,
-      left.given TurnStage,
-      left.given ShowStage,
-      left.given SweepStage,
-    )
+latest_stays s past e q l left lt was = grind (arith, same_epoch)
 
 current_stays : (s : ScriptData) (past : List Entry) (e : Entry) (n : ℕ) (what : What) (v : Version) → Remains s past e
     → (n ≡ (restarting_in s past).epoch → IsCurrent (restarting_in s past) what v)

@@ -47,17 +47,7 @@ use Rattle.epoch_laws.proofs.AfterCoordinator.{closed_below}
 -- What nodes come to stays within what was given.
 within_after : (s : ScriptData) (past : List Entry) (e : Entry) (p : ℕ) → IsGood s past → Remains s past e → p < s.nodes
     → IsWithin (e ∷ past) (turns_in s (e ∷ past) p)
-within_after s past e p good left lt =
-    let fares = left.fares p lt in
-    omega (
-      arith,
-      good.within p lt,
-      fares,
-      fares.rises,
-      left.given TurnStage,
-      left.given ShowStage,
-      left.given SweepStage,
-    )
+within_after s past e p good left lt = grind arith
 
 -- Below what was swept to no root is born, so all stays silent.
 silent_after : (s : ScriptData) (past : List Entry) (e : Entry) (v : ℕ) → IsTreeLawful s → IsStepRun s (e ∷ past)

@@ -288,10 +288,7 @@ before f = omega arith
 shown_anew : (s : ScriptData) (past : List Entry) (f : ℕ) (v : Version) → v.0 ≡ f + 1 → f ≤ greatest_given ShowStage past
     → (greatest_given ShowStage past < f + 1 → IsSilent s past (f + 1)) → ((q : ℕ) → q < s.nodes → f + 1 < (turns_in s past q).update.0)
     → IsShownAnew s past v.0
-shown_anew s past f v is from silent above = subst (IsShownAnew s past) (sym is) (by (under_or (f + 1) (greatest_given ShowStage past))) where
-  by : (f + 1 ≤ greatest_given ShowStage past) ⊎ (greatest_given ShowStage past < f + 1) → IsShownAnew s past (f + 1)
-  by (inl old) = inl old
-  by (inr new) = inr (omega (arith, new, from), record { silent = silent new; above = above })
+shown_anew s past f v is from silent above = grind (arith, under_or)
 
 swept_anew : (s : ScriptData) (past : List Entry) (f : ℕ) (v : Version) → v.0 ≡ f + 1 → f ≤ greatest_given SweepStage past
     → (greatest_given SweepStage past ≤ f → IsSilent s past f) → ((q : ℕ) → q < s.nodes → f + 1 ≤ (turns_in s past q).read.0)

@@ -1,6 +1,6 @@
 -- The coordinator recovers: it hears more, and once it has heard all it goes on from what it was told.
-use Rattle.std.proofs.Common.{◌≡◌, ◌≢◌, ◌⊎◌, inl, inr, ℕ, ◌+◌, ◌<◌, ◌≤◌, Bool, true, false, List, [], ◌∷◌, length, refl, sym, ap, subst, ◌∙◌, arith, Option, Some, None}
-use Rattle.std.specs.Prelude.{is_some, max, slice_get, slice_set}
+use Rattle.std.proofs.Common.{◌≡◌, ◌≢◌, ℕ, ◌+◌, ◌<◌, ◌≤◌, Bool, true, false, List, [], ◌∷◌, length, refl, sym, ap, subst, ◌∙◌, arith, Option, Some, None}
+use Rattle.std.specs.Prelude.{is_some, max, slice_set}
 use Rattle.std.specs.List.{list_all, list_any}
 use Rattle.std.proofs.Math.Nat.{le-max_right, max-le}
 use Rattle.std.proofs.lemmas.List.{length-set}
@@ -46,12 +46,7 @@ pub record HasHeard (s : ScriptData) (past : List Entry) (d : Restarting) : Type
 more_told : (s : ScriptData) (past : List Entry) (ts : AllTold) (from : ℕ) (new : Told) → IsHeardOf s past from new
     → ((q : ℕ) (t : Told) → q < s.nodes → HasTold ts q t → IsHeardOf s past q t)
     → (q : ℕ) (t : Told) → q < s.nodes → HasTold (slice_set ts from (Some new)) q t → IsHeardOf s past q t
-more_told s past ts from new here old q t lt has = by (set_get ts from q (Some new) (Some t) has) where
-  by : ((from ≡ q) × (Some new ≡ Some t)) ⊎ (slice_get ts q ≡ Some (Some t)) → IsHeardOf s past q t
-  by (inl (at, is)) =
-      let same : new ≡ t = cc is in
-      subst (λ (u : Told). IsHeardOf s past q u) same (subst (λ (n : ℕ). IsHeardOf s past n new) at here)
-  by (inr was) = old q t lt was
+more_told s past ts from new here old q t lt has = grind (arith, set_get)
 
 pub heard_more : (s : ScriptData) (past : List Entry) (e : Entry) (d : Restarting) → IsGood s past → IsFew s past
     → MayFollow s past e → (restarting_in s past).phase ≡ Recovering

@@ -1,6 +1,5 @@
 -- Entries of the coordinator that ask at most: nothing new is given.
-use Rattle.std.proofs.Common.{◌≡◌, ◌⊎◌, inl, inr, ℕ, ◌+◌, ◌<◌, ◌≤◌, ◌==◌, Bool, true, false, List, [], ◌∷◌, length, refl, sym, ap, subst, ◌∙◌, arith, Some}
-use Rattle.std.proofs.lemmas.Bool.Decides.{nat_tests}
+use Rattle.std.proofs.Common.{◌≡◌, ◌⊎◌, inl, inr, ℕ, ◌+◌, ◌<◌, ◌≤◌, Bool, true, false, List, [], ◌∷◌, length, refl, sym, ap, subst, ◌∙◌, arith, Some}
 use Rattle.tv_base.specs.Outside.{one_more}
 use Rattle.tv_base.specs.declared.numbers.Version.{Version}
 use Rattle.letter_types.specs.declared.bodies.Body.{Body}
@@ -152,10 +151,7 @@ same_order : (what : What) → same_what what what ≡ true
 same_order what = grind arith
 
 answer_now : (d : ℕ) (what : What) (v : Version) (c : Restarting) → d ≡ c.epoch → v.0 ≡ (target what c.ended).0 → is_answer d what v what c ≡ true
-answer_now d what v c epoch version =
-    let one : (d == c.epoch) ≡ true = grind (arith, nat_tests) in
-    let two : (v.0 == (target what c.ended).0) ≡ true = grind (arith, nat_tests) in
-    rw (one, same_order what, two) refl
+answer_now d what v c epoch version = grind (arith, same_order)
 
 doing_is : (a b : What) → Doing a ≡ Doing b → a ≡ b
 doing_is a b is = cc is

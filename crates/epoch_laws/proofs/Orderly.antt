@@ -7,7 +7,6 @@ use Rattle.tv_base.specs.Outside.{one_more}
 use Rattle.phase_out.specs.Counts.{nudged}
 use Rattle.letter_types.specs.declared.bodies.Body.{Body}
 use Rattle.letter_types.specs.declared.bodies.What.{What}
-use Rattle.letter_types.specs.declared.bodies.What.TheVariants.{Turn as ToTurn, Show as ToShow, Sweep as ToSweep}
 use Rattle.letter_types.specs.declared.entries.Entry.{Entry}
 use Rattle.letter_types.specs.declared.entries.Letter.{Letter}
 use Rattle.letter_types.specs.Steps.{Out, still}
@@ -47,9 +46,7 @@ busy_in : (n : ℕ) (d : Restarting) (phase : RestartPhase) → d.phase ≡ phas
 busy_in n d phase is few busy = record { acks = few; idle = λ idle. absurd (busy (sym is ∙ idle)) }
 
 done_orderly : (n : ℕ) (what : What) (c : Restarting) → 1 ≤ n → IsOrderly n (after_doing what c).state
-done_orderly n ToTurn c some = record { acks = omega (arith, some); idle = λ is. absurd (cc is) }
-done_orderly n ToShow c some = record { acks = omega (arith, some); idle = λ is. absurd (cc is) }
-done_orderly n ToSweep c some = record { acks = omega (arith, some); idle = λ is. next_idle c.wanted (one_more c.ended) is }
+done_orderly n what c some = grind (arith, next_idle)
 
 ends_orderly : (n : ℕ) (reads : Bool) (c : Restarting) → 1 ≤ n → IsOrderly n (end_counting reads c).state
 ends_orderly n true c some = record { acks = omega (arith, some); idle = λ is. absurd (cc is) }

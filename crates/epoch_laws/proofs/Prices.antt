@@ -14,7 +14,7 @@ use Rattle.letter_types.specs.declared.bodies.What.TheVariants.{Turn as ToTurn, 
 use Rattle.letter_types.specs.Steps.{Out, still}
 use Rattle.world_model.specs.Coordinator.{to_nodes}
 use Rattle.world_model.specs.Counts.{tally}
-use Rattle.world_model.specs.Restarting.{Restarting, AllTold, after_doing, begin_counting, version_counted, with_advances, end_counting, enter, forget, in_restart_phase, next_advance, orders, resume, resume_if, target, with_wanted}
+use Rattle.world_model.specs.Restarting.{Restarting, AllTold, after_doing, begin_counting, version_counted, with_advances, end_counting, enter, forget, in_restart_phase, next_advance, orders, resume, resume_if, with_wanted}
 use Rattle.world_model.specs.declared.restarting.RestartPhase.{RestartPhase}
 use Rattle.world_model.specs.declared.restarting.RestartPhase.TheVariants.{Idle, Recovering, Doing, Counting, Paused}
 use Rattle.world_model.proofs.Bags.{tally-append}
@@ -124,11 +124,7 @@ ordered n _ = 0
 
 pub orders_price : (n : ℕ) (phase : RestartPhase) (c : Restarting) → c.nodes ≡ n
     → tally (on price) (orders phase c) ≡ ordered n phase
-orders_price n (Doing what) c nodes = all_price c.nodes n (Order c.epoch what (target what c.ended)) nodes refl
-orders_price n Idle c nodes = refl
-orders_price n Recovering c nodes = refl
-orders_price n (Counting reads) c nodes = refl
-orders_price n (Paused reads) c nodes = refl
+orders_price n phase c nodes = grind (arith, all_price)
 
 -- Phases.
 begun_at : (n : ℕ) (c : Restarting) (phase : RestartPhase) → c.phase ≡ phase → begun n c.phase ≡ begun n phase
@@ -241,10 +237,7 @@ agrees n true c d from body out nodes epoch ended at is =
 pub done_pays : (n m : ℕ) (new old : Bool) (body : Body) → m ≡ n → price body ≡ 2 → (old ≡ true → new ≡ true)
     → tally (on price) (if new && not old then to_nodes m body else []) + (if new then 0 else 2 * n)
     ≡ (if old then 0 else 2 * n)
-done_pays n m true true body nodes two grows = refl
-done_pays n m true false body nodes two grows = omega (arith, all_price m n body nodes two)
-done_pays n m false true body nodes two grows = let clash : false ≡ true = grows refl in absurd (cc clash)
-done_pays n m false false body nodes two grows = omega arith
+done_pays n m new old body nodes two grows = grind (arith, all_price)
 
 pub put_all : (ks : NodeRows) (f : ℕ) (row : List ℕ) → all_in ks ≡ true → all_in (set ks f (Some row)) ≡ true
 put_all [] f row all = refl

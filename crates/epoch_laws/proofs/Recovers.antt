@@ -10,7 +10,7 @@ use Rattle.tv_base.specs.Outside.{one_more}
 use Rattle.tv_base.specs.declared.numbers.Version.{Version}
 use Rattle.letter_types.specs.Letters.{letters_of}
 use Rattle.letter_types.specs.declared.bodies.Body.{Body}
-use Rattle.letter_types.specs.declared.bodies.Body.TheVariants.{Go, Ask, Numbers, Order, Wanted}
+use Rattle.letter_types.specs.declared.bodies.Body.TheVariants.{Go, Ask, Numbers, Wanted}
 use Rattle.letter_types.specs.declared.entries.Entry.{Entry}
 use Rattle.letter_types.specs.declared.entries.Letter.{Letter}
 use Rattle.letter_types.specs.declared.entries.Outgoing.{Outgoing}
@@ -87,9 +87,7 @@ trees_none : (client : Bool) (e q from to : ℕ) (body : Body) → IsOfTrees bod
 trees_none client e q from to body of = grind arith
 
 late_none : (client : Bool) (n e q from to : ℕ) (body : Body) → IsOfEpoch n body → n < e → asking client e q from to body ≡ 0
-late_none client n e q from to (Ask d) of less = old_none d e to q (λ is. omega (arith, is, of, less))
-late_none client n e q from to (Order d what v) of less = refl
-late_none client n e q from to _ of less = absurd of
+late_none client n e q from to body of less = grind (arith, old_none)
 
 left_node : (d e from q n : ℕ) → ((d == e) && nat_lt from n) ≡ false → q < n → one_if ((d == e) && (from == q)) ≡ 0
 left_node d e from q n left lt = grind (arith, nat_tests)

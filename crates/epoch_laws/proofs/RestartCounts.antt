@@ -174,9 +174,7 @@ Passes body _ from c = Unit {0}
 
 rests_none : (n : ℕ) (c d : Restarting) (from : ℕ) (body : Body) (out : Out Restarting) → pace_of c.phase ≡ NoRound
     → count_of d ≡ count_of c → out ≡ still d → Step n c from body out
-rests_none n c d from body out none same is =
-    leaves_by n c from body out (still d) is
-    (record { none = ap (λ (x : Count). x.pace) same ∙ none; same = ap (λ (x : Count). x.number) same; plain = tt })
+rests_none n c d from body out none same is = grind (arith, leaves_by)
 
 rests_step : (n : ℕ) (c d : Restarting) (from : ℕ) (body : Body) (out : Out Restarting) (phase : RestartPhase) → c.phase ≡ phase
     → Passes body phase from c → count_of d ≡ count_of c → out ≡ still d → Step n c from body out

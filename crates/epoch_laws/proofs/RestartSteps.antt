@@ -4,8 +4,7 @@ use Rattle.std.specs.Prelude.{if◌then◌else◌, max, nat_lt, not}
 use Rattle.std.proofs.lemmas.Bool.{and_from, and_parts, eqb-true, ltb-true}
 use Rattle.tv_base.specs.declared.numbers.Version.{Version}
 use Rattle.tv_base.specs.Outside.{one_more}
-use Rattle.phase_out.specs.Counts.{by_verdict, count_stays, count_takes, nudged, told_done, told_asked}
-use Rattle.phase_out.specs.declared.count.RowChange.TheVariants.{Asked}
+use Rattle.phase_out.specs.Counts.{by_verdict, nudged, told_done, told_asked}
 use Rattle.phase_out.specs.Rounds.{all_in, is_of, verdict_of}
 use Rattle.phase_out.specs.declared.count.Counted.TheVariants as counted
 use Rattle.letter_types.specs.declared.bodies.Body.{Body}
@@ -156,10 +155,7 @@ done_step v k row reads from c false at is =
 judged : (v : Version) (k : ℕ) (row : List ℕ) (reads : Bool) (from : ℕ) (c : Restarting) (verdict : Option Bool)
     → TakesRequests c from (AskedRow v k row) reads v k row → verdict_of (with_asked from row c.count.current) ≡ verdict
     → by_count reads (told_asked from v k row c.count) c ≡ by_counted reads (by_verdict verdict c.count.flag) (asked_kept from row c)
-judged v k row reads from c verdict takes is =
-    let there : (is_of from v k row c.count.current && all_in c.count.current.dones) ≡ true = and_from _ _ takes.here takes.after_dones in
-    ap (λ (test : Bool). by_count reads (if test then count_takes (Asked (record { 0 = from }) row) c.count else count_stays c.count) c) there
-    ∙ ap (λ (o : Option Bool). by_counted reads (by_verdict o c.count.flag) (asked_kept from row c)) is
+judged v k row reads from c verdict takes is = grind (arith, and_from)
 
 judged_step : (v : Version) (k : ℕ) (row : List ℕ) (reads : Bool) (from : ℕ) (c : Restarting) (verdict : Option Bool) (flag : Bool)
     → TakesRequests c from (AskedRow v k row) reads v k row → verdict_of (with_asked from row c.count.current) ≡ verdict → c.count.flag ≡ flag

@@ -1,6 +1,6 @@
 -- An entry of the client or of a node: the epoch of each node and its versions don't fall, and come to no more than was begun
 -- and given.
-use Rattle.std.proofs.Common.{◌≡◌, ◌≢◌, ◌⊎◌, inl, inr, ℕ, ◌<◌, ◌≤◌, Bool, true, false, List, ◌∷◌, refl, sym, ap, subst, ◌∙◌, arith}
+use Rattle.std.proofs.Common.{◌≡◌, ◌≢◌, ◌⊎◌, ℕ, ◌<◌, ◌≤◌, Bool, true, false, List, ◌∷◌, sym, ap, subst, arith}
 use Rattle.std.proofs.lemmas.Bool.{cases_eq}
 use Rattle.tv_base.specs.declared.numbers.Version.{Version}
 use Rattle.letter_types.specs.declared.bodies.Body.{Body}
@@ -57,20 +57,13 @@ raiser_version s v _ raiser = absurd raiser
 -- a core with these numbers, whatever else it has
 by_numbers : (s : ScriptData) (past : List Entry) (c d : Core) (n : ℕ) (t : Turns) → d.epoch ≡ n → d.node.turns ≡ t
     → Fares s past c (record c { epoch = n; node = record c.node { turns = t } }) → Fares s past c d
-by_numbers s past c d n t epoch turns fares =
-    let update : d.node.turns.update.0 ≡ t.update.0 = ap (λ (x : Turns). x.update.0) turns in
-    let read : d.node.turns.read.0 ≡ t.read.0 = ap (λ (x : Turns). x.read.0) turns in
-    let low : d.node.turns.low.0 ≡ t.low.0 = ap (λ (x : Turns). x.low.0) turns in
-    omega (arith, epoch, update, read, low, fares)
+by_numbers s past c d n t epoch turns fares = grind arith
 
 raised : (s : ScriptData) (past : List Entry) (c d : Core) (raises : Bool) (v : ℕ)
     → d.node.turns ≡ raised_if raises v c.node.turns
     → (raises ≡ true → c.node.turns.update.0 < v) → (raises ≡ true → v ≤ greatest_given TurnStage past) → d.epoch ≡ c.epoch
     → Fares s past c c → Fares s past c d
-raised s past c d true v is higher most epoch was =
-    by_numbers s past c d c.epoch (record c.node.turns { update = record { 0 = v } }) epoch is
-    (omega (arith, was, higher refl, most refl))
-raised s past c d false v is higher most epoch was = by_numbers s past c d c.epoch c.node.turns epoch is was
+raised s past c d raises v is higher most epoch was = grind (arith, by_numbers)
 
 tree_of_none : (body : Body) → IsOfTrees body → IsOfNoEpoch body
 tree_of_none body of = grind arith
@@ -134,9 +127,7 @@ elsewhere s past e q good lt ne =
 at_node : (s : ScriptData) (past : List Entry) (e : Entry) (p q : ℕ) → IsGood s past → q < s.nodes → e.actor.0 ≡ p
     → Fares s past (keeping_in s past p).core (keeping_in s (e ∷ past) p).core → (p ≡ q) ⊎ (p ≢ q)
     → Fares s past (keeping_in s past q).core (keeping_in s (e ∷ past) q).core
-at_node s past e p q good lt at here (inl same) =
-    subst (λ (n : ℕ). Fares s past (keeping_in s past n).core (keeping_in s (e ∷ past) n).core) same here
-at_node s past e p q good lt at here (inr other) = elsewhere s past e q good lt (λ is. other (sym at ∙ is))
+at_node s past e p q good lt at here is = grind (arith, elsewhere)
 
 pub fares : (s : ScriptData) (past : List Entry) (e : Entry) (q : ℕ) → IsGood s past → MayFollow s past e → q < s.nodes
     → Aside s past e

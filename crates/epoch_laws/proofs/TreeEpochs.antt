@@ -1,6 +1,6 @@
 -- A letter that is no order and no question of a coordinator that forgets leaves its node in the epoch in which it is.
 use Rattle.std.proofs.Common.{◌≡◌, ℕ, Bool, true, false, List, ◌∷◌, refl, ap, subst, ◌∙◌, Option, Some, None, arith}
-use Rattle.std.specs.Prelude.{if◌then◌else◌, nat_lt}
+use Rattle.std.specs.Prelude.{if◌then◌else◌}
 use Rattle.tv_base.specs.declared.numbers.SubNo.{SubNo}
 use Rattle.tv_base.specs.declared.numbers.TreeNo.{TreeNo}
 use Rattle.tv_base.specs.declared.numbers.Version.{Version}
@@ -9,22 +9,18 @@ use Rattle.letter_types.specs.declared.bodies.Body.TheVariants.{Root, Sub as Sub
 use Rattle.letter_types.specs.declared.bodies.Notice.{Notice}
 use Rattle.letter_types.specs.declared.entries.Entry.{Entry}
 use Rattle.letter_types.specs.declared.entries.Letter.{Letter}
-use Rattle.letter_types.specs.declared.votes.Vote.{Vote}
 use Rattle.letter_types.specs.Kept.{brought}
 use Rattle.letter_types.specs.Steps.{Out}
 use Rattle.tree_home.specs.declared.homes.Answered.{Answered}
 use Rattle.tx_trees.specs.ScriptData.{ScriptData}
 use Rattle.tx_trees.specs.declared.parts.TreeKind.{TreeKind}
-use Rattle.tx_trees.specs.declared.parts.TreeKind.TheVariants.{Update, Read, Strict}
-use Rattle.world_model.specs.Asked.{asked_ops, asked_version, tree_part}
 use Rattle.world_model.specs.Core.{Core}
 use Rattle.world_model.specs.Done.{TreeOut, note_part}
 use Rattle.world_model.specs.Keeping.{KeepingNode, brought_row, is_apt_at, kept_row}
 use Rattle.world_model.specs.Named.{is_strict_at, tree_kind_at}
 use Rattle.world_model.specs.Notices.{values_of}
 use Rattle.world_model.specs.Runs.{keeping_in}
-use Rattle.world_model.specs.Strict.{CoreKeeping, answered, core_by_kind, core_keeping, core_row, decided, is_core_apt, locks_by, note_core, noted_vote, refused_there, strict_core, voting}
-use Rattle.world_model.specs.Votes.{vote_of}
+use Rattle.world_model.specs.Strict.{CoreKeeping, answered, core_by_kind, core_keeping, core_row, decided, is_core_apt, note_core, refused_there, strict_core}
 use Rattle.world_model.proofs.EachOutstanding.{EachKept, each_brought}
 use Rattle.world_model.proofs.Every.{each_map}
 use Rattle.world_model.proofs.KeptThere.{IsCoreKeeping, OfKeeping, core_keeps}
@@ -50,20 +46,11 @@ decided_stays s c d o None same = same
 decided_stays s c d o (Some a) same = same
 
 strict_stays : (s : ScriptData) (p from : ℕ) (t : TreeNo) (body : Body) (c : Core) → Stays c (strict_core s p from t body c)
-strict_stays s p from t body c =
-    let v : Version = asked_version c.node.turns.update body in
-    let vote : Vote = vote_of c.locks c.node.items t v (asked_ops s body) in
-    let o : TreeOut = tree_part s p from v (nat_lt c.node.turns.update.0 v.0) (voting vote c.node.items) body c.node in
-    let noted : Core =
-    record c { locks = locks_by vote t (asked_ops s body) c.locks; refusals = noted_vote body vote c.refusals } in
-    decided_stays s c noted o o.answered refl
+strict_stays s p from t body c = grind (arith, decided_stays)
 
 kind_stays : (s : ScriptData) (p from : ℕ) (t : TreeNo) (body : Body) (kind : Option TreeKind) (c : Core)
     → Stays c (core_by_kind s p from t body kind c)
-kind_stays s p from t body (Some Update) c = refl
-kind_stays s p from t body (Some Read) c = refl
-kind_stays s p from t body (Some Strict) c = strict_stays s p from t body c
-kind_stays s p from t body None c = refl
+kind_stays s p from t body kind c = grind (arith, strict_stays)
 
 pick : (c : Core) (test : Bool) (x y : Out Core) → Stays c x → Stays c y → Stays c (if test then x else y)
 pick c true x y left right = left
