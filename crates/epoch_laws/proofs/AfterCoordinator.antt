@@ -16,7 +16,7 @@ use Rattle.world_model.specs.Counts.{Each, tally}
 use Rattle.world_model.specs.Keeping.{KeepingNode}
 use Rattle.world_model.specs.Kept.{outstanding}
 use Rattle.world_model.specs.Runs.{IsStepRun, MayFollow, client_in, in_flight, restarting_in}
-use Rattle.world_model.specs.Runs.{AtClient, AtCoordinator, AtNode, AtRestarting, Moves}
+use Rattle.world_model.specs.Runs.{Moves}
 use Rattle.world_model.proofs.Coordination.{IsCoordinated, OfCoordinator, coordinated_each, of_forgetting, of_remembering}
 use Rattle.world_model.proofs.EachOutstanding.{each_outstanding, each_waits}
 use Rattle.world_model.proofs.Every.{each_both, each_drop, each_map, each_none}
@@ -163,10 +163,7 @@ of_no_tree : OfCoordinator (λ (body : Body). tree_version body ≡ 0)
 of_no_tree = grind arith
 
 coordinated : (s : ScriptData) (past : List Entry) (e : Entry) → e.actor.0 ≡ s.nodes → Moves s past e → IsCoordinated s e
-coordinated s past e at (AtNode lt says) = absurd (omega (arith, at, lt))
-coordinated s past e at (AtCoordinator here keeps says) = of_remembering s past e keeps says
-coordinated s past e at (AtRestarting here loses says) = of_forgetting s past e loses says
-coordinated s past e at (AtClient there says) = absurd (omega (arith, at, there))
+coordinated s past e at is = grind (arith, of_forgetting, of_remembering)
 
 trees_now : (s : ScriptData) (past : List Entry) (e : Entry) → MayFollow s past e → e.actor.0 ≡ s.nodes → IsGood s past
     → Each (λ (l : Letter). tree_version l.body ≤ greatest_given TurnStage (e ∷ past)) (outstanding s (e ∷ past))

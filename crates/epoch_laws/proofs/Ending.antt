@@ -11,7 +11,6 @@ use Rattle.letter_types.specs.declared.bodies.Body.TheVariants.{Go, Advanced}
 use Rattle.letter_types.specs.declared.bodies.What.{What}
 use Rattle.letter_types.specs.declared.bodies.What.TheVariants.{Turn as ToTurn, Show as ToShow, Sweep as ToSweep}
 use Rattle.letter_types.specs.declared.entries.Entry.{Entry}
-use Rattle.letter_types.specs.declared.entries.Letter.{Letter}
 use Rattle.letter_types.specs.declared.entries.Outgoing.{Outgoing}
 use Rattle.letter_types.specs.Steps.{Out, still}
 use Rattle.tx_trees.specs.ScriptData.{ScriptData, client_of}
@@ -203,8 +202,4 @@ hears_in s (e ∷ past) laws loses run apt = by (cases_eq e.actor.0 s.nodes) (he
 -- so where no letter is in flight, it has heard of all that have ended
 pub all_heard : (s : ScriptData) (past : List Entry) → IsTreeLawful s → is_lossy s ≡ true → IsStepRun s past → AllApt s past
     → in_flight s past ≡ [] → Knows (restarting_in s past).phase → (restarting_in s past).ended ≤ (client_in s past).ended
-all_heard s past laws loses run apt empty knows =
-    let f = (restarting_in s past).ended in
-    let none : count_in_flight (tells_end f) s past ≡ 0 =
-    ap (λ (ls : List Letter). tally (λ (l : Letter). tells_end f l.body) ls) empty in
-    some_most f (client_in s past).ended (omega (arith, hears_in s past laws loses run apt knows, none))
+all_heard s past laws loses run apt empty knows = grind (arith, hears_in, some_most)

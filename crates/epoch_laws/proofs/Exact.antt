@@ -1,9 +1,8 @@
 -- While a coordinator that forgets recovers, nodes read and keep just what they have told since; and while it knows how many
 -- advancements have ended, no node is further than its phase says. So each node's low version is the number of those that have
 -- ended, but while nodes are told to sweep; and so is its read version, until they are told to show the next one.
-use Rattle.std.proofs.Common.{◌≡◌, ◌≢◌, ◌⊎◌, inl, inr, ℕ, ◌<◌, ◌≤◌, true, List, [], ◌∷◌, sym, ap, subst, ◌∙◌, arith}
+use Rattle.std.proofs.Common.{◌≡◌, ◌≢◌, ◌⊎◌, inl, inr, ℕ, ◌<◌, ◌≤◌, true, List, [], ◌∷◌, sym, ap, subst, arith}
 use Rattle.std.proofs.lemmas.Bool.{cases_eq}
-use Rattle.tv_base.specs.Outside.{one_more}
 use Rattle.letter_types.specs.declared.bodies.Body.{Body}
 use Rattle.letter_types.specs.declared.entries.Entry.{Entry}
 use Rattle.letter_types.specs.declared.entries.Letter.{Letter}
@@ -34,7 +33,7 @@ use Rattle.epoch_laws.proofs.ExactSteps.{AreExact, AreNear, IsExactFor, IsNearIn
 use Rattle.epoch_laws.proofs.Few.{IsFew, few}
 use Rattle.epoch_laws.proofs.Forgetting.{all_good}
 use Rattle.epoch_laws.proofs.Good.{AllGood, IsGood, IsLetterRight, IsRight, in_phase, turns_in}
-use Rattle.epoch_laws.proofs.RecoverSteps.{Forgot, HasMore, IsWanted, Stays, Waiting, waiting}
+use Rattle.epoch_laws.proofs.RecoverSteps.{Waiting, waiting}
 use Rattle.epoch_laws.proofs.RestartCounts.{good_now}
 use Rattle.epoch_laws.proofs.RestartSteps.{HearsMore, OfClient, OfNode, RestartStep, restart_step}
 
@@ -49,13 +48,7 @@ same_epoch c d from body (OfClient k bd it is) = ap (λ (x : Restarting). x.epoc
 
 waits_on : (c : Restarting) (from : ℕ) (body : Body) (out : Out Restarting) → c.epoch ≤ 100 → Waiting c from body out
     → WaitsOn c out.state
-waits_on c from body out small (Forgot is) =
-    let epoch : out.state.epoch ≡ one_more c.epoch = ap (λ (o : Out Restarting). o.state.epoch) is in
-    inr (omega (arith, epoch, one_more_is c.epoch (omega (arith, small))))
-waits_on c from body out small (Stays waits left is) = inl (waits, ap (λ (o : Out Restarting). o.state.epoch) is)
-waits_on c from body out small (IsWanted i waits bd is) = inl (waits, ap (λ (o : Out Restarting). o.state.epoch) is)
-waits_on c from body out small (HasMore d waits hears misses is) =
-    inl (waits, ap (λ (o : Out Restarting). o.state.epoch) is ∙ same_epoch c d from body hears)
+waits_on c from body out small is = grind (arith, one_more_is, same_epoch)
 
 -- nodes stay
 turns_stay : (s : ScriptData) (past : List Entry) (e : Entry) (q : ℕ) → e.actor.0 ≡ s.nodes → q < s.nodes

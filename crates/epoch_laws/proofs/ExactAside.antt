@@ -7,7 +7,6 @@ use Rattle.tv_base.proofs.Chosen.{one_more_most}
 use Rattle.letter_types.specs.declared.bodies.Body.{Body}
 use Rattle.letter_types.specs.declared.bodies.Body.TheVariants.{Go, Order, Numbers}
 use Rattle.letter_types.specs.declared.bodies.What.{What}
-use Rattle.letter_types.specs.declared.bodies.What.TheVariants.{Turn as ToTurn, Show as ToShow, Sweep as ToSweep}
 use Rattle.letter_types.specs.declared.entries.Entry.{Entry}
 use Rattle.letter_types.specs.declared.entries.Letter.{Letter}
 use Rattle.letter_types.specs.declared.entries.LetterId.{LetterId}
@@ -135,28 +134,7 @@ in_present c old new what v phase at current goes was = grind arith
 
 further_moved : (c : Restarting) (old new : Turns) (phase : RestartPhase) → c.phase ≡ phase → Moved c old new
     → IsNoFurther phase c.ended old → IsNoFurther phase c.ended new
-further_moved c old new phase at (Stood read low) was =
-    record { low = omega (arith, low, was.low); read = omega (arith, read, was.read) }
-further_moved c old new phase at (Heeded ToTurn v current is) was =
-    let read : new.read.0 ≡ old.read.0 = ap (λ (t : Turns). t.read.0) is in
-    let low : new.low.0 ≡ old.low.0 = ap (λ (t : Turns). t.low.0) is in
-    record { low = omega (arith, low, was.low); read = omega (arith, read, was.read) }
-further_moved c old new phase at (Heeded ToShow v current is) was =
-    let read : new.read.0 ≡ v.0 = ap (λ (t : Turns). t.read.0) is in
-    let low : new.low.0 ≡ old.low.0 = ap (λ (t : Turns). t.low.0) is in
-    in_present c old new ToShow v phase at current
-    (λ before. record {
-      low = omega (arith, low, before.low);
-      read = omega (arith, read, current.version, one_more_most c.ended);
-    }) was
-further_moved c old new phase at (Heeded ToSweep v current is) was =
-    let read : new.read.0 ≡ old.read.0 = ap (λ (t : Turns). t.read.0) is in
-    let low : new.low.0 ≡ v.0 = ap (λ (t : Turns). t.low.0) is in
-    in_present c old new ToSweep v phase at current
-    (λ before. record {
-      low = omega (arith, low, current.version, one_more_most c.ended);
-      read = omega (arith, read, before.read);
-    }) was
+further_moved c old new phase at is was = grind (arith, in_present, one_more_most)
 
 -- Letters and nodes after an entry of the client or of a node.
 old_still : (s : ScriptData) (past : List Entry) (e : Entry) (from to : ℕ) (body : Body) → IsGood s past → MayFollow s past e

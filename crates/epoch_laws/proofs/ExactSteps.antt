@@ -11,7 +11,7 @@ use Rattle.tv_base.specs.declared.numbers.Version.{Version}
 use Rattle.letter_types.specs.declared.bodies.Body.{Body}
 use Rattle.letter_types.specs.declared.bodies.Body.TheVariants.{Go, Numbers}
 use Rattle.letter_types.specs.declared.bodies.What.{What}
-use Rattle.letter_types.specs.declared.bodies.What.TheVariants.{Turn as ToTurn, Show as ToShow, Sweep as ToSweep}
+use Rattle.letter_types.specs.declared.bodies.What.TheVariants.{Turn as ToTurn, Sweep as ToSweep}
 use Rattle.letter_types.specs.Steps.{Out, still}
 use Rattle.node_versions.specs.declared.turns.Turns.{Turns}
 use Rattle.world_model.specs.Restarting.{AllTold, Restarting, after_doing, begin_counting, end_counting, enter, forget, in_restart_phase, least_low, low_differs, next_advance, phase_by, read_is, resume, with_wanted}
@@ -103,12 +103,7 @@ ends_exact n false c at was = λ q lt. record { low = (was q lt).low; read = ome
 done_exact : (n : ℕ) (what : What) (c : Restarting) (at : ℕ → Turns) → AreNear n c.ended at
     → AreNoFurther n (Doing what) c.ended at
     → IsExactFor n (after_doing what c).state at
-done_exact n ToTurn c at near was = λ q lt. record { low = (was q lt).low; read = (was q lt).read }
-done_exact n ToShow c at near was = λ q lt. record { low = (was q lt).low; read = (was q lt).read }
-done_exact n ToSweep c at near was =
-    let next : one_more c.ended ≡ c.ended + 1 = one_more_is c.ended (omega (arith, near.small)) in
-    next_exact n (one_more c.ended) c.wanted c.told at
-    (λ q lt. (omega (arith, next, near.low q lt), omega (arith, next, near.read q lt)))
+done_exact n what c at near was = grind (arith, next_exact, one_more_is)
 
 -- It resumes: by what all nodes have told.
 -- where no node passes a test, each fails it

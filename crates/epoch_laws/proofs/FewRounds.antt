@@ -1,7 +1,6 @@
 -- How many rounds a coordinator that forgets may begin in one epoch, and what each of its steps makes of its numbers.
 use Rattle.std.proofs.Common.{◌≡◌, ℕ, ◌+◌, ◌-◌, ◌*◌, ◌^◌, ◌≤◌, Bool, true, false, List, refl, sym, ap, subst, ◌∙◌, Option, Some, None, arith}
-use Rattle.std.specs.Prelude.{max, not, is_some}
-use Rattle.std.specs.List.{list_all}
+use Rattle.std.specs.Prelude.{max, not}
 use Rattle.std.proofs.Math.Nat.{max-le, min-le_left}
 use Rattle.tv_base.specs.Outside.{one_more}
 use Rattle.tv_base.proofs.Chosen.{one_more_most}
@@ -135,10 +134,7 @@ ends_small a m n c body ToSweep few most was at =
 
 agrees_small : (a m n : ℕ) (c : Restarting) (from : ℕ) (row : List ℕ) (body : Body) (reads : Bool) → AreSmall a m n c
     → c.phase ≡ Counting reads → StaysSmall a m n c body (end_counting reads (asked_kept from row c)).state
-agrees_small a m n c from row body false was at =
-    same_small a m n c _ body was refl refl refl (omega (arith, was.rounds, due_at a c (Counting false) at))
-agrees_small a m n c from row body true was at =
-    same_small a m n c _ body was refl refl refl (omega (arith, was.rounds, due_at a c (Counting true) at))
+agrees_small a m n c from row body reads was at = grind (arith, due_at, same_small)
 
 -- it resumes, or still misses something
 resumes_small : (a m n : ℕ) (c : Restarting) (body : Body) (all : Bool) (told : Option ℕ) → m ≤ a → AreSmall a m n c
@@ -168,11 +164,7 @@ heard_small a m n c d from body tells was is = grind arith
 
 hears_small : (a m n : ℕ) (c d : Restarting) (from : ℕ) (body : Body) → m ≤ a → TellsUpTo m body → AreSmall a m n c
     → c.phase ≡ Recovering → HearsMore c from body d → StaysSmall a m n c body (recover d).state
-hears_small a m n c d from body most tells was at hears =
-    let (epoch, phase, now) = heard_small a m n c d from body tells was hears in
-    let next : StaysSmall a m n d body (recover d).state =
-    resumes_small a m n d body (list_all is_some d.told) d.heard most now (phase ∙ at) refl in
-    record { epoch = omega (arith, next.epoch, epoch); small = next.small }
+hears_small a m n c d from body most tells was at hears = grind (arith, heard_small, resumes_small)
 
 -- each step
 pub stays_small : (a m n : ℕ) (c : Restarting) (from : ℕ) (body : Body) (out : Out Restarting) → a ≤ 100 → m ≤ a

@@ -1,6 +1,6 @@
 -- From where on the versions of nodes are while a coordinator that forgets recovers, and what they tell it. It goes on from
 -- there.
-use Rattle.std.proofs.Common.{◌≡◌, ◌≢◌, ◌⊎◌, inl, inr, ℕ, zero, suc, ◌+◌, ◌<◌, ◌≤◌, Bool, true, List, [], ◌∷◌, length, refl, sym, ap, subst, ◌∙◌, arith, Option, Some, None}
+use Rattle.std.proofs.Common.{◌≡◌, ◌≢◌, ℕ, zero, suc, ◌+◌, ◌<◌, ◌≤◌, Bool, true, List, [], ◌∷◌, length, refl, sym, ap, subst, ◌∙◌, arith, Option, Some, None}
 use Rattle.std.specs.Prelude.{is_some, replicate}
 use Rattle.std.specs.List.{list_all, list_any}
 use Rattle.std.proofs.lemmas.Bool.{or_left, or_right, eq-eqb}
@@ -19,16 +19,16 @@ use Rattle.world_model.specs.Counts.{Each, one_if}
 use Rattle.world_model.specs.Keeping.{KeepingNode}
 use Rattle.world_model.specs.Node.{Node}
 use Rattle.world_model.specs.Restarting.{AllTold, Restarting, least_low, read_is}
-use Rattle.world_model.specs.Runs.{MayFollow, in_flight, keeping_in, node_in, restarting_in}
+use Rattle.world_model.specs.Runs.{MayFollow, in_flight, keeping_in, restarting_in}
 use Rattle.world_model.specs.declared.restarting.Told.{Told}
 use Rattle.world_model.proofs.Every.{each_map, each_step, each_taken}
 use Rattle.phase_laws.proofs.Outcomes.{one_more_is}
 use Rattle.phase_laws.proofs.Waves.{set_get}
 use Rattle.phase_laws.proofs.Working.{SentIn}
-use Rattle.epoch_laws.proofs.Aside.{Answered, Aside, Asks, Bare, IsBare, IsSentBy, Numbered, OfTree, sends_aside}
+use Rattle.epoch_laws.proofs.Aside.{Aside, IsBare, IsSentBy, sends_aside}
 use Rattle.epoch_laws.proofs.AtCoordinator.{held_at}
 use Rattle.epoch_laws.proofs.Good.{IsGood, IsHeardOf, IsLetterRight, IsRight, low_few, turns_in}
-use Rattle.epoch_laws.proofs.Prices.{OneMore, Same, TellsMore}
+use Rattle.epoch_laws.proofs.Prices.{TellsMore}
 use Rattle.epoch_laws.proofs.Away.{restarting_kept}
 use Rattle.epoch_laws.proofs.GoodResumes.{HasHeard}
 use Rattle.epoch_laws.proofs.Rising.{Rises, fares}
@@ -76,12 +76,7 @@ tree_from e f shown s st does _ sent = tt
 sent_from : (s : ScriptData) (past : List Entry) (e : Entry) (n f : ℕ) (shown : Bool) (body : Body)
     → ((q : ℕ) → q < s.nodes → IsFrom f shown (turns_in s past q).read.0 (turns_in s past q).low.0) → IsSentBy s past e body
     → TellsFrom n f shown body
-sent_from s past e n f shown body nodes (Bare bare) = bare_from n f shown body bare
-sent_from s past e n f shown body nodes (OfTree p r work sent) = tree_from n f shown s (node_in s past p) r.body body sent
-sent_from s past e n f shown body nodes (Asks k bd is) = subst (TellsFrom n f shown) (sym is) tt
-sent_from s past e n f shown body nodes (Numbered p k at lt bd same is) =
-    subst (TellsFrom n f shown) (sym is) (λ now. nodes p lt)
-sent_from s past e n f shown body nodes (Answered k what v bd is) = subst (TellsFrom n f shown) (sym is) tt
+sent_from s past e n f shown body nodes is = grind (arith, bare_from, tree_from)
 
 pub floor_aside : (s : ScriptData) (past : List Entry) (e : Entry) (f : ℕ) (shown : Bool) → IsGood s past → MayFollow s past e
     → e.actor.0 ≢ s.nodes → Aside s past e → IsFloor s past f shown → IsFloor s (e ∷ past) f shown
@@ -120,15 +115,7 @@ pub told_each : (P : ℕ → Told → Type 0) (c : Restarting) (from : ℕ) (bod
     → ((u r l : Version) → body ≡ Numbers c.epoch u r l → from < length c.told
     → P from (record { update = u; read = r; low = l }))
     → (q : ℕ) (t : Told) → HasTold ts q t → P q t
-told_each P c from body ts (Same is) old new q t has = old q t (subst (λ (x : AllTold). HasTold x q t) is has)
-told_each P c from body ts (OneMore u r l bd lt is) old new q t has =
-    by (set_get c.told from q (Some now) (Some t) (subst (λ (x : AllTold). HasTold x q t) is has)) where
-      now : Told
-      now = record { update = u; read = r; low = l }
-
-      by : ((from ≡ q) × (Some now ≡ Some t)) ⊎ HasTold c.told q t → P q t
-      by (inl (at, same)) = let this : now ≡ t = cc same in subst (λ (k : ℕ). P k t) at (subst (P from) this (new u r l bd lt))
-      by (inr there) = old q t there
+told_each P c from body ts q old new qx t has = grind (arith, set_get)
 
 -- Numbers of this epoch that are told now are so far too, so all that was told is.
 told_from : (s : ScriptData) (past : List Entry) (e : Entry) (f : ℕ) (shown : Bool) (ts : AllTold) → MayFollow s past e

@@ -1,8 +1,7 @@
 -- A coordinator that forgets: all is as it should be after each entry of its runs, and so the laws above hold of it.
-use Rattle.std.proofs.Common.{◌≡◌, ◌≢◌, ◌⊎◌, inl, inr, ℕ, ◌+◌, ◌<◌, ◌≤◌, ◌&&◌, ◌||◌, Bool, true, false, List, [], ◌∷◌, refl, sym, ap, subst, ◌∙◌, arith, Some}
-use Rattle.std.specs.Prelude.{nat_le, nat_lt}
+use Rattle.std.proofs.Common.{◌≡◌, ◌≢◌, ◌⊎◌, inl, inr, ℕ, ◌+◌, ◌<◌, ◌≤◌, ◌&&◌, true, List, [], ◌∷◌, refl, sym, ap, subst, ◌∙◌, arith, Some}
+use Rattle.std.specs.Prelude.{nat_le}
 use Rattle.std.proofs.lemmas.Bool.{and_from, cases_eq, le-leb}
-use Rattle.std.proofs.lemmas.Bool.Decides.{nat_tests}
 use Rattle.tv_base.specs.declared.numbers.Version.{Version}
 use Rattle.letter_types.specs.Kept.{brought}
 use Rattle.letter_types.specs.declared.bodies.Body.{Body}
@@ -39,7 +38,7 @@ use Rattle.phase_laws.proofs.Governed.{IsGoverned}
 use Rattle.phase_laws.proofs.Lawful.{IsTreeLawful}
 use Rattle.phase_laws.proofs.Levels.{IsOrder as IsOrderLetter}
 use Rattle.phase_laws.proofs.Progress.{course, itself, restarts, told_anew}
-use Rattle.phase_laws.proofs.Sending.{IsApart, Sending, SendsApart, SendsAsked, SendsDone, SendsOrders, sending}
+use Rattle.phase_laws.proofs.Sending.{IsApart, Sending, sending}
 use Rattle.phase_laws.proofs.Silence.{goes_itself}
 use Rattle.epoch_laws.proofs.Away.{given_kept}
 use Rattle.epoch_laws.proofs.Good.{AllGood, IsGood, IsLetterRight, IsOrder, IsRight, epoch_in, took_right, turns_in}
@@ -140,11 +139,7 @@ order_in s past p e whats.Sweep v good lt right heeds =
 
 order_timely : (s : ScriptData) (past : List Entry) (p e : ℕ) (what : What) (v : Version) → IsGood s past → p < s.nodes → IsOrder s past p e what v
     → is_core_timely s (keeping_in s past p).core (Order e what v) ≡ true
-order_timely s past p e what v good lt right = by (nat_lt e (epoch_in s past p)) refl where
-  by : (late : Bool) → nat_lt e (epoch_in s past p) ≡ late → (late || is_timely s (node_in s past p) (plain_order what v)) ≡ true
-  by true is = refl
-  by false is =
-      let heeds : epoch_in s past p ≤ e = grind (arith, nat_tests) in order_in s past p e what v good lt right heeds
+order_timely s past p e what v good lt right = grind (arith, epoch_in, order_in)
 
 -- and orders of a coordinator that remembers never come
 plain_in : (s : ScriptData) (past : List Entry) (from p : ℕ) (body : Body) → is_lossy s ≡ true → IsMeant s from p body → IsOrderLetter body
@@ -210,13 +205,7 @@ apart_anew s past body apart = grind arith
 
 away_anew : (s : ScriptData) (past : List Entry) (e : Entry) → e.actor.0 ≢ s.nodes → Sending s past e
     → Each (λ (o : Outgoing). IsGivenAnew s past o.body) e.sent
-away_anew s past e away (SendsApart other plain all) =
-    each_map (λ (o : Outgoing). IsApart o.body) (λ (o : Outgoing). IsGivenAnew s past o.body) e.sent (λ o apart. apart_anew s past o.body apart) all
-away_anew s past e away (SendsDone v k lt bd sent same) =
-    subst (λ (os : List Outgoing). Each (λ (o : Outgoing). IsGivenAnew s past o.body) os) (sym sent) (tt, tt)
-away_anew s past e away (SendsAsked v k lt bd sent same) =
-    subst (λ (os : List Outgoing). Each (λ (o : Outgoing). IsGivenAnew s past o.body) os) (sym sent) (tt, tt)
-away_anew s past e away (SendsOrders at rowless) = absurd (away at)
+away_anew s past e away is = grind (arith, apart_anew, each_map)
 
 anew : (s : ScriptData) (past : List Entry) (e : Entry) → IsTreeLawful s → is_lossy s ≡ true → IsStepRun s (e ∷ past) → AllApt s (e ∷ past)
     → (e.actor.0 ≡ s.nodes) ⊎ (e.actor.0 ≢ s.nodes) → Each (λ (o : Outgoing). IsGivenAnew s past o.body) e.sent

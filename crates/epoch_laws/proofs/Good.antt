@@ -227,25 +227,12 @@ turned_most s past good = omega (arith, good.asked, asked_most (client_in s past
 
 pub low_few : (s : ScriptData) (past : List Entry) (q : ℕ) → IsValid s → IsGood s past → q < s.nodes
     → (turns_in s past q).low.0 ≤ 100
-low_few s past q valid good lt =
-    omega (
-      arith,
-      low_turned past (turns_in s past q) (good.within q lt),
-      turned_most s past good,
-      valid.limited.advances,
-    )
+low_few s past q valid good lt = grind (arith, low_turned, turned_most)
 
 -- nor have more of them ended
 pub ended_most : (s : ScriptData) (past : List Entry) (phase : RestartPhase) → IsValid s → IsGood s past
     → IsSteady s past phase → (restarting_in s past).ended ≤ advances_in s.rows
-ended_most s past phase valid good steady =
-    let some = valid.some_nodes in
-    omega (
-      arith,
-      (steady.level 0 some).low,
-      low_turned past (turns_in s past 0) (good.within 0 some),
-      turned_most s past good,
-    )
+ended_most s past phase valid good steady = grind (arith, low_turned, turned_most)
 
 pub ended_few : (s : ScriptData) (past : List Entry) (phase : RestartPhase) → IsValid s → IsGood s past
     → IsSteady s past phase → (restarting_in s past).ended ≤ 100

@@ -1,5 +1,5 @@
 -- Entries of the coordinator, outcome by outcome: it forgets, an advancement is asked for or goes on, or the count does.
-use Rattle.std.proofs.Common.{◌≡◌, ◌⊎◌, inl, inr, ℕ, ◌+◌, ◌<◌, ◌≤◌, ◌-◌, ◌==◌, Bool, true, false, List, [], ◌∷◌, length, refl, sym, ap, subst, ◌∙◌, arith, Some, None}
+use Rattle.std.proofs.Common.{◌≡◌, ◌⊎◌, ℕ, ◌+◌, ◌<◌, ◌≤◌, ◌-◌, ◌==◌, Bool, true, false, List, [], ◌∷◌, length, refl, sym, ap, subst, ◌∙◌, arith, Some, None}
 use Rattle.std.proofs.lemmas.Bool.Decides.{nat_tests}
 use Rattle.std.proofs.lemmas.List.{length-replicate}
 use Rattle.tv_base.specs.Outside.{one_more}
@@ -293,13 +293,7 @@ shown_anew s past f v is from silent above = grind (arith, under_or)
 swept_anew : (s : ScriptData) (past : List Entry) (f : ℕ) (v : Version) → v.0 ≡ f + 1 → f ≤ greatest_given SweepStage past
     → (greatest_given SweepStage past ≤ f → IsSilent s past f) → ((q : ℕ) → q < s.nodes → f + 1 ≤ (turns_in s past q).read.0)
     → IsSweptAnew s past v.0
-swept_anew s past f v is from silent above = subst (IsSweptAnew s past) (sym is) (by (under_or (f + 1) (greatest_given SweepStage past))) where
-  by : (f + 1 ≤ greatest_given SweepStage past) ⊎ (greatest_given SweepStage past < f + 1) → IsSweptAnew s past (f + 1)
-  by (inl old) = inl old
-  by (inr new) = inr (
-    omega (arith, new, from),
-    record { silent = subst (IsSilent s past) (before f) (silent (omega (arith, new))); above = above },
-  )
+swept_anew s past f v is from silent above = grind (arith, before, under_or)
 
 pub well_shows : (s : ScriptData) (past : List Entry) (e : Entry) (x : Restarting) → IsMove s past e x
     → IsBegun (restarting_in s past) x ToShow (restarting_in s past).ended (restarting_in s past).wanted

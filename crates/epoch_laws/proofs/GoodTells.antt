@@ -144,10 +144,7 @@ order_told g n d what v f m before ends le =
 
 given_most : (s : ScriptData) (past : List Entry) (e : Entry) (what : What) (f w : ℕ) (g : Stage) (m : ℕ) → Tells s past e what f w
     → version_told g (Order (restarting_in s past).epoch what (target what f)) ≤ m → greatest_given g past ≤ m → greatest_given g (e ∷ past) ≤ m
-given_most s past e what f w g m t told old =
-    max-le
-    (subst (λ (os : List Outgoing). greatest_told g os ≤ m) (sym t.sent)
-    (order_told g s.nodes (restarting_in s past).epoch what (target what f) f m t.before t.ends told)) old
+given_most s past e what f w g m t told old = grind (arith, max-le, order_told)
 
 behind : (P : Outgoing → Type 0) (xs : List Outgoing) (o : Outgoing) → Each P (xs ++ o ∷ []) → P o
 behind P [] o all = all.0

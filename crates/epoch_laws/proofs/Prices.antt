@@ -170,16 +170,7 @@ enters : (n : ℕ) (c d : Restarting) (from : ℕ) (body : Body) (out : Out Rest
     → d.epoch ≡ c.epoch → d.ended ≡ c.ended → Knows c.phase
     → ordered n phase + begun n c.phase ≤ begun n phase + owed n c → IsEntered n phase
     → out ≡ enter phase d → StepCosts n c from body out
-enters n c d from body out phase nodes epoch ended was few e is =
-    let same : d.ended * (14 * n + 1) ≡ c.ended * (14 * n + 1) = ap (λ (f : ℕ). f * (14 * n + 1)) ended in
-    spends n c from body out (enter phase d) is was e.known epoch (omega (
-      arith,
-      orders_price n phase d nodes,
-      e.unasked d.count.current.dones,
-      e.promised d.count.flag,
-      same,
-      few,
-    ))
+enters n c d from body out phase nodes epoch ended was few e is = grind (arith, orders_price, spends)
 
 -- a round begins
 counts : (n : ℕ) (reads : Bool) (c d : Restarting) (from : ℕ) (body : Body) (out : Out Restarting) → 1 ≤ n → d.nodes ≡ n

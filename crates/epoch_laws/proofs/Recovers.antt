@@ -118,13 +118,7 @@ answered : (client : Bool) (s : ScriptData) (past : List Entry) (e : Entry) (d n
     → e.took.body ≡ Ask n → e.sent ≡ record { to = record { 0 = to }; body = answer } ∷ []
     → asking client d q e.took.from.0 e.actor.0 (Ask n) ≡ asking client d q e.actor.0 to answer
     → going (asking client d q) s past ≤ going (asking client d q) s (e ∷ past)
-answered client s past e d n q answer to m bd is same =
-    let f = asking client d q in
-    let took : f e.took.from.0 e.actor.0 e.took.body ≡ f e.took.from.0 e.actor.0 (Ask n) =
-    ap (λ (b : Body). f e.took.from.0 e.actor.0 b) bd in
-    let out : tally (leaving f e.actor.0) e.sent ≡ f e.actor.0 to answer + 0 =
-    ap (λ (os : List Outgoing). tally (leaving f e.actor.0) os) is in
-    omega (arith, flow_of f s past e m, took, out, same)
+answered client s past e d n q answer to m bd is same = grind (arith, flow_of, leaving)
 
 tells_same : (client : Bool) (s : ScriptData) (d n q a from to k : ℕ) → IsAsked s client q → a ≡ client_of s
     → asking client d q from a (Ask n) ≡ asking client d q a to (Wanted n k)

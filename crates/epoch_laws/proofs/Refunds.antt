@@ -6,7 +6,7 @@ use Rattle.std.proofs.lemmas.Bool.Decides.{nat_tests}
 use Rattle.tv_base.specs.Outside.{one_more}
 use Rattle.tv_base.specs.declared.numbers.Version.{Version}
 use Rattle.letter_types.specs.declared.bodies.Body.{Body}
-use Rattle.letter_types.specs.declared.bodies.Body.TheVariants.{Ask, Go, Order}
+use Rattle.letter_types.specs.declared.bodies.Body.TheVariants.{Ask}
 use Rattle.letter_types.specs.declared.bodies.What.{What}
 use Rattle.letter_types.specs.declared.bodies.What.TheVariants.{Turn as ToTurn, Show as ToShow, Sweep as ToSweep}
 use Rattle.letter_types.specs.declared.entries.Entry.{Entry}
@@ -129,11 +129,7 @@ apart a b test ne = let no : (a == b) ≡ false = grind (arith, nat_tests) in rw
 order_none : (s : ScriptData) (past : List Entry) (q from to : ℕ) (body : Body) → (restarting_in s past).ended ≤ 100
     → (restarting_in s past).phase ≡ Doing ToTurn → greatest_given TurnStage past < (restarting_in s past).ended + 2
     → IsRight s past from to body → order_to (restarting_in s past).epoch q from to body ≡ 0
-order_none s past q from to (Order e what v) few at less right =
-    apart e (restarting_in s past).epoch (to == q)
-    (λ now. let most = current_turn s past what v few at (right.current now) right.given in omega (arith, most, less))
-order_none s past q from to Go few at less right = refl
-order_none s past q from to _ few at less right = refl
+order_none s past q from to body few at less right = grind (arith, apart, current_turn)
 
 less_or : (a b : ℕ) → (b ≤ a) ⊎ (a < b)
 less_or a b = grind arith

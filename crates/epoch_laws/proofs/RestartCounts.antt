@@ -146,10 +146,7 @@ room_by k e small few =
     (omega (arith, few, small), omega (arith, few, small, next))
 
 has_room : (s : ScriptData) (past : List Entry) → IsFew s past → HasRoom (restarting_in s past)
-has_room s past few =
-    let (begins, forgets) =
-    room_by (restarting_in s past).count.number (restarting_in s past).epoch few.epoch few.number in
-    record { begins = begins; forgets = forgets }
+has_room s past few = grind (arith, few, room_by)
 
 -- what comes of a letter is a step of the count
 abbrev Step : ℕ → Restarting → ℕ → Body → Out Restarting → Type 0
@@ -197,11 +194,7 @@ left_paused _ reads from c left = tt
 
 left_passes : (body : Body) (phase : RestartPhase) (from : ℕ) (c : Restarting) → IsLeft body phase from c
     → Passes body phase from c
-left_passes body (Counting reads) from c left = left_counting body reads from c left
-left_passes body (Paused reads) from c left = left_paused body reads from c left
-left_passes body Idle from c left = tt
-left_passes body Recovering from c left = tt
-left_passes body (Doing what) from c left = tt
+left_passes body phase from c left = grind (arith, left_counting, left_paused)
 
 advance_passes : (i : ℕ) (phase : RestartPhase) (from : ℕ) (c : Restarting) → Passes (AdvanceNo i) phase from c
 advance_passes i phase from c = grind arith

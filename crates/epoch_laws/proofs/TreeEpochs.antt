@@ -1,11 +1,11 @@
 -- A letter that is no order and no question of a coordinator that forgets leaves its node in the epoch in which it is.
-use Rattle.std.proofs.Common.{◌≡◌, ℕ, Bool, true, false, List, ◌∷◌, refl, ap, subst, ◌∙◌, Option, Some, None, arith}
+use Rattle.std.proofs.Common.{◌≡◌, ℕ, Bool, true, false, List, ◌∷◌, refl, ap, ◌∙◌, Option, Some, None, arith}
 use Rattle.std.specs.Prelude.{if◌then◌else◌}
 use Rattle.tv_base.specs.declared.numbers.SubNo.{SubNo}
 use Rattle.tv_base.specs.declared.numbers.TreeNo.{TreeNo}
 use Rattle.tv_base.specs.declared.numbers.Version.{Version}
 use Rattle.letter_types.specs.declared.bodies.Body.{Body}
-use Rattle.letter_types.specs.declared.bodies.Body.TheVariants.{Root, Sub as SubLetter, Done, Decide, Decided, Release, Ask, Order}
+use Rattle.letter_types.specs.declared.bodies.Body.TheVariants.{Ask, Order}
 use Rattle.letter_types.specs.declared.bodies.Notice.{Notice}
 use Rattle.letter_types.specs.declared.entries.Entry.{Entry}
 use Rattle.letter_types.specs.declared.entries.Letter.{Letter}
@@ -17,13 +17,13 @@ use Rattle.tx_trees.specs.declared.parts.TreeKind.{TreeKind}
 use Rattle.world_model.specs.Core.{Core}
 use Rattle.world_model.specs.Done.{TreeOut, note_part}
 use Rattle.world_model.specs.Keeping.{KeepingNode, brought_row, is_apt_at, kept_row}
-use Rattle.world_model.specs.Named.{is_strict_at, tree_kind_at}
+use Rattle.world_model.specs.Named.{is_strict_at}
 use Rattle.world_model.specs.Notices.{values_of}
 use Rattle.world_model.specs.Runs.{keeping_in}
 use Rattle.world_model.specs.Strict.{CoreKeeping, answered, core_by_kind, core_keeping, core_row, decided, is_core_apt, note_core, refused_there, strict_core}
 use Rattle.world_model.proofs.EachOutstanding.{EachKept, each_brought}
 use Rattle.world_model.proofs.Every.{each_map}
-use Rattle.world_model.proofs.KeptThere.{IsCoreKeeping, OfKeeping, core_keeps}
+use Rattle.world_model.proofs.KeptThere.{core_keeps}
 use Rattle.world_model.proofs.Outstanding.{keeping_here}
 use Rattle.phase_laws.proofs.Brought.{IsAsking, kept_ask}
 
@@ -64,24 +64,13 @@ note_stays s from t k v notice c =
     pick c (is_strict_at s t.0) (decided s noted o o.answered) (answered s c o) (decided_stays s c noted o o.answered refl) refl
 
 row_stays : (s : ScriptData) (p from : ℕ) (body : Body) (c : Core) → IsOfNoEpoch body → Stays c (core_row s p c from body)
-row_stays s p from (Root t) c none = kind_stays s p from t (Root t) (tree_kind_at s t.0) c
-row_stays s p from (SubLetter t k v) c none = kind_stays s p from t (SubLetter t k v) (tree_kind_at s t.0) c
-row_stays s p from (Done t k v notice) c none = note_stays s from t k v notice c
-row_stays s p from (Decide t v commit) c none = refl
-row_stays s p from (Decided t v) c none = refl
-row_stays s p from (Release t) c none = refl
-row_stays s p from (Order e what v) c none = absurd none
-row_stays s p from (Ask e) c none = absurd none
-row_stays s p from _ c none = refl
+row_stays s p from body c none = grind (arith, kind_stays, note_stays)
 
 -- A letter that is brought, which may be kept.
 kept_stays : (s : ScriptData) (p : ℕ) (l r : Letter) (n : KeepingNode) (o : Option CoreKeeping)
     → core_keeping s n.core r.body ≡ o
     → IsOfNoEpoch r.body → (kept_row s p l r n o).state.core.epoch ≡ n.core.epoch
-kept_stays s p l r n None is none = row_stays s p r.from.0 r.body n.core none
-kept_stays s p l r n (Some k) is none =
-    let keeps : IsCoreKeeping n.core r.body k = subst (OfKeeping (IsCoreKeeping n.core r.body)) is (core_keeps s n.core r.body) in
-    ap (λ (c : Core). c.epoch) keeps.turns_alone
+kept_stays s p l r n o is none = grind (arith, core_keeps, row_stays)
 
 apt_stays : (s : ScriptData) (p : ℕ) (l r : Letter) (n : KeepingNode) (test : Bool) → is_apt_at s p n r ≡ test
     → IsOfNoEpoch r.body

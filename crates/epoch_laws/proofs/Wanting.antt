@@ -24,7 +24,7 @@ use Rattle.world_model.specs.Client.{Client, advances_sent, rows_letters, submit
 use Rattle.world_model.specs.Counts.{Each, one_if, tally}
 use Rattle.world_model.specs.Node.{Node}
 use Rattle.world_model.specs.Restarting.{Restarting, forget, restarting_row, with_wanted}
-use Rattle.world_model.specs.Runs.{IsStepRun, MayFollow, client_in, in_flight, node_in, restarting_in}
+use Rattle.world_model.specs.Runs.{IsStepRun, MayFollow, client_in, in_flight, restarting_in}
 use Rattle.world_model.specs.declared.restarting.RestartPhase.TheVariants.{Recovering}
 use Rattle.world_model.proofs.Bags.{tally-append}
 use Rattle.world_model.proofs.Every.{each_map, each_step, each_taken}
@@ -41,7 +41,7 @@ use Rattle.phase_laws.proofs.Lawful.{IsTreeLawful}
 use Rattle.phase_laws.proofs.Outcomes.{one_more_is}
 use Rattle.phase_laws.proofs.Progress.{MadeByRestarting, course, restarts}
 use Rattle.phase_laws.proofs.Working.{SentIn}
-use Rattle.epoch_laws.proofs.Aside.{Answered, Aside, Asks, Bare, Counts, Heeds, IsBare, IsSentBy, IsTold, Numbered, OfTree, Submits, Tells, Works, aside, sends_aside}
+use Rattle.epoch_laws.proofs.Aside.{Aside, Counts, Heeds, IsBare, IsSentBy, IsTold, Submits, Tells, Works, aside, sends_aside}
 use Rattle.epoch_laws.proofs.AtCoordinator.{asked_stays}
 use Rattle.epoch_laws.proofs.Away.{restarting_kept}
 use Rattle.epoch_laws.proofs.Few.{IsFew, few}
@@ -147,12 +147,7 @@ tree_covers e a s st does _ sent = tt
 
 sent_covers : (s : ScriptData) (past : List Entry) (e : Entry) (epoch : ℕ) (body : Body) → IsSentBy s past e body
     → Covers epoch (asked_for s past) body
-sent_covers s past e epoch body (Bare bare) = bare_covers epoch (asked_for s past) body bare
-sent_covers s past e epoch body (OfTree p r work sent) =
-    tree_covers epoch (asked_for s past) s (node_in s past p) r.body body sent
-sent_covers s past e epoch body (Asks n bd is) = subst (Covers epoch (asked_for s past)) (sym is) (λ now. omega arith)
-sent_covers s past e epoch body (Numbered p n at lt bd same is) = subst (Covers epoch (asked_for s past)) (sym is) tt
-sent_covers s past e epoch body (Answered n what v bd is) = subst (Covers epoch (asked_for s past)) (sym is) tt
+sent_covers s past e epoch body is = grind (arith, bare_covers, tree_covers)
 
 will_hear_aside : (s : ScriptData) (past : List Entry) (e : Entry) (c : Restarting) → Aside s past e
     → WillHear s past (asked_for s past) c
@@ -337,11 +332,7 @@ wants_in s (e ∷ past) laws loses run apt = by (cases_eq e.actor.0 s.nodes) (wa
 -- So where no letter is in flight a coordinator that doesn't recover wants all.
 all_by : (s : ScriptData) (past : List Entry) (a : ℕ) (c : Restarting) → in_flight s past ≡ [] → Knows c.phase
     → WantsAll s past a c → a ≤ c.wanted
-all_by s past a c empty knows (inl some) =
-    let none : count_in_flight (asks_for a) s past ≡ 0 =
-    ap (λ (ls : List Letter). tally (λ (l : Letter). asks_for a l.body) ls) empty in
-    some_most a c.wanted (omega (arith, some, none))
-all_by s past a c empty knows (inr will) = absurd (knows will.waits)
+all_by s past a c empty knows is = grind (arith, asks_for, some_most)
 
 pub all_wanted : (s : ScriptData) (past : List Entry) → IsTreeLawful s → is_lossy s ≡ true → IsStepRun s past → AllApt s past
     → in_flight s past ≡ [] → Knows (restarting_in s past).phase → asked_for s past ≤ (restarting_in s past).wanted
