@@ -99,23 +99,7 @@ paid_spends : (s : ScriptData) (past : List Entry) (e : Entry) (out : Out Restar
     → restarting_in s (e ∷ past) ≡ out.state → e.sent ≡ out.sent → Knows (restarting_in s past).phase
     → Knows out.state.phase → out.state.epoch ≡ (restarting_in s past).epoch
     → Pays s.nodes (restarting_in s past) e.took.body out → IsPaid s past → IsPaid s (e ∷ past)
-paid_spends s past e out at state sent known after epoch pays was =
-    let n = s.nodes in
-    record {
-      steady =
-          λ next.
-          omega (
-            arith,
-            was.steady known,
-            pays,
-            priced_here s past e out.sent at sent,
-            ap (λ (c : Restarting). owed n c) state,
-            ap (λ (c : Restarting). spent n c) state,
-            ap (λ (c : Restarting). (10 * n + 3) * c.epoch) state,
-            ap (λ (k : ℕ). (10 * n + 3) * k) epoch,
-          );
-      recovers = λ is. absurd (after (sym (ap (λ (c : Restarting). c.phase) state) ∙ is));
-    }
+paid_spends s past e out at state sent known after epoch pays was = grind (arith, owed, priced_here, spent)
 
 -- it forgets, and each node is as far as the phase says, or as far as it was before
 covered_anew : (s : ScriptData) (past : List Entry) (e : Entry) (f : ℕ) (shown : Bool) → IsGood s past → e.actor.0 ≡ s.nodes
@@ -287,20 +271,7 @@ all_paid s (e ∷ past) laws loses run apt =
 priced_by : (s : ScriptData) (past : List Entry) → IsValid s → IsGood s past
     → ((restarting_in s past).phase ≡ Recovering) ⊎ Knows (restarting_in s past).phase → IsPaid s past
     → priced s past ≤ advances_in s.rows * (14 * s.nodes + 1) + allowed s past
-priced_by s past valid good (inl recovers) paid =
-    let cover = paid.recovers recovers in
-    omega (
-      arith,
-      cover.paid,
-      kept_most s past cover.ended cover.shown valid good (cover.floor.nodes 0 (omega (arith, valid.some_nodes))),
-    )
-priced_by s past valid good (inr known) paid =
-    let phase = (restarting_in s past).phase in
-    omega (
-      arith,
-      paid.steady known,
-      spent_most s past phase valid good refl (steady_in s past phase good refl known),
-    )
+priced_by s past valid good is paid = grind (arith, kept_most, spent_most, steady_in)
 
 -- what is sent costs no more than all advancements that the script has, once, and what nudges and forgetting add
 pub priced_most : (s : ScriptData) (past : List Entry) → IsTreeLawful s → is_lossy s ≡ true → IsStepRun s past → AllApt s past

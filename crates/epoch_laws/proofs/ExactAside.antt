@@ -19,7 +19,7 @@ use Rattle.world_model.specs.Counts.{Each}
 use Rattle.world_model.specs.Done.{raised_if}
 use Rattle.world_model.specs.Node.{Node}
 use Rattle.world_model.specs.Restarting.{Restarting}
-use Rattle.world_model.specs.Runs.{IsStepRun, MayFollow, in_flight, keeping_in, node_in, restarting_in}
+use Rattle.world_model.specs.Runs.{IsStepRun, MayFollow, in_flight, keeping_in, restarting_in}
 use Rattle.world_model.specs.declared.restarting.RestartPhase.{RestartPhase}
 use Rattle.world_model.specs.declared.restarting.RestartPhase.TheVariants.{Idle, Recovering, Doing, Counting, Paused}
 use Rattle.world_model.proofs.EachOutstanding.{each_waits}
@@ -30,7 +30,7 @@ use Rattle.strict_laws.proofs.Meant.{letters_are_meant}
 use Rattle.phase_laws.proofs.Heeds.{Answers, Heed, Leaves, Obeys, Repeats, turned_to}
 use Rattle.phase_laws.proofs.Lawful.{IsTreeLawful}
 use Rattle.phase_laws.proofs.Working.{SentIn}
-use Rattle.epoch_laws.proofs.Aside.{Answered, Aside, Asks, Bare, Counts, Heeds, IsBare, IsSentBy, Numbered, OfTree, Submits, Tells, Works, sends_aside}
+use Rattle.epoch_laws.proofs.Aside.{Aside, Counts, Heeds, IsBare, IsSentBy, Submits, Tells, Works, sends_aside}
 use Rattle.epoch_laws.proofs.Away.{restarting_kept}
 use Rattle.epoch_laws.proofs.ExactSteps.{AreExact, IsExactFor, IsNearIn, IsNoFurther, IsStill, IsStillTold}
 use Rattle.epoch_laws.proofs.Good.{IsCurrent, IsGood, IsLetterRight, IsOrder, IsRight, Knows, ended_few, epoch_in, in_phase, steady_in, took_right, turns_in}
@@ -159,19 +159,7 @@ tree_still epoch at s st does from _ sent = tt
 
 sent_still : (s : ScriptData) (past : List Entry) (e : Entry) (epoch : ℕ) (body : Body) → IsSentBy s past e body
     → IsStillTold epoch (turns_in s (e ∷ past)) e.actor.0 body
-sent_still s past e epoch body (Bare bare) = bare_still epoch (turns_in s (e ∷ past)) e.actor.0 body bare
-sent_still s past e epoch body (OfTree p r work sent) =
-    tree_still epoch (turns_in s (e ∷ past)) s (node_in s past p) r.body e.actor.0 body sent
-sent_still s past e epoch body (Asks n bd is) =
-    subst (IsStillTold epoch (turns_in s (e ∷ past)) e.actor.0) (sym is) tt
-sent_still s past e epoch body (Numbered p n at lt bd same is) =
-    subst (IsStillTold epoch (turns_in s (e ∷ past)) e.actor.0) (sym is) (λ now.
-    subst (λ (a : ℕ). IsStill (turns_in s (e ∷ past) a) (turns_in s past p).read (turns_in s past p).low) (sym at) (record {
-      read = ap (λ (x : Core). x.node.turns.read.0) same;
-      low = ap (λ (x : Core). x.node.turns.low.0) same;
-    }))
-sent_still s past e epoch body (Answered n what v bd is) =
-    subst (IsStillTold epoch (turns_in s (e ∷ past)) e.actor.0) (sym is) tt
+sent_still s past e epoch body is = grind (arith, bare_still, tree_still, turns_in)
 
 -- what holds of each letter in flight, to be as it should
 pub each_now : (P : Letter → Type 0) (s : ScriptData) (past : List Entry) → IsTreeLawful s → IsStepRun s past → IsGood s past

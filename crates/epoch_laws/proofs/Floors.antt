@@ -115,7 +115,7 @@ pub told_each : (P : ℕ → Told → Type 0) (c : Restarting) (from : ℕ) (bod
     → ((u r l : Version) → body ≡ Numbers c.epoch u r l → from < length c.told
     → P from (record { update = u; read = r; low = l }))
     → (q : ℕ) (t : Told) → HasTold ts q t → P q t
-told_each P c from body ts q old new qx t has = grind (arith, set_get)
+told_each P c from body ts more old new q t has = grind (arith, set_get)
 
 -- Numbers of this epoch that are told now are so far too, so all that was told is.
 told_from : (s : ScriptData) (past : List Entry) (e : Entry) (f : ℕ) (shown : Bool) (ts : AllTold) → MayFollow s past e

@@ -15,7 +15,7 @@ use Rattle.world_model.specs.Runs.{MayFollow, client_in}
 use Rattle.world_model.proofs.Flows.{client_kept}
 use Rattle.world_model.proofs.Nexts.{MadeByClient}
 use Rattle.phase_laws.specs.Advances.{asked_for}
-use Rattle.epoch_laws.proofs.Aside.{Aside, Counts, Heeds, IsTold, Submits, Tells, Works}
+use Rattle.epoch_laws.proofs.Aside.{Aside, IsTold}
 use Rattle.epoch_laws.proofs.Good.{IsGood, took_right, turns_in}
 use Rattle.epoch_laws.proofs.GoodLetters.{Remains}
 
@@ -64,13 +64,7 @@ told_client s past e c first good m told made =
     }
 
 knows : (s : ScriptData) (past : List Entry) (e : Entry) → IsGood s past → MayFollow s past e → Aside s past e → Knows s past e
-knows s past e good m (Submits c first at told bare made) = told_client s past e c first good m told made
-knows s past e good m (Tells n at bd made) = same_client s past e good made.state
-knows s past e good m (Works p r work) =
-    same_client s past e good (client_kept s past e (λ is. omega (arith, is, work.brings.at, work.brings.below)))
-knows s past e good m (Counts p count) =
-    same_client s past e good (client_kept s past e (λ is. omega (arith, is, count.at, count.below)))
-knows s past e good m (Heeds p at lt heed) = same_client s past e good (client_kept s past e (λ is. omega (arith, is, at, lt)))
+knows s past e good m is = grind (arith, client_kept, same_client, told_client)
 
 -- the client asks for more and more
 pub asked_rises : (s : ScriptData) (past : List Entry) (e : Entry) → IsGood s past → MayFollow s past e → Aside s past e

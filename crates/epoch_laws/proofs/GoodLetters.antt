@@ -11,7 +11,6 @@ use Rattle.letter_types.specs.declared.entries.Outgoing.{Outgoing}
 use Rattle.tx_trees.specs.ScriptData.{ScriptData}
 use Rattle.tx_trees.specs.Valid.{IsValid}
 use Rattle.world_model.specs.Client.{advances_sent}
-use Rattle.world_model.specs.Core.{Core}
 use Rattle.world_model.specs.Counts.{Each}
 use Rattle.world_model.specs.Node.{Node}
 use Rattle.world_model.specs.Restarting.{Restarting}
@@ -21,11 +20,11 @@ use Rattle.world_model.proofs.Every.{each_both, each_map, each_step}
 use Rattle.strict_laws.specs.Meant.{IsLetterMeant, IsMeant}
 use Rattle.strict_laws.proofs.Meant.{letters_are_meant}
 use Rattle.phase_laws.specs.Given.{greatest_given}
-use Rattle.phase_laws.specs.Phases.{Stage, TurnStage, ShowStage, SweepStage, stage_of}
+use Rattle.phase_laws.specs.Phases.{Stage, TurnStage, SweepStage, stage_of}
 use Rattle.phase_laws.proofs.Working.{SentIn}
 use Rattle.epoch_laws.proofs.Aside.{Answered, Aside, Asks, Bare, IsBare, IsSentBy, Numbered, OfTree, sends_aside}
 use Rattle.epoch_laws.proofs.Good.{AreNumbers, AreRight, AreWanted, IsAnswer, IsAsTold, IsCurrent, IsGood, IsLatest, IsLetterRight, IsOrder, IsRight, epoch_in, took_right, turns_in}
-use Rattle.epoch_laws.proofs.Rising.{Fares, Rises}
+use Rattle.epoch_laws.proofs.Rising.{Fares}
 
 -- what such an entry leaves: the coordinator, what was given, and of each node what it has come to
 pub record Remains (s : ScriptData) (past : List Entry) (e : Entry) : Type 0 where
@@ -134,23 +133,7 @@ numbers_right : (s : ScriptData) (past : List Entry) (e : Entry) (p n : ℕ) →
     → IsStepRun s (e ∷ past)
     → p < s.nodes → e.took.body ≡ Ask n → (keeping_in s (e ∷ past) p).core ≡ record (keeping_in s past p).core { epoch = n }
     → AreNumbers s (e ∷ past) p n (turns_in s past p).update (turns_in s past p).read (turns_in s past p).low
-numbers_right s past e p n good left run lt bd is =
-    let begun : n ≤ (restarting_in s past).epoch = took_right s past e (Ask n) good run.0 bd in
-    let epoch : epoch_in s (e ∷ past) p ≡ n = ap (λ (c : Core). c.epoch) is in
-    let within = good.within p lt in
-    let rises : Rises (keeping_in s past p).core (keeping_in s (e ∷ past) p).core = (left.fares p lt).rises in
-    record {
-      epoch = omega (arith, begun, same_epoch s past e left);
-      told = record { update = rises.update; read = rises.read; low = rises.low };
-      latest =
-          λ now phase.
-          record {
-            epoch = omega (arith, epoch, now);
-            turned = omega (arith, within.turned_low, left.given TurnStage);
-            showed = omega (arith, within.showed_low, left.given ShowStage);
-            swept = omega (arith, within.swept_low, left.given SweepStage);
-          };
-    }
+numbers_right s past e p n good left run lt bd is = grind (arith, epoch_in, same_epoch, took_right)
 
 answer_right : (s : ScriptData) (past : List Entry) (e : Entry) (n : ℕ) (what : What) (v : Version) → IsGood s past
     → Remains s past e

@@ -3,7 +3,7 @@ use Rattle.std.proofs.Common.{◌≡◌, ◌⊎◌, inl, inr, ℕ, ◌+◌, ◌<
 use Rattle.tv_base.specs.Outside.{one_more}
 use Rattle.tv_base.specs.declared.numbers.Version.{Version}
 use Rattle.letter_types.specs.declared.bodies.Body.{Body}
-use Rattle.letter_types.specs.declared.bodies.Body.TheVariants.{Go, AskAsked, AskDone, Obeyed, Order}
+use Rattle.letter_types.specs.declared.bodies.Body.TheVariants.{Go, AskAsked, AskDone, Obeyed}
 use Rattle.letter_types.specs.declared.bodies.What.{What}
 use Rattle.letter_types.specs.declared.entries.Entry.{Entry}
 use Rattle.letter_types.specs.declared.entries.LetterId.{LetterId}
@@ -87,20 +87,7 @@ pub heard_at : (s : ScriptData) (past : List Entry) (e : Entry) (x : Restarting)
     → x.epoch ≡ (restarting_in s past).epoch → length x.told ≡ s.nodes
     → ((q : ℕ) (t : Told) → q < s.nodes → HasTold x.told q t → IsHeardOf s past q t)
     → ((k : ℕ) → x.heard ≡ Some k → greatest_given TurnStage past ≤ k + 1) → IsHeard s (e ∷ past)
-heard_at s past e x m still epoch places nodes client =
-    let same : (restarting_in s (e ∷ past)).epoch ≡ (restarting_in s past).epoch = ap (λ (c : Restarting). c.epoch) m.state ∙ epoch in
-    record {
-      places = ap (λ (c : Restarting). length c.told) m.state ∙ places;
-      nodes = λ q t lt has.
-          let was = nodes q t lt (subst (λ (c : Restarting). HasTold c.told q t) m.state has) in
-          record {
-            told = told_after s past e q t.update t.read t.low m.at lt was.told;
-            latest = latest_after s past e q t.low.0 m.at lt still same was.latest;
-          };
-      client = λ k has.
-          let was = client k (sym (ap (λ (c : Restarting). c.heard) m.state) ∙ has) in
-          omega (arith, was, still TurnStage);
-    }
+heard_at s past e x m still epoch places nodes client = grind (arith, latest_after, length, told_after)
 
 pub up_still : (past : List Entry) (e : Entry) (f w v : ℕ) → IsGivenStill past e → w ≤ v → IsUpTo past f w → IsUpTo (e ∷ past) f v
 up_still past e f w v still le was = omega (arith, was, le, still TurnStage, still ShowStage, still SweepStage)
@@ -160,16 +147,7 @@ doing_is a b is = cc is
 left_token : (s : ScriptData) (past : List Entry) (from to : ℕ) (body : Body) (doing : What) → (restarting_in s past).phase ≡ Doing doing
     → IsLeft body (Doing doing) from (restarting_in s past) → TellsAnew body → IsRight s past from to body
     → token (restarting_in s past).epoch from to body ≡ 0
-left_token s past from to (Obeyed d what v) doing at left tells right =
-    one_if_other d (restarting_in s past).epoch (λ is.
-    let now = right.current is in
-    let same : what ≡ doing = doing_is what doing (sym now.phase ∙ at) in
-    let answers : is_answer d what v doing (restarting_in s past) ≡ true =
-    subst (λ (w : What). is_answer d what v w (restarting_in s past) ≡ true) same (answer_now d what v (restarting_in s past) is now.version) in
-    cc (answers, left))
-left_token s past from to (Order d what v) doing at left tells right = absurd tells
-left_token s past from to Go doing at left tells right = refl
-left_token s past from to _ doing at left tells right = refl
+left_token s past from to body doing at left tells right = grind (arith, answer_now, doing_is, one_if_other)
 
 steady_same : (s : ScriptData) (past : List Entry) (e : Entry) (w : ℕ) (phase : RestartPhase)
     → IsMove s past e (record (restarting_in s past) { wanted = w }) → (restarting_in s past).wanted ≤ w → AllAsk e.sent

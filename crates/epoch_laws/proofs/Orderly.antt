@@ -11,13 +11,13 @@ use Rattle.letter_types.specs.declared.entries.Entry.{Entry}
 use Rattle.letter_types.specs.declared.entries.Letter.{Letter}
 use Rattle.letter_types.specs.Steps.{Out, still}
 use Rattle.tx_trees.specs.ScriptData.{ScriptData}
-use Rattle.world_model.specs.Restarting.{AllTold, Restarting, after_doing, begin_counting, end_counting, enter, forget, in_restart_phase, least_low, next_advance, phase_by, resume, with_wanted}
+use Rattle.world_model.specs.Restarting.{AllTold, Restarting, after_doing, begin_counting, end_counting, enter, forget, in_restart_phase, next_advance, phase_by, with_wanted}
 use Rattle.world_model.specs.Runs.{restarting_in}
 use Rattle.world_model.specs.Tables.{restarting_table}
 use Rattle.world_model.specs.declared.restarting.RestartPhase.{RestartPhase}
 use Rattle.world_model.specs.declared.restarting.RestartPhase.TheVariants.{Idle, Recovering, Doing, Counting, Paused}
 use Rattle.world_model.proofs.Restarts.{restarting_nodes}
-use Rattle.epoch_laws.proofs.RecoverSteps.{HasHeard, Misses, Recovery, next_each, phase_each, recovery}
+use Rattle.epoch_laws.proofs.RecoverSteps.{Recovery, next_each, phase_each, recovery}
 use Rattle.epoch_laws.proofs.WantSteps.{more_waits}
 use Rattle.epoch_laws.proofs.RestartSteps.{HearsMore, OfClient, OfNode, RestartStep, asked_kept, asks_with, done_kept, restart_step}
 use Rattle.epoch_laws.proofs.RestartSteps.{Acks, Agrees, Ends, Flags, Forgets, Goes, KeepsAsked, KeepsDone, Pauses, Recounts, Recovers, Rests, Resumes, Wants}
@@ -54,13 +54,7 @@ ends_orderly n false c some = record { acks = omega (arith, some); idle = λ is.
 
 recovers_orderly : (n : ℕ) (d : Restarting) (out : Out Restarting) → 1 ≤ n → d.phase ≡ Recovering → d.acks < n → Recovery d out
     → IsOrderly n out.state
-recovers_orderly n d out some waits few (Misses misses is) =
-    goes_to n out (still d) is (busy_in n d Recovering waits few (λ is. cc is))
-recovers_orderly n d out some waits few (HasHeard k told heard is) =
-    goes_to n out (resume k d) is (record {
-      acks = omega (arith, some);
-      idle = λ at. by_idle d.told (max d.wanted k) (least_low d.told) at;
-    })
+recovers_orderly n d out some waits few is = grind (arith, busy_in, by_idle, goes_to)
 
 more_acks : (c d : Restarting) (from : ℕ) (body : Body) → HearsMore c from body d → d.acks ≡ c.acks
 more_acks c d from body (OfNode u r l bd lt is) = ap (λ (x : Restarting). x.acks) is

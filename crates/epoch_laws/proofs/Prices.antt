@@ -14,7 +14,7 @@ use Rattle.letter_types.specs.declared.bodies.What.TheVariants.{Turn as ToTurn, 
 use Rattle.letter_types.specs.Steps.{Out, still}
 use Rattle.world_model.specs.Coordinator.{to_nodes}
 use Rattle.world_model.specs.Counts.{tally}
-use Rattle.world_model.specs.Restarting.{Restarting, AllTold, after_doing, begin_counting, version_counted, with_advances, end_counting, enter, forget, in_restart_phase, next_advance, orders, resume, resume_if, with_wanted}
+use Rattle.world_model.specs.Restarting.{Restarting, AllTold, after_doing, begin_counting, with_advances, end_counting, enter, forget, in_restart_phase, next_advance, orders, resume, resume_if, with_wanted}
 use Rattle.world_model.specs.declared.restarting.RestartPhase.{RestartPhase}
 use Rattle.world_model.specs.declared.restarting.RestartPhase.TheVariants.{Idle, Recovering, Doing, Counting, Paused}
 use Rattle.world_model.proofs.Bags.{tally-append}
@@ -177,15 +177,7 @@ counts : (n : ℕ) (reads : Bool) (c d : Restarting) (from : ℕ) (body : Body) 
     → d.epoch ≡ c.epoch → d.ended ≡ c.ended → Knows c.phase
     → begun n c.phase + 4 * n ≤ begun n (Counting reads) + owed n c + 4 * n * is_nudge body
     → out ≡ begin_counting reads d → StepCosts n c from body out
-counts n reads c d from body out some nodes epoch ended was few is =
-    let same : d.ended * (14 * n + 1) ≡ c.ended * (14 * n + 1) = ap (λ (f : ℕ). f * (14 * n + 1)) ended in
-    spends n c from body out (begin_counting reads d) is was (λ at. cc at) epoch (omega (
-      arith,
-      all_price d.nodes n (AskDone (version_counted reads d) (one_more d.count.number)) nodes refl,
-      ap (λ (b : Bool). if b then 0 else 2 * n) (none_in d.nodes (omega (arith, some, nodes))),
-      same,
-      few,
-    ))
+counts n reads c d from body out some nodes epoch ended was few is = grind (arith, all_price, none_in, spends)
 
 -- every node has obeyed
 ends : (n : ℕ) (c : Restarting) (from : ℕ) (body : Body) (out : Out Restarting) (what : What) → 1 ≤ n → c.nodes ≡ n

@@ -99,14 +99,7 @@ left_client d e from q n left is = grind (arith, nat_tests)
 left_none : (client : Bool) (s : ScriptData) (c : Restarting) (q from to : ℕ) (body : Body) → IsLeft body Recovering from c
     → TellsAnew body
     → IsAsked s client q → length c.told ≡ s.nodes → c.nodes ≡ s.nodes → asking client c.epoch q from to body ≡ 0
-left_none true s c q from to (Numbers d u r l) left tells asked places nodes = refl
-left_none false s c q from to (Numbers d u r l) left tells asked places nodes =
-    left_node d c.epoch from q (length c.told) left (omega (arith, asked, places))
-left_none true s c q from to (Wanted d k) left tells asked places nodes =
-    left_client d c.epoch from q (c.nodes + 1) left (omega (arith, asked, nodes))
-left_none false s c q from to (Wanted d k) left tells asked places nodes = refl
-left_none client s c q from to (Ask d) left tells asked places nodes = absurd tells
-left_none client s c q from to _ left tells asked places nodes = refl
+left_none client s c q from to body left tells asked places nodes = grind (arith, left_client, left_node, length)
 
 -- Entries of the client and of nodes: who takes a question answers it.
 none_taken : (f : ℕ → ℕ → Body → ℕ) (s : ScriptData) (past : List Entry) (e : Entry) → MayFollow s past e
@@ -291,12 +284,7 @@ covered : (client : Bool) (s : ScriptData) (past : List Entry) (e : Entry) (d : 
     → Covers client (restarting_in s past) d q e.took.from.0 e.actor.0 e.took.body
     → 1 ≤ going (asking client (restarting_in s past).epoch q) s past + has_told client (restarting_in s past) q
     → 1 ≤ going (asking client d.epoch q) s (e ∷ past) + has_told client d q
-covered client s past e d q m covers was =
-    let c = restarting_in s past in
-    let f = asking client c.epoch q in
-    subst (λ (n : ℕ). 1 ≤ going (asking client n q) s (e ∷ past) + has_told client d q) (sym covers.epoch)
-    (still_covered (going f s (e ∷ past)) (going f s past) (f e.took.from.0 e.actor.0 e.took.body) (has_told client d q)
-    (has_told client c q) was (omega (arith, flow_of f s past e m)) covers.letter covers.before)
+covered client s past e d q m covers was = grind (arith, flow_of, going, still_covered)
 
 same_told : (client : Bool) (c : Restarting) (i q : ℕ) → has_told client (with_wanted i c) q ≡ has_told client c q
 same_told true c i q = refl

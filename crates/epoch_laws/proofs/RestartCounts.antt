@@ -1,6 +1,6 @@
 -- The count of a coordinator that forgets: each of its entries is a step of a count, and the version that it counts is open
 -- where it wasn't given yet.
-use Rattle.std.proofs.Common.{◌≡◌, ℕ, ◌+◌, ◌*◌, ◌^◌, ◌<◌, ◌≤◌, ◌==◌, Bool, true, false, List, [], ◌∷◌, refl, sym, ap, subst, ◌∙◌, Option, Some, None, arith}
+use Rattle.std.proofs.Common.{◌≡◌, ℕ, ◌+◌, ◌*◌, ◌^◌, ◌<◌, ◌≤◌, ◌==◌, Bool, true, false, List, [], ◌∷◌, refl, sym, ap, subst, ◌∙◌, Option, Some, arith}
 use Rattle.std.specs.Prelude.{if◌then◌else◌, max, is_some}
 use Rattle.std.specs.List.{list_all}
 use Rattle.tv_base.specs.Outside.{one_more}
@@ -18,7 +18,7 @@ use Rattle.tx_trees.specs.ScriptData.{ScriptData}
 use Rattle.world_model.specs.AllApt.{AllApt}
 use Rattle.world_model.specs.Coordinator.{to_nodes}
 use Rattle.script_parts.specs.Counts.{is_lossy}
-use Rattle.world_model.specs.Restarting.{Restarting, AllTold, after_doing, begin_counting, end_counting, enter, first_number, forget, in_restart_phase, enter_telling, least_low, next_advance, orders, phase_by, recover, restarting_row, resume_if, target, version_counted, with_advances, with_told, with_wanted}
+use Rattle.world_model.specs.Restarting.{Restarting, AllTold, after_doing, begin_counting, end_counting, enter, first_number, forget, in_restart_phase, enter_telling, next_advance, orders, phase_by, recover, restarting_row, resume_if, target, version_counted, with_advances, with_told, with_wanted}
 use Rattle.world_model.specs.Runs.{IsStepRun, restarting_in}
 use Rattle.world_model.specs.Tables.{restarting_table}
 use Rattle.world_model.specs.declared.restarting.RestartPhase.{RestartPhase}
@@ -103,11 +103,7 @@ telling_apart phase c none = record { none = none; same = refl; plain = (tt, ord
 
 resume_apart : (all : Bool) (k : Option ℕ) (c : Restarting) → pace_of c.phase ≡ NoRound
     → IsApart c.count.number (resume_if all k c)
-resume_apart true (Some k) c none =
-    telling_apart (phase_by c.told (max c.wanted k) (least_low c.told)) (with_advances (max c.wanted k) (least_low c.told) c)
-    (by_none c.told (max c.wanted k) (least_low c.told))
-resume_apart true None c none = rests_apart c none
-resume_apart false k c none = rests_apart c none
+resume_apart all k c none = grind (arith, by_none, rests_apart, telling_apart)
 
 recover_apart : (c d : Restarting) (from : ℕ) (body : Body) → c.phase ≡ Recovering → HearsMore c from body d
     → IsApart c.count.number (recover d)

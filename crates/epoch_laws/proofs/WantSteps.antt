@@ -56,19 +56,7 @@ same_more a c body out next is none le =
 
 asked_more : (a i : ℕ) (c : Restarting) (body : Body) (out next : Out Restarting) → out ≡ next → body ≡ AdvanceNo i
     → next.state.wanted ≡ max c.wanted i → WantsMore a c body out.state
-asked_more a i c body out next is bd same =
-    subst (λ (o : Out Restarting). WantsMore a c body o.state) (sym is) (record {
-      letter =
-          omega (
-            arith,
-            ap (asks_for a) bd,
-            most_rises a i (max c.wanted i) (le-max_right c.wanted i),
-            ap
-                (λ (n : ℕ). one_if (nat_le a n)) same,
-          );
-      before =
-          omega (arith, most_rises a c.wanted (max c.wanted i) (le-max_left c.wanted i), ap (λ (n : ℕ). one_if (nat_le a n)) same);
-    })
+asked_more a i c body out next is bd same = grind (arith, le-max_left, le-max_right, most_rises)
 
 left_asks : (a : ℕ) (body : Body) (phase : RestartPhase) (from : ℕ) (c : Restarting) → IsLeft body phase from c
     → asks_for a body ≡ 0

@@ -41,7 +41,7 @@ use Rattle.phase_laws.proofs.Lawful.{IsTreeLawful}
 use Rattle.phase_laws.proofs.Outcomes.{one_more_is}
 use Rattle.phase_laws.proofs.Progress.{MadeByRestarting, course, restarts}
 use Rattle.phase_laws.proofs.Working.{SentIn}
-use Rattle.epoch_laws.proofs.Aside.{Aside, Counts, Heeds, IsBare, IsSentBy, IsTold, Submits, Tells, Works, aside, sends_aside}
+use Rattle.epoch_laws.proofs.Aside.{Aside, IsBare, IsSentBy, IsTold, aside, sends_aside}
 use Rattle.epoch_laws.proofs.AtCoordinator.{asked_stays}
 use Rattle.epoch_laws.proofs.Away.{restarting_kept}
 use Rattle.epoch_laws.proofs.Few.{IsFew, few}
@@ -124,14 +124,7 @@ same_asked s past e same = ap (λ (c : Client). advances_in (take c.next s.rows)
 
 asks_more : (s : ScriptData) (past : List Entry) (e : Entry) → is_lossy s ≡ true → Aside s past e
     → (asked_for s (e ∷ past) ≡ asked_for s past) ⊎ (1 ≤ tally (on (asks_for (asked_for s (e ∷ past)))) e.sent)
-asks_more s past e loses (Submits c first at told bare made) = submits_asks s past e c first loses told made
-asks_more s past e loses (Tells n at bd made) = inl (same_asked s past e made.state)
-asks_more s past e loses (Works p r work) =
-    inl (same_asked s past e (client_kept s past e (λ is. omega (arith, is, work.brings.at, work.brings.below))))
-asks_more s past e loses (Counts p count) =
-    inl (same_asked s past e (client_kept s past e (λ is. omega (arith, is, count.at, count.below))))
-asks_more s past e loses (Heeds p at lt heed) =
-    inl (same_asked s past e (client_kept s past e (λ is. omega (arith, is, at, lt))))
+asks_more s past e loses is = grind (arith, client_kept, same_asked, submits_asks)
 
 -- 2. Entries of the client and of nodes: none takes a letter that asks for advancements.
 asks_away : (s : ScriptData) (a from to : ℕ) (body : Body) → IsMeant s from to body → to ≢ s.nodes → asks_for a body ≡ 0
