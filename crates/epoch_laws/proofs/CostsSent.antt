@@ -99,7 +99,7 @@ paid_spends : (s : ScriptData) (past : List Entry) (e : Entry) (out : Out Restar
     → restarting_in s (e ∷ past) ≡ out.state → e.sent ≡ out.sent → Knows (restarting_in s past).phase
     → Knows out.state.phase → out.state.epoch ≡ (restarting_in s past).epoch
     → Pays s.nodes (restarting_in s past) e.took.body out → IsPaid s past → IsPaid s (e ∷ past)
-paid_spends s past e out at state sent known after epoch pays was = grind (arith, owed, priced_here, spent)
+paid_spends s past e out at state sent known after epoch pays was = grind (arith, priced_here)
 
 -- it forgets, and each node is as far as the phase says, or as far as it was before
 covered_anew : (s : ScriptData) (past : List Entry) (e : Entry) (f : ℕ) (shown : Bool) → IsGood s past → e.actor.0 ≡ s.nodes

@@ -159,7 +159,7 @@ tree_still epoch at s st does from _ sent = tt
 
 sent_still : (s : ScriptData) (past : List Entry) (e : Entry) (epoch : ℕ) (body : Body) → IsSentBy s past e body
     → IsStillTold epoch (turns_in s (e ∷ past)) e.actor.0 body
-sent_still s past e epoch body is = grind (arith, bare_still, tree_still, turns_in)
+sent_still s past e epoch body is = grind (arith, bare_still, tree_still)
 
 -- what holds of each letter in flight, to be as it should
 pub each_now : (P : Letter → Type 0) (s : ScriptData) (past : List Entry) → IsTreeLawful s → IsStepRun s past → IsGood s past

@@ -110,7 +110,7 @@ nodes_stay s past e f shown at was q lt =
     held_at (λ (n : KeepingNode). IsFrom f shown n.core.node.turns.read.0 n.core.node.turns.low.0) s past e q at lt (was q lt)
 
 -- What holds of all that was told, and of what is told now, holds of all that is told with it.
-pub told_each : (P : ℕ → Told → Type 0) (c : Restarting) (from : ℕ) (body : Body) (ts : AllTold) → TellsMore c from body ts
+told_each : (P : ℕ → Told → Type 0) (c : Restarting) (from : ℕ) (body : Body) (ts : AllTold) → TellsMore c from body ts
     → ((q : ℕ) (t : Told) → HasTold c.told q t → P q t)
     → ((u r l : Version) → body ≡ Numbers c.epoch u r l → from < length c.told
     → P from (record { update = u; read = r; low = l }))

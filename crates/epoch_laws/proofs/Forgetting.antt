@@ -139,7 +139,7 @@ order_in s past p e whats.Sweep v good lt right heeds =
 
 order_timely : (s : ScriptData) (past : List Entry) (p e : ℕ) (what : What) (v : Version) → IsGood s past → p < s.nodes → IsOrder s past p e what v
     → is_core_timely s (keeping_in s past p).core (Order e what v) ≡ true
-order_timely s past p e what v good lt right = grind (arith, epoch_in, order_in)
+order_timely s past p e what v good lt right = grind (arith, order_in)
 
 -- and orders of a coordinator that remembers never come
 plain_in : (s : ScriptData) (past : List Entry) (from p : ℕ) (body : Body) → is_lossy s ≡ true → IsMeant s from p body → IsOrderLetter body

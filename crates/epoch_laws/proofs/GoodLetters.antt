@@ -23,7 +23,7 @@ use Rattle.phase_laws.specs.Given.{greatest_given}
 use Rattle.phase_laws.specs.Phases.{Stage, TurnStage, SweepStage, stage_of}
 use Rattle.phase_laws.proofs.Working.{SentIn}
 use Rattle.epoch_laws.proofs.Aside.{Answered, Aside, Asks, Bare, IsBare, IsSentBy, Numbered, OfTree, sends_aside}
-use Rattle.epoch_laws.proofs.Good.{AreNumbers, AreRight, AreWanted, IsAnswer, IsAsTold, IsCurrent, IsGood, IsLatest, IsLetterRight, IsOrder, IsRight, epoch_in, took_right, turns_in}
+use Rattle.epoch_laws.proofs.Good.{AreNumbers, AreRight, AreWanted, IsAnswer, IsAsTold, IsCurrent, IsGood, IsLatest, IsLetterRight, IsOrder, IsRight, took_right, turns_in}
 use Rattle.epoch_laws.proofs.Rising.{Fares}
 
 -- what such an entry leaves: the coordinator, what was given, and of each node what it has come to
@@ -133,7 +133,7 @@ numbers_right : (s : ScriptData) (past : List Entry) (e : Entry) (p n : ℕ) →
     → IsStepRun s (e ∷ past)
     → p < s.nodes → e.took.body ≡ Ask n → (keeping_in s (e ∷ past) p).core ≡ record (keeping_in s past p).core { epoch = n }
     → AreNumbers s (e ∷ past) p n (turns_in s past p).update (turns_in s past p).read (turns_in s past p).low
-numbers_right s past e p n good left run lt bd is = grind (arith, epoch_in, same_epoch, took_right)
+numbers_right s past e p n good left run lt bd is = grind (arith, same_epoch, took_right)
 
 answer_right : (s : ScriptData) (past : List Entry) (e : Entry) (n : ℕ) (what : What) (v : Version) → IsGood s past
     → Remains s past e

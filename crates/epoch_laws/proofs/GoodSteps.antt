@@ -87,7 +87,7 @@ pub heard_at : (s : ScriptData) (past : List Entry) (e : Entry) (x : Restarting)
     → x.epoch ≡ (restarting_in s past).epoch → length x.told ≡ s.nodes
     → ((q : ℕ) (t : Told) → q < s.nodes → HasTold x.told q t → IsHeardOf s past q t)
     → ((k : ℕ) → x.heard ≡ Some k → greatest_given TurnStage past ≤ k + 1) → IsHeard s (e ∷ past)
-heard_at s past e x m still epoch places nodes client = grind (arith, latest_after, length, told_after)
+heard_at s past e x m still epoch places nodes client = grind (arith, latest_after, told_after)
 
 pub up_still : (past : List Entry) (e : Entry) (f w v : ℕ) → IsGivenStill past e → w ≤ v → IsUpTo past f w → IsUpTo (e ∷ past) f v
 up_still past e f w v still le was = omega (arith, was, le, still TurnStage, still ShowStage, still SweepStage)

@@ -99,7 +99,7 @@ left_client d e from q n left is = grind (arith, nat_tests)
 left_none : (client : Bool) (s : ScriptData) (c : Restarting) (q from to : ℕ) (body : Body) → IsLeft body Recovering from c
     → TellsAnew body
     → IsAsked s client q → length c.told ≡ s.nodes → c.nodes ≡ s.nodes → asking client c.epoch q from to body ≡ 0
-left_none client s c q from to body left tells asked places nodes = grind (arith, left_client, left_node, length)
+left_none client s c q from to body left tells asked places nodes = grind (arith, left_client, left_node)
 
 -- Entries of the client and of nodes: who takes a question answers it.
 none_taken : (f : ℕ → ℕ → Body → ℕ) (s : ScriptData) (past : List Entry) (e : Entry) → MayFollow s past e
@@ -111,7 +111,7 @@ answered : (client : Bool) (s : ScriptData) (past : List Entry) (e : Entry) (d n
     → e.took.body ≡ Ask n → e.sent ≡ record { to = record { 0 = to }; body = answer } ∷ []
     → asking client d q e.took.from.0 e.actor.0 (Ask n) ≡ asking client d q e.actor.0 to answer
     → going (asking client d q) s past ≤ going (asking client d q) s (e ∷ past)
-answered client s past e d n q answer to m bd is same = grind (arith, flow_of, leaving)
+answered client s past e d n q answer to m bd is same = grind (arith, flow_of)
 
 tells_same : (client : Bool) (s : ScriptData) (d n q a from to k : ℕ) → IsAsked s client q → a ≡ client_of s
     → asking client d q from a (Ask n) ≡ asking client d q a to (Wanted n k)
@@ -284,7 +284,7 @@ covered : (client : Bool) (s : ScriptData) (past : List Entry) (e : Entry) (d : 
     → Covers client (restarting_in s past) d q e.took.from.0 e.actor.0 e.took.body
     → 1 ≤ going (asking client (restarting_in s past).epoch q) s past + has_told client (restarting_in s past) q
     → 1 ≤ going (asking client d.epoch q) s (e ∷ past) + has_told client d q
-covered client s past e d q m covers was = grind (arith, flow_of, going, still_covered)
+covered client s past e d q m covers was = grind (arith, flow_of, still_covered)
 
 same_told : (client : Bool) (c : Restarting) (i q : ℕ) → has_told client (with_wanted i c) q ≡ has_told client c q
 same_told true c i q = refl

@@ -42,9 +42,6 @@ pub record Fares (s : ScriptData) (past : List Entry) (c d : Core) : Type 0 wher
   pub showed : d.node.turns.read.0 ≤ greatest_given ShowStage past
   pub swept : d.node.turns.low.0 ≤ greatest_given SweepStage past
 
-rises_same : (c : Core) → Rises c c
-rises_same c = omega arith
-
 stays : (s : ScriptData) (past : List Entry) (p : ℕ) → IsGood s past → p < s.nodes
     → Fares s past (keeping_in s past p).core (keeping_in s past p).core
 stays s past p good lt = omega (arith, good.within p lt, good.epochs p lt)

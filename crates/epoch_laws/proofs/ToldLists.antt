@@ -64,7 +64,7 @@ least_told (Some t ∷ o ∷ ts) all some small =
           (record { node = rest.node; told = rest.told; below = rest.below; has = rest.has; fits = rest.fits ∙ sym is })
 
 -- A test that some node passes.
-pub some_told : (test : Option Told → Bool) (P : Told → Type 0) (ts : AllTold) → test None ≡ false → ((t : Told) → test (Some t) ≡ true → P t)
+some_told : (test : Option Told → Bool) (P : Told → Type 0) (ts : AllTold) → test None ≡ false → ((t : Told) → test (Some t) ≡ true → P t)
     → list_any test ts ≡ true → SomeTold ts P
 some_told test P [] none fits any = absurd (cc any)
 some_told test P (None ∷ ts) none fits any =

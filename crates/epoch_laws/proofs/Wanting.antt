@@ -325,7 +325,7 @@ wants_in s (e ∷ past) laws loses run apt = by (cases_eq e.actor.0 s.nodes) (wa
 -- So where no letter is in flight a coordinator that doesn't recover wants all.
 all_by : (s : ScriptData) (past : List Entry) (a : ℕ) (c : Restarting) → in_flight s past ≡ [] → Knows c.phase
     → WantsAll s past a c → a ≤ c.wanted
-all_by s past a c empty knows is = grind (arith, asks_for, some_most)
+all_by s past a c empty knows is = grind (arith, some_most)
 
 pub all_wanted : (s : ScriptData) (past : List Entry) → IsTreeLawful s → is_lossy s ≡ true → IsStepRun s past → AllApt s past
     → in_flight s past ≡ [] → Knows (restarting_in s past).phase → asked_for s past ≤ (restarting_in s past).wanted
