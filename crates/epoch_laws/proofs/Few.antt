@@ -300,16 +300,4 @@ all_few s (e ∷ past) laws loses run apt =
 -- in every run
 pub few : (s : ScriptData) (past : List Entry) → IsTreeLawful s → is_lossy s ≡ true → IsStepRun s past → AllApt s past
     → IsFew s past
-few s past laws loses run apt =
-    let h = all_few s past laws loses run apt in
-    let asked : asked_for s past ≤ advances_in s.rows = asked_most (client_in s past).next s.rows in
-    let nudges : nudged past ≤ 20000 = omega (arith, laws.nudges past run apt, laws.valid.few_trees) in
-    record {
-      epoch = omega (arith, h.epoch, lost_most (client_in s past).next s.rows, laws.valid.limited.loses);
-      lost = omega (arith, h.epoch, lost_most (client_in s past).next s.rows);
-      asked = omega (arith, asked, laws.valid.limited.advances);
-      wanted = h.small.wanted;
-      heard = h.small.heard;
-      letters = h.letters;
-      number = omega (arith, h.small.rounds, laws.valid.limited.advances, nudges);
-    }
+few s past laws loses run apt = grind (arith, all_few, asked_most, lost_most)

@@ -11,7 +11,7 @@ use Rattle.letter_types.specs.declared.bodies.What.{What}
 use Rattle.letter_types.specs.declared.bodies.What.TheVariants.{Turn as ToTurn, Show as ToShow, Sweep as ToSweep}
 use Rattle.letter_types.specs.Steps.{Out}
 use Rattle.world_model.specs.Counts.{one_if}
-use Rattle.world_model.specs.Restarting.{AllTold, Restarting, after_doing, begin_counting, end_advancing, end_counting, first_number, in_restart_phase, least_low, next_advance, phase_by, recover, resume_if}
+use Rattle.world_model.specs.Restarting.{AllTold, Restarting, after_doing, begin_counting, end_counting, first_number, in_restart_phase, least_low, next_advance, phase_by, recover, resume_if}
 use Rattle.world_model.specs.declared.restarting.RestartPhase.{RestartPhase}
 use Rattle.world_model.specs.declared.restarting.RestartPhase.TheVariants.{Idle, Recovering, Doing, Counting, Paused}
 use Rattle.world_model.proofs.Lawful.{is_nudge}
@@ -117,20 +117,7 @@ due_at a c phase at = ap (λ (p : RestartPhase). still_due a p c.count.flag c.en
 
 ends_small : (a m n : ℕ) (c : Restarting) (body : Body) (what : What) → a ≤ 100 → m ≤ a → AreSmall a m n c
     → c.phase ≡ Doing what → StaysSmall a m n c body (after_doing what c).state
-ends_small a m n c body ToTurn few most was at =
-    same_small a m n c (begin_counting false c).state body was refl refl refl
-    (omega (arith, was.rounds, due_at a c (Doing ToTurn) at, one_more_most c.count.number))
-ends_small a m n c body ToShow few most was at =
-    same_small a m n c (begin_counting true c).state body was refl refl refl
-    (omega (arith, was.rounds, due_at a c (Doing ToShow) at, one_more_most c.count.number))
-ends_small a m n c body ToSweep few most was at =
-    same_small a m n c (end_advancing c).state body was refl refl refl (omega (
-      arith,
-      was.rounds,
-      due_at a c (Doing ToSweep) at,
-      one_less a c.ended few,
-      next_due a c.wanted (one_more c.ended) c.count.flag (omega (arith, was.wanted, most)),
-    ))
+ends_small a m n c body what few most was at = grind (arith, due_at, next_due, one_less, one_more_most, same_small)
 
 agrees_small : (a m n : ℕ) (c : Restarting) (from : ℕ) (row : List ℕ) (body : Body) (reads : Bool) → AreSmall a m n c
     → c.phase ≡ Counting reads → StaysSmall a m n c body (end_counting reads (asked_kept from row c)).state

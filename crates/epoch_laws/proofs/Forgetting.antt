@@ -1,13 +1,11 @@
 -- A coordinator that forgets: all is as it should be after each entry of its runs, and so the laws above hold of it.
-use Rattle.std.proofs.Common.{◌≡◌, ◌≢◌, ◌⊎◌, inl, inr, ℕ, ◌+◌, ◌<◌, ◌≤◌, ◌&&◌, true, List, [], ◌∷◌, refl, sym, ap, subst, ◌∙◌, arith, Some}
-use Rattle.std.specs.Prelude.{nat_le}
+use Rattle.std.proofs.Common.{◌≡◌, ◌≢◌, ◌⊎◌, inl, inr, ℕ, ◌<◌, ◌≤◌, true, List, [], ◌∷◌, refl, sym, ap, subst, ◌∙◌, arith, Some}
 use Rattle.std.proofs.lemmas.Bool.{and_from, cases_eq, le-leb}
 use Rattle.tv_base.specs.declared.numbers.Version.{Version}
 use Rattle.letter_types.specs.Kept.{brought}
 use Rattle.letter_types.specs.declared.bodies.Body.{Body}
 use Rattle.letter_types.specs.declared.bodies.Body.TheVariants.{Go, Order}
 use Rattle.letter_types.specs.declared.bodies.What.{What}
-use Rattle.letter_types.specs.declared.bodies.What.TheVariants as whats
 use Rattle.letter_types.specs.declared.entries.Entry.{Entry}
 use Rattle.letter_types.specs.declared.entries.Letter.{Letter}
 use Rattle.letter_types.specs.declared.entries.Outgoing.{Outgoing}
@@ -41,7 +39,7 @@ use Rattle.phase_laws.proofs.Progress.{course, itself, restarts, told_anew}
 use Rattle.phase_laws.proofs.Sending.{IsApart, Sending, sending}
 use Rattle.phase_laws.proofs.Silence.{goes_itself}
 use Rattle.epoch_laws.proofs.Away.{given_kept}
-use Rattle.epoch_laws.proofs.Good.{AllGood, IsGood, IsLetterRight, IsOrder, IsRight, epoch_in, took_right, turns_in}
+use Rattle.epoch_laws.proofs.Good.{AllGood, IsGood, IsLetterRight, IsOrder, IsRight, epoch_in, took_right}
 use Rattle.epoch_laws.proofs.GoodCoordinator.{well_told}
 use Rattle.epoch_laws.proofs.GoodNodes.{good_elsewhere}
 use Rattle.epoch_laws.proofs.GoodTells.{IsWell}
@@ -123,19 +121,7 @@ near_at s past e p r valid good run b v is ver =
 -- an order that its node will heed is in the window of the node's versions
 order_in : (s : ScriptData) (past : List Entry) (p e : ℕ) (what : What) (v : Version) → IsGood s past → p < s.nodes → IsOrder s past p e what v
     → epoch_in s past p ≤ e → is_timely s (node_in s past p) (plain_order what v) ≡ true
-order_in s past p e whats.Turn v good lt right heeds =
-    le-leb v.0 ((turns_in s past p).low.0 + 2) (omega (arith, right.given, (good.within p lt).turned_low))
-order_in s past p e whats.Show v good lt right heeds =
-    let was = good.within p lt in
-    in_window-is (turns_in s past p).low.0 v.0 (omega (arith, right.window lt heeds, was.low_swept)) (omega (arith, right.given, was.showed_low))
-order_in s past p e whats.Sweep v good lt right heeds =
-    let was = good.within p lt in
-    let turns = turns_in s past p in
-    let read : v.0 ≤ turns.read.0 = omega (arith, right.given, was.swept_read) in
-    and_from (nat_le turns.low.0 v.0) (nat_le v.0 turns.read.0 && nat_le v.0 turns.update.0)
-    (le-leb turns.low.0 v.0 (omega (arith, right.window lt heeds, was.low_swept)))
-    (and_from (nat_le v.0 turns.read.0) (nat_le v.0 turns.update.0) (le-leb v.0 turns.read.0 read)
-    (le-leb v.0 turns.update.0 (omega (arith, read, was.read_showed, was.showed_update))))
+order_in s past p e what v good lt right heeds = grind (arith, and_from, in_window-is, le-leb)
 
 order_timely : (s : ScriptData) (past : List Entry) (p e : ℕ) (what : What) (v : Version) → IsGood s past → p < s.nodes → IsOrder s past p e what v
     → is_core_timely s (keeping_in s past p).core (Order e what v) ≡ true

@@ -1,6 +1,6 @@
 -- What the client knows after an entry of its own or of a node: it has asked for no fewer advancements, and of those that it
 -- has heard of each node has come to the end.
-use Rattle.std.proofs.Common.{◌≡◌, ◌⊎◌, inl, inr, ℕ, ◌+◌, ◌<◌, ◌≤◌, max, List, ◌∷◌, ◌++◌, take, drop, sym, ap, subst, arith}
+use Rattle.std.proofs.Common.{◌≡◌, ◌⊎◌, inl, inr, ℕ, ◌<◌, ◌≤◌, max, List, ◌∷◌, take, sym, ap, subst, arith}
 use Rattle.std.proofs.Math.Nat.{max-le}
 use Rattle.std.proofs.Math.Seq.{take-add}
 use Rattle.tv_base.specs.declared.numbers.Version.{Version}
@@ -10,7 +10,7 @@ use Rattle.letter_types.specs.declared.entries.Outgoing.{Outgoing}
 use Rattle.tx_trees.specs.Counts.{advances_in}
 use Rattle.tx_trees.specs.ScriptData.{ScriptData}
 use Rattle.tx_trees.proofs.Rebuilding.{advances_in-append}
-use Rattle.world_model.specs.Client.{Client, submit, submitted}
+use Rattle.world_model.specs.Client.{Client, submit}
 use Rattle.world_model.specs.Runs.{MayFollow, client_in}
 use Rattle.world_model.proofs.Flows.{client_kept}
 use Rattle.world_model.proofs.Nexts.{MadeByClient}
@@ -27,12 +27,7 @@ record Knows (s : ScriptData) (past : List Entry) (e : Entry) : Type 0 where
 -- more rows ask for no fewer advancements
 submits_more : (s : ScriptData) (c : Client) (first : List Outgoing)
     → advances_in (take c.next s.rows) ≤ advances_in (take (submit s c first).state.next s.rows)
-submits_more s c first =
-    let n = submitted c (take c.next s.rows) (drop c.next s.rows) in
-    let rest = take n (drop c.next s.rows) in
-    let all : advances_in (take (c.next + n) s.rows) ≡ advances_in (take c.next s.rows ++ rest) =
-    ap advances_in (take-add c.next n s.rows) in
-    omega (arith, all, advances_in-append (take c.next s.rows) rest)
+submits_more s c first = grind (arith, advances_in-append, take-add)
 
 ended_by : (s : ScriptData) (past : List Entry) (e : Entry) (ended p : ℕ) → IsGood s past → MayFollow s past e → p < s.nodes
     → ((ended ≡ (client_in s past).ended)

@@ -14,7 +14,7 @@ use Rattle.world_model.specs.Client.{advances_sent}
 use Rattle.world_model.specs.Counts.{Each}
 use Rattle.world_model.specs.Node.{Node}
 use Rattle.world_model.specs.Restarting.{Restarting}
-use Rattle.world_model.specs.Runs.{IsStepRun, client_in, in_flight, keeping_in, node_in, restarting_in}
+use Rattle.world_model.specs.Runs.{IsStepRun, client_in, in_flight, keeping_in, restarting_in}
 use Rattle.world_model.proofs.EachOutstanding.{each_waits}
 use Rattle.world_model.proofs.Every.{each_both, each_map, each_step}
 use Rattle.strict_laws.specs.Meant.{IsLetterMeant, IsMeant}
@@ -22,7 +22,7 @@ use Rattle.strict_laws.proofs.Meant.{letters_are_meant}
 use Rattle.phase_laws.specs.Given.{greatest_given}
 use Rattle.phase_laws.specs.Phases.{Stage, TurnStage, SweepStage, stage_of}
 use Rattle.phase_laws.proofs.Working.{SentIn}
-use Rattle.epoch_laws.proofs.Aside.{Answered, Aside, Asks, Bare, IsBare, IsSentBy, Numbered, OfTree, sends_aside}
+use Rattle.epoch_laws.proofs.Aside.{Aside, IsBare, IsSentBy, sends_aside}
 use Rattle.epoch_laws.proofs.Good.{AreNumbers, AreRight, AreWanted, IsAnswer, IsAsTold, IsCurrent, IsGood, IsLatest, IsLetterRight, IsOrder, IsRight, took_right, turns_in}
 use Rattle.epoch_laws.proofs.Rising.{Fares}
 
@@ -147,18 +147,8 @@ answer_right s past e n what v good left run bd =
 
 sent_right : (s : ScriptData) (past : List Entry) (e : Entry) (to : ℕ) (body : Body) → IsGood s past → Remains s past e
     → IsStepRun s (e ∷ past) → IsSentBy s past e body → IsRight s (e ∷ past) e.actor.0 to body
-sent_right s past e to body good left run (Bare bare) = bare_right s (e ∷ past) e.actor.0 to body bare
-sent_right s past e to body good left run (OfTree p r work sent) =
-    tree_right s (e ∷ past) e.actor.0 to (node_in s past p) r.body body sent
-sent_right s past e to body good left run (Asks n bd is) =
-    subst (IsRight s (e ∷ past) e.actor.0 to) (sym is) (wanted_right s past e n good left run bd)
-sent_right s past e to body good left run (Numbered p n at lt bd same is) =
-    subst (IsRight s (e ∷ past) e.actor.0 to) (sym is)
-    (subst
-    (λ (a : ℕ). AreNumbers s (e ∷ past) a n (turns_in s past p).update (turns_in s past p).read (turns_in s past p).low) (sym at)
-    (numbers_right s past e p n good left run lt bd same))
-sent_right s past e to body good left run (Answered n what v bd is) =
-    subst (IsRight s (e ∷ past) e.actor.0 to) (sym is) (answer_right s past e n what v good left run bd)
+sent_right s past e to body good left run is =
+    grind (arith, answer_right, bare_right, numbers_right, tree_right, wanted_right)
 
 -- so all are
 pub letters_right : (s : ScriptData) (past : List Entry) (e : Entry) → IsValid s → IsStepRun s (e ∷ past) → IsGood s past

@@ -1,5 +1,5 @@
 -- Entries of the client and of nodes leave all as it should be.
-use Rattle.std.proofs.Common.{◌≡◌, ◌≢◌, ◌⊎◌, inl, inr, ℕ, ◌+◌, ◌<◌, ◌≤◌, true, List, ◌∷◌, length, refl, sym, ap, subst, ◌∙◌, arith}
+use Rattle.std.proofs.Common.{◌≡◌, ◌≢◌, ◌⊎◌, ℕ, ◌+◌, ◌<◌, ◌≤◌, true, List, ◌∷◌, length, refl, sym, ap, subst, ◌∙◌, arith}
 use Rattle.std.specs.Prelude.{slice_get}
 use Rattle.std.proofs.lemmas.Bool.{cases_eq}
 use Rattle.tv_base.specs.declared.numbers.Version.{Version}
@@ -145,17 +145,8 @@ level_after : (s : ScriptData) (past : List Entry) (e : Entry) (q p : ℕ) (phas
     → IsSteady s past phase → (q ≡ p) ⊎ (q ≢ p)
     → LevelOf phase (restarting_in s past).ended (restarting_in s past).epoch (epoch_in s (e ∷ past) q) (turns_in s (e ∷ past) q)
     (going (order_to (restarting_in s past).epoch q) s (e ∷ past))
-level_after s past e q p phase what v valid good left at lt current there others was (inl is) =
-    let c = restarting_in s past in
-    let more = going (order_to c.epoch q) s (e ∷ past) in
-    level_up phase c.ended c.epoch (keeping_in s past q).core (keeping_in s (e ∷ past) q).core (going (order_to c.epoch q) s past) more
-    (left.fares q lt).rises (was.level q lt)
-    (comes_by c phase what v (turns_in s (e ∷ past) q) more at current (ended_few s past phase valid good was)
-    (subst (λ (n : ℕ). v.0 ≤ version_of what (turns_in s (e ∷ past) n)) (sym is) there))
-level_after s past e q p phase what v valid good left at lt current there others was (inr ne) =
-    let c = restarting_in s past in
-    level_stays phase c.ended c.epoch (keeping_in s past q).core (keeping_in s (e ∷ past) q).core (going (order_to c.epoch q) s past)
-    (going (order_to c.epoch q) s (e ∷ past)) (left.fares q lt).rises (others ne) (was.level q lt)
+level_after s past e q p phase what v valid good left at lt current there others was is =
+    grind (arith, comes_by, ended_few, level_stays, level_up)
 
 steady_after : (s : ScriptData) (past : List Entry) (e : Entry) (phase : RestartPhase) → IsValid s → IsGood s past
     → Remains s past e

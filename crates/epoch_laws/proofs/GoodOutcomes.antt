@@ -1,5 +1,5 @@
 -- Entries of the coordinator, outcome by outcome: it forgets, an advancement is asked for or goes on, or the count does.
-use Rattle.std.proofs.Common.{◌≡◌, ◌⊎◌, ℕ, ◌+◌, ◌<◌, ◌≤◌, ◌-◌, ◌==◌, Bool, true, false, List, [], ◌∷◌, length, refl, sym, ap, subst, ◌∙◌, arith, Some, None}
+use Rattle.std.proofs.Common.{◌≡◌, ◌⊎◌, ℕ, ◌+◌, ◌<◌, ◌≤◌, ◌-◌, ◌==◌, Bool, true, false, List, [], ◌∷◌, refl, sym, ap, subst, ◌∙◌, arith}
 use Rattle.std.proofs.lemmas.Bool.Decides.{nat_tests}
 use Rattle.std.proofs.lemmas.List.{length-replicate}
 use Rattle.tv_base.specs.Outside.{one_more}
@@ -36,17 +36,11 @@ use Rattle.epoch_laws.proofs.Good.{IsCurrent, IsHeard, IsInPhase, IsRight, IsUpT
 use Rattle.epoch_laws.proofs.GoodSteps.{AllAsk, IsAsk, IsMove, answer_token, asks_nothing, asks_right, steady_at, told_order, up_still}
 use Rattle.epoch_laws.proofs.GoodTells.{AllEnd, IsBegun, IsWell, ends_nothing, ends_right, good_calm, good_tells, well_by}
 use Rattle.epoch_laws.proofs.RecoverSteps.{next_each}
-use Rattle.epoch_laws.proofs.ToldLists.{HasTold, none_told}
+use Rattle.epoch_laws.proofs.ToldLists.{none_told}
 
 -- 1. It forgets: it gives nothing, and each node and the client are asked.
 nothing_heard : (s : ScriptData) (past : List Entry) (e : Entry) → IsMove s past e (next_epoch (restarting_in s past)) → IsHeard s (e ∷ past)
-nothing_heard s past e m =
-    let c = restarting_in s past in
-    record {
-      places = ap (λ (d : Restarting). length d.told) m.state ∙ length-replicate c.nodes None ∙ restarting_nodes s past;
-      nodes = λ q t lt has. absurd (none_told c.nodes q t (subst (λ (d : Restarting). HasTold d.told q t) m.state has));
-      client = λ k has. let none : None ≡ Some k = sym (ap (λ (d : Restarting). d.heard) m.state) ∙ has in absurd (cc none);
-    }
+nothing_heard s past e m = grind (arith, length-replicate, none_told, restarting_nodes)
 
 forget_sends : (P : Outgoing → Type 0) (c : Restarting) → ((to : ℕ) → P (record { to = record { 0 = to }; body = Ask (one_more c.epoch) }))
     → Each P (forget c).sent

@@ -120,13 +120,7 @@ told_order d q from to body tells = grind arith
 
 orders_same : (s : ScriptData) (past : List Entry) (e : Entry) (d q : ℕ) → MayFollow s past e → TellsAnew e.took.body → AllAsk e.sent
     → going (order_to d q) s (e ∷ past) ≡ going (order_to d q) s past
-orders_same s past e d q m tells asks =
-    omega (
-      arith,
-      flow_of (order_to d q) s past e m,
-      told_order d q e.took.from.0 e.actor.0 e.took.body tells,
-      orders_none d q e.actor.0 e.sent (asks_nothing e.sent asks),
-    )
+orders_same s past e d q m tells asks = grind (arith, asks_nothing, flow_of, orders_none, told_order)
 
 tokens_same : (s : ScriptData) (past : List Entry) (e : Entry) (d : ℕ) → MayFollow s past e → AllAsk e.sent
     → going (token d) s (e ∷ past) + token d e.took.from.0 e.actor.0 e.took.body ≡ going (token d) s past

@@ -13,7 +13,7 @@ use Rattle.letter_types.specs.declared.entries.Outgoing.{Outgoing}
 use Rattle.node_versions.specs.declared.turns.Turns.{Turns}
 use Rattle.tx_trees.specs.ScriptData.{ScriptData}
 use Rattle.world_model.specs.Coordinator.{to_nodes}
-use Rattle.world_model.specs.Counts.{Each, tally}
+use Rattle.world_model.specs.Counts.{Each}
 use Rattle.world_model.specs.Keeping.{KeepingNode}
 use Rattle.world_model.specs.Restarting.{Restarting, target}
 use Rattle.world_model.specs.Runs.{restarting_in}
@@ -26,7 +26,7 @@ use Rattle.phase_laws.specs.Advances.{asked_for}
 use Rattle.phase_laws.specs.Given.{IsGivenAnew, greatest_given, greatest_told, version_told}
 use Rattle.phase_laws.specs.Phases.{Stage, TurnStage, ShowStage, SweepStage, stage_of}
 use Rattle.phase_laws.proofs.Advancing.{greatest_least, sent_given}
-use Rattle.phase_laws.proofs.Waves.{flow_of, going, leaving}
+use Rattle.phase_laws.proofs.Waves.{flow_of, going}
 use Rattle.epoch_laws.proofs.AfterCoordinator.{IsFit, IsLast, IsNewlySilent, OrderNothing, OrdersNothing, fits_still, given_still, good_now, letters_told, tokens_none}
 use Rattle.epoch_laws.proofs.AtCoordinator.{held_at, order_sent, orders_tokens}
 use Rattle.epoch_laws.proofs.Good.{IsGood, IsInPhase, IsRight, IsSteady, IsUpTo, Knows, LevelOf, epoch_in, order_to, token, turns_in}
@@ -238,34 +238,11 @@ order_right s past e x what f w to m begun t so = record {
 tokens_sent : (s : ScriptData) (past : List Entry) (e : Entry) (x : Restarting) (what : What) (f w : ℕ) → IsMove s past e x → IsLast s past e
     → Tells s past e what f w → going (token (restarting_in s past).epoch) s (e ∷ past) ≡ s.nodes
 tokens_sent s past e x what f w m last t =
-    let d = (restarting_in s past).epoch in
-    let os = to_nodes s.nodes (Order d what (target what f)) in
-    let at : token d e.took.from.0 e.took.to.0 e.took.body ≡ token d e.took.from.0 e.actor.0 e.took.body =
-    ap (λ (n : ℕ). token d e.took.from.0 n e.took.body) m.run.0.addressee in
-    omega (
-      arith,
-      last,
-      at,
-      flow_of (token d) s past e m.run.0,
-      ap (λ (all : List Outgoing). tally (leaving (token d) e.actor.0) all) t.sent,
-      tally-append (leaving (token d) e.actor.0) t.before os,
-      tokens_none d e.actor.0 t.before (ends_nothing f t.before t.ends),
-      orders_tokens s.nodes d e.actor.0 what (target what f),
-    )
+    grind (arith, ends_nothing, flow_of, orders_tokens, tally-append, tokens_none)
 
 orders_sent : (s : ScriptData) (past : List Entry) (e : Entry) (x : Restarting) (what : What) (f w q : ℕ) → IsMove s past e x
     → Tells s past e what f w → q < s.nodes → 1 ≤ going (order_to (restarting_in s past).epoch q) s (e ∷ past)
-orders_sent s past e x what f w q m t lt =
-    let d = (restarting_in s past).epoch in
-    let os = to_nodes s.nodes (Order d what (target what f)) in
-    omega (
-      arith,
-      flow_of (order_to d q) s past e m.run.0,
-      told_order d q e.took.from.0 e.actor.0 e.took.body m.tells,
-      ap (λ (all : List Outgoing). tally (leaving (order_to d q) e.actor.0) all) t.sent,
-      tally-append (leaving (order_to d q) e.actor.0) t.before os,
-      order_sent s.nodes d e.actor.0 what (target what f) q lt,
-    )
+orders_sent s past e x what f w q m t lt = grind (arith, flow_of, order_sent, tally-append, told_order)
 
 -- so it is in its phase
 tells_steadily : (s : ScriptData) (past : List Entry) (e : Entry) (x : Restarting) (what : What) (f w : ℕ) → IsMove s past e x → IsLast s past e

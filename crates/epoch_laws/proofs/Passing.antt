@@ -97,14 +97,7 @@ answer_flows : (s : ScriptData) (past : List Entry) (e : Entry) (n k : ℕ) (wha
     → AreWakes more
     → going f s (e ∷ past) + f e.took.from.0 e.actor.0 (Order k what v) ≡ going f s past + f e.actor.0 s.nodes (Obeyed k what v)
 answer_flows s past e n k what v more f m weighs bd sent woken =
-    let took : f e.took.from.0 e.actor.0 e.took.body ≡ f e.took.from.0 e.actor.0 (Order k what v) =
-    ap (λ (b : Body). f e.took.from.0 e.actor.0 b) bd in
-    let all : tally (leaving f e.actor.0) e.sent ≡ tally (leaving f e.actor.0) (to_coordinator s (Obeyed k what v) ++ more) =
-    ap (λ (os : List Outgoing). tally (leaving f e.actor.0) os) sent in
-    let rest : tally (leaving f e.actor.0) more ≡ 0 =
-    sum_none n e.actor.0 f more weighs
-    (each_map (λ (o : Outgoing). IsWake o.body) (λ (o : Outgoing). IsNoToken o.body) more (λ o wake. wake_none o.body wake) woken) in
-    omega (arith, flow_of f s past e m, took, all, tally-append (leaving f e.actor.0) (to_coordinator s (Obeyed k what v)) more, rest)
+    grind (arith, each_map, flow_of, sum_none, tally-append, wake_none)
 
 -- What becomes of those of the present epoch.
 pub data Passes (s : ScriptData) (past : List Entry) (e : Entry) : Type 0 where

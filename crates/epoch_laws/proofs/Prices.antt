@@ -232,16 +232,7 @@ keeps_done : (n : ℕ) (reads : Bool) (c : Restarting) (from : ℕ) (row : List 
     → c.nodes ≡ n → c.phase ≡ Counting reads
     → out ≡ record { state = done_kept from row c; sent = asks_with from row c; acts = [] }
     → StepCosts n c from body out
-keeps_done n reads c from row body out nodes at is =
-    let dones = set c.count.current.dones from (Some row) in
-    let new = all_in dones in
-    let old = all_in c.count.current.dones in
-    let now : unasked n c.phase dones ≡ (if new then 0 else 2 * n) = ap (λ (p : RestartPhase). unasked n p dones) at in
-    let was : unasked n c.phase c.count.current.dones ≡ (if old then 0 else 2 * n) =
-    ap (λ (p : RestartPhase). unasked n p c.count.current.dones) at in
-    let pays = done_pays n c.nodes new old (AskAsked c.count.current.version c.count.current.number) nodes refl
-    (λ all. put_all c.count.current.dones from row all) in
-    spends n c from body out _ is (λ no. cc (sym at ∙ no)) (λ no. cc (sym at ∙ no)) refl (omega (arith, now, was, pays))
+keeps_done n reads c from row body out nodes at is = grind (arith, done_pays, put_all, spends)
 
 -- What it hears while it recovers.
 pub tells_more : (c d : Restarting) (from : ℕ) (body : Body) → HearsMore c from body d → TellsMore c from body d.told

@@ -8,7 +8,6 @@ use Rattle.std.proofs.lemmas.Bool.Decides.{nat_tests}
 use Rattle.std.proofs.Math.Bool.{and-false}
 use Rattle.tv_base.specs.Outside.{one_more}
 use Rattle.tv_base.specs.declared.numbers.Version.{Version}
-use Rattle.letter_types.specs.Letters.{letters_of}
 use Rattle.letter_types.specs.declared.bodies.Body.{Body}
 use Rattle.letter_types.specs.declared.bodies.Body.TheVariants.{Go, Ask, Numbers, Wanted}
 use Rattle.letter_types.specs.declared.entries.Entry.{Entry}
@@ -33,12 +32,12 @@ use Rattle.phase_laws.proofs.Progress.{MadeByRestarting, TellsAnew, course, rest
 use Rattle.phase_laws.proofs.Waves.{flow_of, going, leaving}
 use Rattle.phase_laws.proofs.Working.{IsOfTrees}
 use Rattle.epoch_laws.proofs.Aside.{Aside, Counts, Heeds, IsEpochless, Submits, Tells, Works, aside}
-use Rattle.epoch_laws.proofs.AtCoordinator.{left_of, nodes_sent}
+use Rattle.epoch_laws.proofs.AtCoordinator.{nodes_sent}
 use Rattle.epoch_laws.proofs.Away.{restarting_kept}
 use Rattle.epoch_laws.proofs.Forgetting.{good_run}
 use Rattle.epoch_laws.proofs.Good.{IsGood, Knows, in_phase}
 use Rattle.epoch_laws.proofs.RecoverSteps.{Forgot, HasMore, IsWanted, Stays, Waiting, has_all, waiting}
-use Rattle.epoch_laws.proofs.RestartSteps.{HearsMore, IsLeft, OfClient, OfNode, restart_step}
+use Rattle.epoch_laws.proofs.RestartSteps.{HearsMore, IsLeft, restart_step}
 
 -- a letter that asks actor q in epoch e, or answers: the client, or a node
 abbrev pub asking : Bool → ℕ → ℕ → ℕ → ℕ → Body → ℕ
@@ -177,12 +176,7 @@ aside_awaits s past e good m away next was =
 -- what is sent is in flight then
 sent_there : (f : ℕ → ℕ → Body → ℕ) (s : ScriptData) (past : List Entry) (e : Entry)
     → tally (leaving f e.actor.0) e.sent ≤ going f s (e ∷ past)
-sent_there f s past e =
-    omega (
-      arith,
-      tally-append (λ (l : Letter). f l.from.0 l.to.0 l.body) (left_of s past e) (letters_of e),
-      sealed_tally (λ (l : Letter). f l.from.0 l.to.0 l.body) (leaving f e.actor.0) e.stamp.0 e.actor.0 0 e.sent (λ i o. refl),
-    )
+sent_there f s past e = grind (arith, sealed_tally, tally-append)
 
 -- it forgets, and asks all
 asks_all : (client : Bool) (s : ScriptData) (c : Restarting) (a q : ℕ) → c.nodes ≡ s.nodes → IsAsked s client q
@@ -228,13 +222,7 @@ told_more (x ∷ ts) (suc from) (suc q) t = told_more ts from q t
 
 node_told : (ts : AllTold) (d from q : ℕ) (t : Told) → from < length ts
     → one_if ((d == d) && (from == q)) ≤ is_told (slice_get (slice_set ts from (Some t)) q)
-node_told ts d from q t lt = by (cases_eq from q) where
-  by : (from ≡ q) ⊎ (from ≢ q) → one_if ((d == d) && (from == q)) ≤ is_told (slice_get (slice_set ts from (Some t)) q)
-  by (inl same) =
-      let there : is_told (slice_get (slice_set ts from (Some t)) q) ≡ 1 =
-      ap (λ (k : ℕ). is_told (slice_get (slice_set ts from (Some t)) k)) (sym same) ∙ told_there ts from t lt in
-      omega (arith, there, one_if_most ((d == d) && (from == q)))
-  by (inr other) = omega (arith, asks_other d d from q other)
+node_told ts d from q t lt = grind (arith, asks_other, cases_eq, one_if_most, told_there)
 
 heard_more : (o : Option ℕ) → is_heard o ≤ 1
 heard_more None = omega arith
@@ -248,31 +236,7 @@ record Covers (client : Bool) (c d : Restarting) (q from to : ℕ) (body : Body)
 
 hears_covers : (client : Bool) (c d : Restarting) (q from to : ℕ) (body : Body) → HearsMore c from body d
     → Covers client c d q from to body
-hears_covers true c d q from to body (OfNode u r l bd lt is) =
-    subst (λ (x : Restarting). Covers true c x q from to body) (sym is) (record {
-      epoch = refl;
-      letter = omega (arith, ap (asking true c.epoch q from to) bd);
-      before = omega arith;
-    })
-hears_covers false c d q from to body (OfNode u r l bd lt is) =
-    let t : Told = record { update = u; read = r; low = l } in
-    subst (λ (x : Restarting). Covers false c x q from to body) (sym is) (record {
-      epoch = refl;
-      letter = omega (arith, ap (asking false c.epoch q from to) bd, node_told c.told c.epoch from q t lt);
-      before = told_more c.told from q t;
-    })
-hears_covers true c d q from to body (OfClient k bd it is) =
-    subst (λ (x : Restarting). Covers true c x q from to body) (sym is) (record {
-      epoch = refl;
-      letter = omega (arith, ap (asking true c.epoch q from to) bd, one_if_most ((c.epoch == c.epoch) && (from == q)));
-      before = heard_more c.heard;
-    })
-hears_covers false c d q from to body (OfClient k bd it is) =
-    subst (λ (x : Restarting). Covers false c x q from to body) (sym is) (record {
-      epoch = refl;
-      letter = omega (arith, ap (asking false c.epoch q from to) bd);
-      before = omega arith;
-    })
+hears_covers client c d q from to body is = grind (arith, heard_more, node_told, one_if_most, told_more)
 
 -- a witness of one kind or the other is still there
 pub still_covered : (now before weight kept was : ℕ) → 1 ≤ before + was → before ≤ now + weight → weight ≤ kept → was ≤ kept

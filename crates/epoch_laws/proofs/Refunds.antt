@@ -1,5 +1,5 @@
 -- What of an advancement a coordinator that forgets need not do again, and how much it has done of all.
-use Rattle.std.proofs.Common.{if◌then◌else◌, ◌≡◌, ◌⊎◌, inl, inr, ℕ, ◌+◌, ◌*◌, ◌<◌, ◌≤◌, ◌==◌, ◌&&◌, Bool, true, false, List, [], ◌∷◌, refl, ap, arith}
+use Rattle.std.proofs.Common.{if◌then◌else◌, ◌≡◌, ◌⊎◌, inl, inr, ℕ, ◌+◌, ◌*◌, ◌<◌, ◌≤◌, ◌==◌, ◌&&◌, Bool, true, false, List, refl, ap, arith}
 use Rattle.std.specs.List.{list_any}
 use Rattle.std.proofs.Math.Nat.{mul-le-mul_right}
 use Rattle.std.proofs.lemmas.Bool.Decides.{nat_tests}
@@ -10,15 +10,14 @@ use Rattle.letter_types.specs.declared.bodies.Body.TheVariants.{Ask}
 use Rattle.letter_types.specs.declared.bodies.What.{What}
 use Rattle.letter_types.specs.declared.bodies.What.TheVariants.{Turn as ToTurn, Show as ToShow, Sweep as ToSweep}
 use Rattle.letter_types.specs.declared.entries.Entry.{Entry}
-use Rattle.letter_types.specs.declared.entries.Letter.{Letter}
 use Rattle.node_versions.specs.declared.turns.Turns.{Turns}
 use Rattle.tx_trees.specs.Counts.{advances_in}
 use Rattle.tx_trees.specs.ScriptData.{ScriptData}
 use Rattle.tx_trees.specs.Valid.{IsValid}
 use Rattle.world_model.specs.Coordinator.{to_nodes}
 use Rattle.world_model.specs.Counts.{one_if, tally}
-use Rattle.world_model.specs.Restarting.{AllTold, Restarting, forget, least_low, phase_by, read_is, to_client}
-use Rattle.world_model.specs.Runs.{in_flight, restarting_in}
+use Rattle.world_model.specs.Restarting.{AllTold, Restarting, forget, least_low, phase_by, read_is}
+use Rattle.world_model.specs.Runs.{restarting_in}
 use Rattle.world_model.specs.declared.restarting.RestartPhase.{RestartPhase}
 use Rattle.world_model.specs.declared.restarting.RestartPhase.TheVariants.{Idle, Recovering, Doing, Counting, Paused}
 use Rattle.world_model.proofs.Bags.{tally-append}
@@ -27,9 +26,8 @@ use Rattle.world_model.proofs.Orders.{of, to_nodes_each}
 use Rattle.world_model.proofs.Sends.{on}
 use Rattle.phase_laws.specs.Given.{greatest_given}
 use Rattle.phase_laws.specs.Phases.{TurnStage, stage_of}
-use Rattle.phase_laws.proofs.Waves.{going}
 use Rattle.epoch_laws.proofs.Floors.{AllAskAnew, AsksAnew, IsFrom, IsRestored}
-use Rattle.epoch_laws.proofs.Good.{IsCurrent, IsGood, IsLetterRight, IsRight, IsSteady, LevelOf, ended_few, ended_most, least_read, least_update, low_turned, order_to, read_turned, turned_most, turns_in}
+use Rattle.epoch_laws.proofs.Good.{IsCurrent, IsGood, IsRight, IsSteady, LevelOf, ended_few, ended_most, least_read, least_update, low_turned, order_to, read_turned, turned_most, turns_in}
 use Rattle.epoch_laws.proofs.Prices.{IsEntered, begun, doing_entered, next_entered, next_orders, ordered, price, to_nodes_price}
 use Rattle.epoch_laws.proofs.RecoverSteps.{phase_each}
 
@@ -63,13 +61,7 @@ from_level phase f e epoch turns orders level = record { low = level.low; read =
 
 -- Forgetting: each node and the client are asked.
 pub forget_price : (c : Restarting) → tally (on price) (forget c).sent ≡ 2 * c.nodes + 2
-forget_price c =
-    let e : ℕ = one_more c.epoch in
-    omega (
-      arith,
-      to_nodes_price c.nodes (Ask e) refl,
-      tally-append (on price) (to_nodes c.nodes (Ask e)) (to_client (Ask e) c ∷ []),
-    )
+forget_price c = grind (arith, tally-append, to_nodes_price)
 
 pub forget_asks : (c : Restarting) → AllAskAnew (forget c).sent
 forget_asks c =
@@ -137,21 +129,7 @@ less_or a b = grind arith
 turn_given : (s : ScriptData) (past : List Entry) (q : ℕ) → IsGood s past → q < s.nodes → (restarting_in s past).ended ≤ 100
     → (restarting_in s past).phase ≡ Doing ToTurn → IsSteady s past (Doing ToTurn)
     → (restarting_in s past).ended + 2 ≤ greatest_given TurnStage past
-turn_given s past q good lt few at steady =
-    by (less_or (greatest_given TurnStage past) ((restarting_in s past).ended + 2)) where
-      e : ℕ
-      e = (restarting_in s past).epoch
-
-      by : ((restarting_in s past).ended + 2 ≤ greatest_given TurnStage past)
-          ⊎ (greatest_given TurnStage past < (restarting_in s past).ended + 2)
-          → (restarting_in s past).ended + 2 ≤ greatest_given TurnStage past
-      by (inl most) = most
-      by (inr less) =
-          let none : going (order_to e q) s past ≡ 0 =
-          each_none (λ (l : Letter). order_to e q l.from.0 l.to.0 l.body) (in_flight s past)
-          (each_map (IsLetterRight s past) (λ (l : Letter). order_to e q l.from.0 l.to.0 l.body ≡ 0) (in_flight s past)
-          (λ l right. order_none s past q l.from.0 l.to.0 l.body few at less right) good.letters) in
-          omega (arith, none, (steady.level q lt).comes, (good.within q lt).update_turned)
+turn_given s past q good lt few at steady = grind (arith, each_map, each_none, less_or, order_none)
 
 -- so no more is done than all that the client asks for
 all_done : (n a f : ℕ) (phase : RestartPhase) → f + 1 ≤ a → f * (14 * n + 1) + begun n phase ≤ a * (14 * n + 1)

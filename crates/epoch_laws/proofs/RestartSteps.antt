@@ -97,12 +97,7 @@ same_version v w is = ap (λ (n : ℕ). record { 0 = n }) is
 -- an answer to the present order
 answer_is : (e : ℕ) (what : What) (v : Version) (doing : What) (c : Restarting) → is_answer e what v doing c ≡ true
     → Obeyed e what v ≡ Obeyed c.epoch doing (target doing c.ended)
-answer_is e what v doing c is =
-    let parts = and_parts (e == c.epoch) (same_what what doing && (v.0 == (target doing c.ended).0)) is in
-    let rest = and_parts (same_what what doing) (v.0 == (target doing c.ended).0) parts.1 in
-    ap (λ (n : ℕ). Obeyed n what v) (eqb-true e c.epoch parts.0)
-    ∙ ap (λ (w : What). Obeyed c.epoch w v) (same_order what doing rest.0)
-    ∙ ap (λ (w : Version). Obeyed c.epoch doing w) (same_version v (target doing c.ended) (eqb-true v.0 (target doing c.ended).0 rest.1))
+answer_is e what v doing c is = grind (arith, and_parts, eqb-true, same_order, same_version)
 
 -- Steps by their tests.
 numbers_step : (e : ℕ) (u r l : Version) (from : ℕ) (c : Restarting) (test : Bool) → c.phase ≡ Recovering

@@ -1,5 +1,5 @@
 -- A letter that is no order and no question of a coordinator that forgets leaves its node in the epoch in which it is.
-use Rattle.std.proofs.Common.{◌≡◌, ℕ, Bool, true, false, List, ◌∷◌, refl, ap, ◌∙◌, Option, Some, None, arith}
+use Rattle.std.proofs.Common.{◌≡◌, ℕ, Bool, true, false, List, ◌∷◌, refl, Option, Some, None, arith}
 use Rattle.std.specs.Prelude.{if◌then◌else◌}
 use Rattle.tv_base.specs.declared.numbers.SubNo.{SubNo}
 use Rattle.tv_base.specs.declared.numbers.TreeNo.{TreeNo}
@@ -88,9 +88,4 @@ brought_stays s p l n (Some r) is kept none =
 -- so is an entry
 pub epoch_stays : (s : ScriptData) (past : List Entry) (e : Entry) (p : ℕ) → e.actor.0 ≡ p → IsOfNoEpoch e.took.body
     → (keeping_in s (e ∷ past) p).core.epoch ≡ (keeping_in s past p).core.epoch
-epoch_stays s past e p at none =
-    let n : KeepingNode = keeping_in s past p in
-    ap (λ (m : KeepingNode). m.core.epoch) (keeping_here s past e p at)
-    ∙ brought_stays s p e.took n (brought n.kept e.took e.took.body) refl
-    (each_map (λ (r : Letter). IsAsking r.body) (λ (r : Letter). IsOfNoEpoch r.body) _ (λ r asks. asks_of_none r.body asks) (kept_ask s past p))
-    none
+epoch_stays s past e p at none = grind (arith, asks_of_none, brought_stays, each_map, keeping_here, kept_ask)
