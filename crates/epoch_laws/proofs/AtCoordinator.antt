@@ -17,7 +17,7 @@ use Rattle.world_model.specs.Coordinator.{to_nodes}
 use Rattle.world_model.specs.Counts.{Each, tally}
 use Rattle.world_model.specs.Keeping.{KeepingNode}
 use Rattle.world_model.specs.Runs.{MayFollow, client_in, in_flight, keeping_in, restarting_in}
-use Rattle.world_model.proofs.Bags.{tally-append, tally-drop, one_if_and, one_if_both, one_if_other, one_if_same}
+use Rattle.world_model.proofs.Bags.{tally-append, tally-drop, one_if_both, one_if_other, one_if_same}
 use Rattle.world_model.proofs.Every.{each_append, each_map, each_none, each_sealed, each_zero}
 use Rattle.world_model.proofs.Flows.{client_kept}
 use Rattle.world_model.proofs.Outstanding.{keeping_elsewhere}
@@ -80,7 +80,7 @@ none_left s past e m last =
 
 -- An order to a node is one of the epoch's letters.
 pub order_most : (e q from to : ℕ) (body : Body) → order_to e q from to body ≤ token e from to body
-order_most e q from to body = grind (arith, one_if_and)
+order_most e q from to body = grind arith
 
 -- Orders to all nodes.
 pub orders_tokens : (n e a : ℕ) (what : What) (v : Version) → tally (leaving (token e) a) (to_nodes n (Order e what v)) ≡ n

@@ -193,7 +193,7 @@ resume_price : (n k : ℕ) (d : Restarting) → d.nodes ≡ n
 resume_price n k d nodes = grind (arith, orders_price)
 
 resume_owes : (n k : ℕ) (d : Restarting) → owed n (resume k d).state ≡ 0
-resume_owes n k d = grind (arith, by_entered)
+resume_owes n k d = grind arith
 
 paid_resumes : (s : ScriptData) (past : List Entry) (e : Entry) (k : ℕ) (d : Restarting) → IsValid s → IsGood s past
     → MayFollow s past e
@@ -271,7 +271,7 @@ all_paid s (e ∷ past) laws loses run apt =
 priced_by : (s : ScriptData) (past : List Entry) → IsValid s → IsGood s past
     → ((restarting_in s past).phase ≡ Recovering) ⊎ Knows (restarting_in s past).phase → IsPaid s past
     → priced s past ≤ advances_in s.rows * (14 * s.nodes + 1) + allowed s past
-priced_by s past valid good is paid = grind (arith, kept_most, spent_most, steady_in)
+priced_by s past valid good is paid = grind (arith, kept_most, spent_most)
 
 -- what is sent costs no more than all advancements that the script has, once, and what nudges and forgetting add
 pub priced_most : (s : ScriptData) (past : List Entry) → IsTreeLawful s → is_lossy s ≡ true → IsStepRun s past → AllApt s past

@@ -35,7 +35,7 @@ use Rattle.epoch_laws.proofs.Away.{restarting_kept}
 use Rattle.epoch_laws.proofs.Good.{Knows}
 use Rattle.epoch_laws.proofs.Recovers.{still_covered}
 use Rattle.epoch_laws.proofs.RecoverSteps.{HasHeard, Misses, Recovery, knows_by, recovery}
-use Rattle.epoch_laws.proofs.WantSteps.{more_waits, most_rises, one_most, some_most}
+use Rattle.epoch_laws.proofs.WantSteps.{more_waits, most_rises, one_most}
 use Rattle.epoch_laws.proofs.RestartSteps.{RestartStep, asked_kept, asks_with, done_kept, restart_step}
 use Rattle.epoch_laws.proofs.RestartSteps.{Acks, Agrees, Ends, Flags, Forgets, Goes, KeepsAsked, KeepsDone, Pauses, Recounts, Recovers, Rests, Resumes, Wants}
 
@@ -202,4 +202,4 @@ hears_in s (e ∷ past) laws loses run apt = by (cases_eq e.actor.0 s.nodes) (he
 -- so where no letter is in flight, it has heard of all that have ended
 pub all_heard : (s : ScriptData) (past : List Entry) → IsTreeLawful s → is_lossy s ≡ true → IsStepRun s past → AllApt s past
     → in_flight s past ≡ [] → Knows (restarting_in s past).phase → (restarting_in s past).ended ≤ (client_in s past).ended
-all_heard s past laws loses run apt empty knows = grind (arith, hears_in, some_most)
+all_heard s past laws loses run apt empty knows = grind (arith, hears_in)

@@ -24,7 +24,6 @@ use Rattle.world_model.proofs.Orders.{of}
 use Rattle.world_model.proofs.Restarts.{OfRestarts, restarting_each}
 use Rattle.strict_laws.specs.Meant.{IsLetterMeant, IsMeant}
 use Rattle.phase_laws.proofs.Lawful.{IsTreeLawful}
-use Rattle.phase_laws.proofs.Outcomes.{one_more_is}
 use Rattle.phase_laws.proofs.Progress.{MadeByRestarting, course, restarts}
 use Rattle.epoch_laws.proofs.Aside.{aside}
 use Rattle.epoch_laws.proofs.AtCoordinator.{node_stays}
@@ -48,7 +47,7 @@ same_epoch c d from body (OfClient k bd it is) = ap (λ (x : Restarting). x.epoc
 
 waits_on : (c : Restarting) (from : ℕ) (body : Body) (out : Out Restarting) → c.epoch ≤ 100 → Waiting c from body out
     → WaitsOn c out.state
-waits_on c from body out small is = grind (arith, one_more_is, same_epoch)
+waits_on c from body out small is = grind arith
 
 -- nodes stay
 turns_stay : (s : ScriptData) (past : List Entry) (e : Entry) (q : ℕ) → e.actor.0 ≡ s.nodes → q < s.nodes

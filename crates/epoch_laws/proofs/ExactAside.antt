@@ -3,7 +3,6 @@
 use Rattle.std.proofs.Common.{◌≡◌, ◌≢◌, ◌⊎◌, inl, inr, ℕ, ◌<◌, ◌≤◌, Bool, true, false, List, ◌∷◌, refl, sym, ap, subst, ◌∙◌, arith}
 use Rattle.std.proofs.lemmas.Bool.{cases_eq}
 use Rattle.tv_base.specs.declared.numbers.Version.{Version}
-use Rattle.tv_base.proofs.Chosen.{one_more_most}
 use Rattle.letter_types.specs.declared.bodies.Body.{Body}
 use Rattle.letter_types.specs.declared.bodies.Body.TheVariants.{Go, Order, Numbers}
 use Rattle.letter_types.specs.declared.bodies.What.{What}
@@ -134,7 +133,7 @@ in_present c old new what v phase at current goes was = grind arith
 
 further_moved : (c : Restarting) (old new : Turns) (phase : RestartPhase) → c.phase ≡ phase → Moved c old new
     → IsNoFurther phase c.ended old → IsNoFurther phase c.ended new
-further_moved c old new phase at is was = grind (arith, in_present, one_more_most)
+further_moved c old new phase at is was = grind arith
 
 -- Letters and nodes after an entry of the client or of a node.
 old_still : (s : ScriptData) (past : List Entry) (e : Entry) (from to : ℕ) (body : Body) → IsGood s past → MayFollow s past e
@@ -159,7 +158,7 @@ tree_still epoch at s st does from _ sent = tt
 
 sent_still : (s : ScriptData) (past : List Entry) (e : Entry) (epoch : ℕ) (body : Body) → IsSentBy s past e body
     → IsStillTold epoch (turns_in s (e ∷ past)) e.actor.0 body
-sent_still s past e epoch body is = grind (arith, bare_still, tree_still)
+sent_still s past e epoch body is = grind arith
 
 -- what holds of each letter in flight, to be as it should
 pub each_now : (P : Letter → Type 0) (s : ScriptData) (past : List Entry) → IsTreeLawful s → IsStepRun s past → IsGood s past

@@ -3,7 +3,6 @@
 use Rattle.std.proofs.Common.{◌≡◌, ◌≢◌, ℕ, zero, suc, ◌+◌, ◌<◌, ◌≤◌, ◌==◌, ◌||◌, Bool, true, false, [], ◌∷◌, length, refl, sym, subst, ◌∙◌, arith, Option, Some}
 use Rattle.std.specs.Prelude.{max, not, slice_set}
 use Rattle.std.specs.List.{list_any}
-use Rattle.std.proofs.lemmas.Bool.Decides.{nat_tests}
 use Rattle.std.proofs.lemmas.List.{length-set}
 use Rattle.std.proofs.lemmas.Bool.{eqb-false}
 use Rattle.tv_base.specs.Outside.{one_more}
@@ -22,7 +21,7 @@ use Rattle.phase_out.specs.Counts.{nudged}
 use Rattle.phase_laws.proofs.Outcomes.{one_more_is}
 use Rattle.phase_laws.proofs.Waves.{set_get}
 use Rattle.epoch_laws.proofs.Good.{Knows}
-use Rattle.epoch_laws.proofs.RecoverSteps.{HasHeard, Misses, Recovery, by_knows, next_each, phase_each, recovery}
+use Rattle.epoch_laws.proofs.RecoverSteps.{HasHeard, Misses, Recovery, by_knows, phase_each, recovery}
 use Rattle.epoch_laws.proofs.RestartSteps.{HearsMore, OfClient, OfNode, RestartStep, asked_kept, asks_with, done_kept}
 use Rattle.epoch_laws.proofs.RestartSteps.{Acks, Agrees, Ends, Flags, Forgets, Goes, KeepsAsked, KeepsDone, Pauses, Recounts, Recovers, Rests, Resumes, Wants}
 use Rattle.epoch_laws.proofs.ToldLists.{HasTold, all_told, none_told}
@@ -83,7 +82,7 @@ in_phase n c at phase is was = subst (λ (p : RestartPhase). AreExact n p c.ende
 
 next_exact : (n f wanted : ℕ) (ts : AllTold) (at : ℕ → Turns)
     → ((q : ℕ) → q < n → ((at q).low.0 ≤ f) × ((at q).read.0 ≤ f)) → AreExact n (next_advance wanted f) f ts at
-next_exact n f wanted ts at all = grind (arith, next_each)
+next_exact n f wanted ts at all = grind arith
 
 counting_exact : (n f : ℕ) (reads : Bool) (at : ℕ → Turns) → AreNoFurther n (Paused reads) f at
     → AreNoFurther n (Counting reads) f at
@@ -103,7 +102,7 @@ ends_exact n false c at was = λ q lt. record { low = (was q lt).low; read = ome
 done_exact : (n : ℕ) (what : What) (c : Restarting) (at : ℕ → Turns) → AreNear n c.ended at
     → AreNoFurther n (Doing what) c.ended at
     → IsExactFor n (after_doing what c).state at
-done_exact n what c at near was = grind (arith, next_exact, one_more_is)
+done_exact n what c at near was = grind arith
 
 -- It resumes: by what all nodes have told.
 -- where no node passes a test, each fails it
@@ -120,7 +119,7 @@ none_passes test (o ∷ ts) zero t none has =
 none_passes test (o ∷ ts) (suc q) t none has = none_passes test ts q t (either_false (test o) (list_any test ts) none).1 has
 
 not_other : (a f : ℕ) → not (a == f) ≡ false → a ≡ f
-not_other a f is = grind (arith, nat_tests)
+not_other a f is = grind arith
 
 at_most : (a f v : ℕ) → a ≤ f + 1 → v ≡ f + 1 → a ≢ v → a ≤ f
 at_most a f v le is ne = grind arith

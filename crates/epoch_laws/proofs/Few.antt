@@ -186,7 +186,7 @@ away : (s : ScriptData) (past : List Entry) (e : Entry) → e.actor.0 ≢ s.node
     → count_in_flight is_lose_letter s (e ∷ past) + lost_for s past
     ≤ count_in_flight is_lose_letter s past + lost_for s (e ∷ past)
     → AllTell s (e ∷ past) e.sent → AreFew s past → AreFew s (e ∷ past)
-away s past e ne more lost sent was = grind (arith, letters_after, more_small, restarting_kept)
+away s past e ne more lost sent was = grind (arith, letters_after, restarting_kept)
 
 by_node : (s : ScriptData) (past : List Entry) (e : Entry) → MayFollow s past e → e.actor.0 < s.nodes → NoRequests e.sent
     → AreFew s past → AreFew s (e ∷ past)

@@ -117,11 +117,11 @@ due_at a c phase at = ap (λ (p : RestartPhase). still_due a p c.count.flag c.en
 
 ends_small : (a m n : ℕ) (c : Restarting) (body : Body) (what : What) → a ≤ 100 → m ≤ a → AreSmall a m n c
     → c.phase ≡ Doing what → StaysSmall a m n c body (after_doing what c).state
-ends_small a m n c body what few most was at = grind (arith, due_at, next_due, one_less, one_more_most, same_small)
+ends_small a m n c body what few most was at = grind (arith, next_due, same_small)
 
 agrees_small : (a m n : ℕ) (c : Restarting) (from : ℕ) (row : List ℕ) (body : Body) (reads : Bool) → AreSmall a m n c
     → c.phase ≡ Counting reads → StaysSmall a m n c body (end_counting reads (asked_kept from row c)).state
-agrees_small a m n c from row body reads was at = grind (arith, due_at, same_small)
+agrees_small a m n c from row body reads was at = grind arith
 
 -- it resumes, or still misses something
 resumes_small : (a m n : ℕ) (c : Restarting) (body : Body) (all : Bool) (told : Option ℕ) → m ≤ a → AreSmall a m n c
@@ -151,7 +151,7 @@ heard_small a m n c d from body tells was is = grind arith
 
 hears_small : (a m n : ℕ) (c d : Restarting) (from : ℕ) (body : Body) → m ≤ a → TellsUpTo m body → AreSmall a m n c
     → c.phase ≡ Recovering → HearsMore c from body d → StaysSmall a m n c body (recover d).state
-hears_small a m n c d from body most tells was at hears = grind (arith, heard_small, resumes_small)
+hears_small a m n c d from body most tells was at hears = grind arith
 
 -- each step
 pub stays_small : (a m n : ℕ) (c : Restarting) (from : ℕ) (body : Body) (out : Out Restarting) → a ≤ 100 → m ≤ a

@@ -76,7 +76,7 @@ tree_from e f shown s st does _ sent = tt
 sent_from : (s : ScriptData) (past : List Entry) (e : Entry) (n f : ℕ) (shown : Bool) (body : Body)
     → ((q : ℕ) → q < s.nodes → IsFrom f shown (turns_in s past q).read.0 (turns_in s past q).low.0) → IsSentBy s past e body
     → TellsFrom n f shown body
-sent_from s past e n f shown body nodes is = grind (arith, bare_from, tree_from)
+sent_from s past e n f shown body nodes is = grind arith
 
 pub floor_aside : (s : ScriptData) (past : List Entry) (e : Entry) (f : ℕ) (shown : Bool) → IsGood s past → MayFollow s past e
     → e.actor.0 ≢ s.nodes → Aside s past e → IsFloor s past f shown → IsFloor s (e ∷ past) f shown

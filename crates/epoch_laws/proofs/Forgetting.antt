@@ -1,6 +1,6 @@
 -- A coordinator that forgets: all is as it should be after each entry of its runs, and so the laws above hold of it.
 use Rattle.std.proofs.Common.{◌≡◌, ◌≢◌, ◌⊎◌, inl, inr, ℕ, ◌<◌, ◌≤◌, true, List, [], ◌∷◌, refl, sym, ap, subst, ◌∙◌, arith, Some}
-use Rattle.std.proofs.lemmas.Bool.{and_from, cases_eq, le-leb}
+use Rattle.std.proofs.lemmas.Bool.{cases_eq}
 use Rattle.tv_base.specs.declared.numbers.Version.{Version}
 use Rattle.letter_types.specs.Kept.{brought}
 use Rattle.letter_types.specs.declared.bodies.Body.{Body}
@@ -9,7 +9,6 @@ use Rattle.letter_types.specs.declared.bodies.What.{What}
 use Rattle.letter_types.specs.declared.entries.Entry.{Entry}
 use Rattle.letter_types.specs.declared.entries.Letter.{Letter}
 use Rattle.letter_types.specs.declared.entries.Outgoing.{Outgoing}
-use Rattle.item_versions.proofs.Window.{in_window-is}
 use Rattle.tx_trees.specs.ScriptData.{ScriptData}
 use Rattle.tx_trees.specs.Valid.{IsValid}
 use Rattle.world_model.specs.AllApt.{AllApt}
@@ -121,11 +120,11 @@ near_at s past e p r valid good run b v is ver =
 -- an order that its node will heed is in the window of the node's versions
 order_in : (s : ScriptData) (past : List Entry) (p e : ℕ) (what : What) (v : Version) → IsGood s past → p < s.nodes → IsOrder s past p e what v
     → epoch_in s past p ≤ e → is_timely s (node_in s past p) (plain_order what v) ≡ true
-order_in s past p e what v good lt right heeds = grind (arith, and_from, in_window-is, le-leb)
+order_in s past p e what v good lt right heeds = grind arith
 
 order_timely : (s : ScriptData) (past : List Entry) (p e : ℕ) (what : What) (v : Version) → IsGood s past → p < s.nodes → IsOrder s past p e what v
     → is_core_timely s (keeping_in s past p).core (Order e what v) ≡ true
-order_timely s past p e what v good lt right = grind (arith, order_in)
+order_timely s past p e what v good lt right = grind arith
 
 -- and orders of a coordinator that remembers never come
 plain_in : (s : ScriptData) (past : List Entry) (from p : ℕ) (body : Body) → is_lossy s ≡ true → IsMeant s from p body → IsOrderLetter body
@@ -191,7 +190,7 @@ apart_anew s past body apart = grind arith
 
 away_anew : (s : ScriptData) (past : List Entry) (e : Entry) → e.actor.0 ≢ s.nodes → Sending s past e
     → Each (λ (o : Outgoing). IsGivenAnew s past o.body) e.sent
-away_anew s past e away is = grind (arith, apart_anew, each_map)
+away_anew s past e away is = grind (arith, each_map)
 
 anew : (s : ScriptData) (past : List Entry) (e : Entry) → IsTreeLawful s → is_lossy s ≡ true → IsStepRun s (e ∷ past) → AllApt s (e ∷ past)
     → (e.actor.0 ≡ s.nodes) ⊎ (e.actor.0 ≢ s.nodes) → Each (λ (o : Outgoing). IsGivenAnew s past o.body) e.sent

@@ -211,7 +211,7 @@ Knows phase = phase ≡ Recovering → ⊥
 
 pub steady_in : (s : ScriptData) (past : List Entry) (phase : RestartPhase) → IsGood s past
     → (restarting_in s past).phase ≡ phase → Knows phase → IsSteady s past phase
-steady_in s past phase good at knows = grind (arith, in_phase)
+steady_in s past phase good at knows = grind arith
 
 -- How far nodes are: no further than what was given, nor than the advancements that the client asks for.
 pub low_turned : (past : List Entry) (turns : Turns) → IsWithin past turns → turns.low.0 + 1 ≤ greatest_given TurnStage past
@@ -227,12 +227,12 @@ turned_most s past good = omega (arith, good.asked, asked_most (client_in s past
 
 pub low_few : (s : ScriptData) (past : List Entry) (q : ℕ) → IsValid s → IsGood s past → q < s.nodes
     → (turns_in s past q).low.0 ≤ 100
-low_few s past q valid good lt = grind (arith, low_turned, turned_most)
+low_few s past q valid good lt = grind (arith, turned_most)
 
 -- nor have more of them ended
 pub ended_most : (s : ScriptData) (past : List Entry) (phase : RestartPhase) → IsValid s → IsGood s past
     → IsSteady s past phase → (restarting_in s past).ended ≤ advances_in s.rows
-ended_most s past phase valid good steady = grind (arith, low_turned, turned_most)
+ended_most s past phase valid good steady = grind (arith, turned_most)
 
 pub ended_few : (s : ScriptData) (past : List Entry) (phase : RestartPhase) → IsValid s → IsGood s past
     → IsSteady s past phase → (restarting_in s past).ended ≤ 100

@@ -59,7 +59,7 @@ told_client s past e c first good m told made =
     }
 
 knows : (s : ScriptData) (past : List Entry) (e : Entry) → IsGood s past → MayFollow s past e → Aside s past e → Knows s past e
-knows s past e good m is = grind (arith, client_kept, same_client, told_client)
+knows s past e good m is = grind (arith, client_kept, told_client)
 
 -- the client asks for more and more
 pub asked_rises : (s : ScriptData) (past : List Entry) (e : Entry) → IsGood s past → MayFollow s past e → Aside s past e

@@ -48,7 +48,7 @@ told_stays s past e q u r l left lt was = omega (arith, was, (left.fares q lt).r
 pub latest_stays : (s : ScriptData) (past : List Entry) (e : Entry) (q l : ℕ) → Remains s past e → q < s.nodes
     → IsLatest s past q l
     → IsLatest s (e ∷ past) q l
-latest_stays s past e q l left lt was = grind (arith, same_epoch)
+latest_stays s past e q l left lt was = grind arith
 
 current_stays : (s : ScriptData) (past : List Entry) (e : Entry) (n : ℕ) (what : What) (v : Version) → Remains s past e
     → (n ≡ (restarting_in s past).epoch → IsCurrent (restarting_in s past) what v)
@@ -133,7 +133,7 @@ numbers_right : (s : ScriptData) (past : List Entry) (e : Entry) (p n : ℕ) →
     → IsStepRun s (e ∷ past)
     → p < s.nodes → e.took.body ≡ Ask n → (keeping_in s (e ∷ past) p).core ≡ record (keeping_in s past p).core { epoch = n }
     → AreNumbers s (e ∷ past) p n (turns_in s past p).update (turns_in s past p).read (turns_in s past p).low
-numbers_right s past e p n good left run lt bd is = grind (arith, same_epoch, took_right)
+numbers_right s past e p n good left run lt bd is = grind arith
 
 answer_right : (s : ScriptData) (past : List Entry) (e : Entry) (n : ℕ) (what : What) (v : Version) → IsGood s past
     → Remains s past e
@@ -148,7 +148,7 @@ answer_right s past e n what v good left run bd =
 sent_right : (s : ScriptData) (past : List Entry) (e : Entry) (to : ℕ) (body : Body) → IsGood s past → Remains s past e
     → IsStepRun s (e ∷ past) → IsSentBy s past e body → IsRight s (e ∷ past) e.actor.0 to body
 sent_right s past e to body good left run is =
-    grind (arith, answer_right, bare_right, numbers_right, tree_right, wanted_right)
+    grind (arith, answer_right, wanted_right)
 
 -- so all are
 pub letters_right : (s : ScriptData) (past : List Entry) (e : Entry) → IsValid s → IsStepRun s (e ∷ past) → IsGood s past

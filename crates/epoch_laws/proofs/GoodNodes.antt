@@ -146,7 +146,7 @@ level_after : (s : ScriptData) (past : List Entry) (e : Entry) (q p : ℕ) (phas
     → LevelOf phase (restarting_in s past).ended (restarting_in s past).epoch (epoch_in s (e ∷ past) q) (turns_in s (e ∷ past) q)
     (going (order_to (restarting_in s past).epoch q) s (e ∷ past))
 level_after s past e q p phase what v valid good left at lt current there others was is =
-    grind (arith, comes_by, ended_few, level_stays, level_up)
+    grind (arith, ended_few)
 
 steady_after : (s : ScriptData) (past : List Entry) (e : Entry) (phase : RestartPhase) → IsValid s → IsGood s past
     → Remains s past e

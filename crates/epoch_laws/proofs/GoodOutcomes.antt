@@ -23,7 +23,6 @@ use Rattle.world_model.proofs.Bags.{tally-drop}
 use Rattle.world_model.proofs.Every.{each_append}
 use Rattle.world_model.proofs.Orders.{to_nodes_each}
 use Rattle.world_model.proofs.Restarts.{restarting_nodes}
-use Rattle.world_model.proofs.Gone.{under_or}
 use Rattle.phase_laws.specs.Advances.{asked_for}
 use Rattle.phase_laws.specs.Given.{IsShownAnew, IsSweptAnew, greatest_given}
 use Rattle.phase_laws.specs.Phases.{TurnStage, ShowStage, SweepStage}
@@ -282,12 +281,12 @@ before f = omega arith
 shown_anew : (s : ScriptData) (past : List Entry) (f : ℕ) (v : Version) → v.0 ≡ f + 1 → f ≤ greatest_given ShowStage past
     → (greatest_given ShowStage past < f + 1 → IsSilent s past (f + 1)) → ((q : ℕ) → q < s.nodes → f + 1 < (turns_in s past q).update.0)
     → IsShownAnew s past v.0
-shown_anew s past f v is from silent above = grind (arith, under_or)
+shown_anew s past f v is from silent above = grind arith
 
 swept_anew : (s : ScriptData) (past : List Entry) (f : ℕ) (v : Version) → v.0 ≡ f + 1 → f ≤ greatest_given SweepStage past
     → (greatest_given SweepStage past ≤ f → IsSilent s past f) → ((q : ℕ) → q < s.nodes → f + 1 ≤ (turns_in s past q).read.0)
     → IsSweptAnew s past v.0
-swept_anew s past f v is from silent above = grind (arith, before, under_or)
+swept_anew s past f v is from silent above = grind arith
 
 pub well_shows : (s : ScriptData) (past : List Entry) (e : Entry) (x : Restarting) → IsMove s past e x
     → IsBegun (restarting_in s past) x ToShow (restarting_in s past).ended (restarting_in s past).wanted

@@ -19,7 +19,7 @@ use Rattle.world_model.specs.declared.restarting.RestartPhase.{RestartPhase}
 use Rattle.world_model.specs.declared.restarting.RestartPhase.TheVariants.{Idle, Recovering, Doing, Counting, Paused}
 use Rattle.world_model.specs.declared.restarting.Told.{Told}
 use Rattle.world_model.proofs.Every.{each_map}
-use Rattle.world_model.proofs.Bags.{one_if_other, one_if_same}
+use Rattle.world_model.proofs.Bags.{one_if_same}
 use Rattle.phase_laws.specs.Given.{greatest_given}
 use Rattle.phase_laws.specs.Phases.{TurnStage, ShowStage, SweepStage}
 use Rattle.phase_laws.proofs.Lawful.{IsTreeLawful}
@@ -29,7 +29,7 @@ use Rattle.epoch_laws.proofs.AfterCoordinator.{OrderNothing, OrdersNothing, fits
 use Rattle.epoch_laws.proofs.AtCoordinator.{held_at}
 use Rattle.epoch_laws.proofs.Good.{AreTokens, IsCurrent, IsGood, IsHeard, IsHeardOf, IsInPhase, IsRight, IsSteady, IsUpTo, Knows, LevelOf, epoch_in, in_phase, order_to, token, took_right, turns_in}
 use Rattle.epoch_laws.proofs.RestartSteps.{IsLeft}
-use Rattle.epoch_laws.proofs.RightAfter.{IsGivenStill, latest_after, told_after}
+use Rattle.epoch_laws.proofs.RightAfter.{IsGivenStill}
 use Rattle.epoch_laws.proofs.ToldLists.{HasTold}
 
 -- A question of a round.
@@ -87,7 +87,7 @@ pub heard_at : (s : ScriptData) (past : List Entry) (e : Entry) (x : Restarting)
     → x.epoch ≡ (restarting_in s past).epoch → length x.told ≡ s.nodes
     → ((q : ℕ) (t : Told) → q < s.nodes → HasTold x.told q t → IsHeardOf s past q t)
     → ((k : ℕ) → x.heard ≡ Some k → greatest_given TurnStage past ≤ k + 1) → IsHeard s (e ∷ past)
-heard_at s past e x m still epoch places nodes client = grind (arith, latest_after, told_after)
+heard_at s past e x m still epoch places nodes client = grind arith
 
 pub up_still : (past : List Entry) (e : Entry) (f w v : ℕ) → IsGivenStill past e → w ≤ v → IsUpTo past f w → IsUpTo (e ∷ past) f v
 up_still past e f w v still le was = omega (arith, was, le, still TurnStage, still ShowStage, still SweepStage)
@@ -120,7 +120,7 @@ told_order d q from to body tells = grind arith
 
 orders_same : (s : ScriptData) (past : List Entry) (e : Entry) (d q : ℕ) → MayFollow s past e → TellsAnew e.took.body → AllAsk e.sent
     → going (order_to d q) s (e ∷ past) ≡ going (order_to d q) s past
-orders_same s past e d q m tells asks = grind (arith, asks_nothing, flow_of, orders_none, told_order)
+orders_same s past e d q m tells asks = grind (arith, asks_nothing, flow_of, orders_none)
 
 tokens_same : (s : ScriptData) (past : List Entry) (e : Entry) (d : ℕ) → MayFollow s past e → AllAsk e.sent
     → going (token d) s (e ∷ past) + token d e.took.from.0 e.actor.0 e.took.body ≡ going (token d) s past
@@ -132,7 +132,7 @@ same_order : (what : What) → same_what what what ≡ true
 same_order what = grind arith
 
 answer_now : (d : ℕ) (what : What) (v : Version) (c : Restarting) → d ≡ c.epoch → v.0 ≡ (target what c.ended).0 → is_answer d what v what c ≡ true
-answer_now d what v c epoch version = grind (arith, same_order)
+answer_now d what v c epoch version = grind arith
 
 doing_is : (a b : What) → Doing a ≡ Doing b → a ≡ b
 doing_is a b is = cc is
@@ -141,7 +141,7 @@ doing_is a b is = cc is
 left_token : (s : ScriptData) (past : List Entry) (from to : ℕ) (body : Body) (doing : What) → (restarting_in s past).phase ≡ Doing doing
     → IsLeft body (Doing doing) from (restarting_in s past) → TellsAnew body → IsRight s past from to body
     → token (restarting_in s past).epoch from to body ≡ 0
-left_token s past from to body doing at left tells right = grind (arith, answer_now, doing_is, one_if_other)
+left_token s past from to body doing at left tells right = grind arith
 
 steady_same : (s : ScriptData) (past : List Entry) (e : Entry) (w : ℕ) (phase : RestartPhase)
     → IsMove s past e (record (restarting_in s past) { wanted = w }) → (restarting_in s past).wanted ≤ w → AllAsk e.sent

@@ -1,7 +1,6 @@
 -- Entries of the coordinator by which nodes are told something, or by which it begins to count: no letter of its epoch
 -- is left then.
 use Rattle.std.proofs.Common.{◌≡◌, ℕ, zero, suc, ◌+◌, ◌<◌, ◌≤◌, List, [], ◌∷◌, ◌++◌, refl, sym, ap, subst, ◌∙◌, arith}
-use Rattle.std.proofs.Math.Nat.{max-le}
 use Rattle.tv_base.specs.declared.numbers.Version.{Version}
 use Rattle.letter_types.specs.declared.bodies.Body.{Body}
 use Rattle.letter_types.specs.declared.bodies.Body.TheVariants.{Go, Advanced, Order}
@@ -30,7 +29,7 @@ use Rattle.phase_laws.proofs.Waves.{flow_of, going}
 use Rattle.epoch_laws.proofs.AfterCoordinator.{IsFit, IsLast, IsNewlySilent, OrderNothing, OrdersNothing, fits_still, given_still, good_now, letters_told, tokens_none}
 use Rattle.epoch_laws.proofs.AtCoordinator.{held_at, order_sent, orders_tokens}
 use Rattle.epoch_laws.proofs.Good.{IsGood, IsInPhase, IsRight, IsSteady, IsUpTo, Knows, LevelOf, epoch_in, order_to, token, turns_in}
-use Rattle.epoch_laws.proofs.GoodSteps.{IsMove, steady_at, told_order}
+use Rattle.epoch_laws.proofs.GoodSteps.{IsMove, steady_at}
 use Rattle.epoch_laws.proofs.RightAfter.{IsTelling}
 
 -- Where nodes are told nothing new.
@@ -144,7 +143,7 @@ order_told g n d what v f m before ends le =
 
 given_most : (s : ScriptData) (past : List Entry) (e : Entry) (what : What) (f w : ℕ) (g : Stage) (m : ℕ) → Tells s past e what f w
     → version_told g (Order (restarting_in s past).epoch what (target what f)) ≤ m → greatest_given g past ≤ m → greatest_given g (e ∷ past) ≤ m
-given_most s past e what f w g m t told old = grind (arith, max-le, order_told)
+given_most s past e what f w g m t told old = grind (arith, order_told)
 
 behind : (P : Outgoing → Type 0) (xs : List Outgoing) (o : Outgoing) → Each P (xs ++ o ∷ []) → P o
 behind P [] o all = all.0
@@ -242,7 +241,7 @@ tokens_sent s past e x what f w m last t =
 
 orders_sent : (s : ScriptData) (past : List Entry) (e : Entry) (x : Restarting) (what : What) (f w q : ℕ) → IsMove s past e x
     → Tells s past e what f w → q < s.nodes → 1 ≤ going (order_to (restarting_in s past).epoch q) s (e ∷ past)
-orders_sent s past e x what f w q m t lt = grind (arith, flow_of, order_sent, tally-append, told_order)
+orders_sent s past e x what f w q m t lt = grind (arith, flow_of, order_sent, tally-append)
 
 -- so it is in its phase
 tells_steadily : (s : ScriptData) (past : List Entry) (e : Entry) (x : Restarting) (what : What) (f w : ℕ) → IsMove s past e x → IsLast s past e

@@ -46,7 +46,7 @@ busy_in : (n : ℕ) (d : Restarting) (phase : RestartPhase) → d.phase ≡ phas
 busy_in n d phase is few busy = record { acks = few; idle = λ idle. absurd (busy (sym is ∙ idle)) }
 
 done_orderly : (n : ℕ) (what : What) (c : Restarting) → 1 ≤ n → IsOrderly n (after_doing what c).state
-done_orderly n what c some = grind (arith, next_idle)
+done_orderly n what c some = grind arith
 
 ends_orderly : (n : ℕ) (reads : Bool) (c : Restarting) → 1 ≤ n → IsOrderly n (end_counting reads c).state
 ends_orderly n true c some = record { acks = omega (arith, some); idle = λ is. absurd (cc is) }
@@ -54,7 +54,7 @@ ends_orderly n false c some = record { acks = omega (arith, some); idle = λ is.
 
 recovers_orderly : (n : ℕ) (d : Restarting) (out : Out Restarting) → 1 ≤ n → d.phase ≡ Recovering → d.acks < n → Recovery d out
     → IsOrderly n out.state
-recovers_orderly n d out some waits few is = grind (arith, busy_in, by_idle, goes_to)
+recovers_orderly n d out some waits few is = grind arith
 
 more_acks : (c d : Restarting) (from : ℕ) (body : Body) → HearsMore c from body d → d.acks ≡ c.acks
 more_acks c d from body (OfNode u r l bd lt is) = ap (λ (x : Restarting). x.acks) is

@@ -17,7 +17,7 @@ use Rattle.world_model.specs.Core.{Core}
 use Rattle.world_model.specs.Counts.{Each, one_if, tally}
 use Rattle.world_model.specs.Node.{Node}
 use Rattle.world_model.specs.Runs.{MayFollow, keeping_in, node_in, restarting_in}
-use Rattle.world_model.proofs.Bags.{tally-append, one_if_other}
+use Rattle.world_model.proofs.Bags.{one_if_other}
 use Rattle.world_model.proofs.Every.{each_map, each_none}
 use Rattle.phase_laws.proofs.Heeds.{Answers, AreWakes, Heed, IsOfEpoch, IsWake, Leaves, Obeys, Repeats, turned_to, version_of}
 use Rattle.phase_laws.proofs.Waves.{flow_of, going, leaving}
@@ -97,7 +97,7 @@ answer_flows : (s : ScriptData) (past : List Entry) (e : Entry) (n k : ℕ) (wha
     → AreWakes more
     → going f s (e ∷ past) + f e.took.from.0 e.actor.0 (Order k what v) ≡ going f s past + f e.actor.0 s.nodes (Obeyed k what v)
 answer_flows s past e n k what v more f m weighs bd sent woken =
-    grind (arith, each_map, flow_of, sum_none, tally-append, wake_none)
+    grind (arith, each_map, flow_of, sum_none, wake_none)
 
 -- What becomes of those of the present epoch.
 pub data Passes (s : ScriptData) (past : List Entry) (e : Entry) : Type 0 where
@@ -143,7 +143,7 @@ old_passes s past e k what v more m bd sent woken ne =
     Stay (same (token n) (token_weighs n)) (λ q. same (order_to n q) (order_weighs n q))
 
 other_node : (m n p q : ℕ) → q ≢ p → one_if ((m == n) && (p == q)) ≡ 0
-other_node m n p q ne = grind (arith, nat_tests)
+other_node m n p q ne = grind arith
 
 -- one of the present epoch, by a node that has come to its version
 now_passes : (s : ScriptData) (past : List Entry) (e : Entry) (p k : ℕ) (what : What) (v : Version) (more : List Outgoing)

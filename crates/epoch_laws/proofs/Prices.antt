@@ -6,7 +6,6 @@ use Rattle.tv_base.specs.Outside.{one_more}
 use Rattle.tv_base.specs.declared.numbers.Version.{Version}
 use Rattle.phase_out.specs.Counts.{nudged}
 use Rattle.phase_out.specs.Rounds.{NodeRows, all_in}
-use Rattle.phase_out.proofs.With.{none_in}
 use Rattle.letter_types.specs.declared.bodies.Body.{Body}
 use Rattle.letter_types.specs.declared.bodies.Body.TheVariants.{Go, Advance, Advanced, AdvanceNo, Ask, AskAsked, AskDone, AskedRow, DoneRow, Lose, Numbers, Obeyed, Order, Show, Shown, Sweep, Swept, Turn, Turned, Wanted}
 use Rattle.letter_types.specs.declared.bodies.What.{What}
@@ -170,14 +169,14 @@ enters : (n : ℕ) (c d : Restarting) (from : ℕ) (body : Body) (out : Out Rest
     → d.epoch ≡ c.epoch → d.ended ≡ c.ended → Knows c.phase
     → ordered n phase + begun n c.phase ≤ begun n phase + owed n c → IsEntered n phase
     → out ≡ enter phase d → StepCosts n c from body out
-enters n c d from body out phase nodes epoch ended was few e is = grind (arith, orders_price, spends)
+enters n c d from body out phase nodes epoch ended was few e is = grind (arith, orders_price)
 
 -- a round begins
 counts : (n : ℕ) (reads : Bool) (c d : Restarting) (from : ℕ) (body : Body) (out : Out Restarting) → 1 ≤ n → d.nodes ≡ n
     → d.epoch ≡ c.epoch → d.ended ≡ c.ended → Knows c.phase
     → begun n c.phase + 4 * n ≤ begun n (Counting reads) + owed n c + 4 * n * is_nudge body
     → out ≡ begin_counting reads d → StepCosts n c from body out
-counts n reads c d from body out some nodes epoch ended was few is = grind (arith, all_price, none_in, spends)
+counts n reads c d from body out some nodes epoch ended was few is = grind (arith, all_price)
 
 -- every node has obeyed
 ends : (n : ℕ) (c : Restarting) (from : ℕ) (body : Body) (out : Out Restarting) (what : What) → 1 ≤ n → c.nodes ≡ n
@@ -232,7 +231,7 @@ keeps_done : (n : ℕ) (reads : Bool) (c : Restarting) (from : ℕ) (row : List 
     → c.nodes ≡ n → c.phase ≡ Counting reads
     → out ≡ record { state = done_kept from row c; sent = asks_with from row c; acts = [] }
     → StepCosts n c from body out
-keeps_done n reads c from row body out nodes at is = grind (arith, done_pays, put_all, spends)
+keeps_done n reads c from row body out nodes at is = grind (arith, done_pays, put_all)
 
 -- What it hears while it recovers.
 pub tells_more : (c d : Restarting) (from : ℕ) (body : Body) → HearsMore c from body d → TellsMore c from body d.told

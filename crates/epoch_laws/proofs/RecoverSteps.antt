@@ -70,7 +70,7 @@ by_knows ts wanted f =
     phase_each Knows ts wanted f (λ a is. cc is) (λ a b is. cc is) (λ a b c is. cc is) (λ a b. next_knows wanted f)
 
 done_knows : (what : What) (c : Restarting) → Knows (after_doing what c).state.phase
-done_knows what c = grind (arith, next_knows)
+done_knows what c = grind arith
 
 ends_know : (reads : Bool) (c : Restarting) → Knows (end_counting reads c).state.phase
 ends_know true c = λ is. cc is

@@ -4,7 +4,6 @@ use Rattle.std.proofs.Common.{◌≡◌, ◌≢◌, ◌⊎◌, inl, inr, ℕ, ze
 use Rattle.std.specs.Prelude.{is_some, nat_lt, slice_get, slice_set}
 use Rattle.std.specs.List.{list_all}
 use Rattle.std.proofs.lemmas.Bool.{and_from, cases_eq}
-use Rattle.std.proofs.lemmas.Bool.Decides.{nat_tests}
 use Rattle.std.proofs.Math.Bool.{and-false}
 use Rattle.tv_base.specs.Outside.{one_more}
 use Rattle.tv_base.specs.declared.numbers.Version.{Version}
@@ -24,7 +23,7 @@ use Rattle.world_model.specs.Restarting.{AllTold, Restarting, forget, restarting
 use Rattle.world_model.specs.Runs.{IsStepRun, MayFollow, client_in, in_flight, keeping_in, restarting_in}
 use Rattle.world_model.specs.declared.restarting.RestartPhase.TheVariants.{Recovering}
 use Rattle.world_model.specs.declared.restarting.Told.{Told}
-use Rattle.world_model.proofs.Bags.{one_if_most, sealed_tally, tally-append, one_if_both}
+use Rattle.world_model.proofs.Bags.{sealed_tally, tally-append, one_if_both}
 use Rattle.world_model.proofs.Restarts.{restarting_nodes}
 use Rattle.phase_laws.proofs.Heeds.{Answers, Heed, IsOfEpoch, Leaves, Obeys, Repeats}
 use Rattle.phase_laws.proofs.Lawful.{IsTreeLawful}
@@ -74,10 +73,10 @@ Awaits s past d = d.phase ≡ Recovering → IsAwaited s past d
 
 -- Letters that aren't such.
 asks_other : (d e a q : ℕ) → a ≢ q → one_if ((d == e) && (a == q)) ≡ 0
-asks_other d e a q ne = grind (arith, nat_tests)
+asks_other d e a q ne = grind arith
 
 old_none : (d e a q : ℕ) → d ≢ e → one_if ((d == e) && (a == q)) ≡ 0
-old_none d e a q ne = grind (arith, nat_tests)
+old_none d e a q ne = grind arith
 
 epochless_none : (client : Bool) (e q from to : ℕ) (body : Body) → IsEpochless body → asking client e q from to body ≡ 0
 epochless_none client e q from to body none = grind arith
@@ -86,19 +85,19 @@ trees_none : (client : Bool) (e q from to : ℕ) (body : Body) → IsOfTrees bod
 trees_none client e q from to body of = grind arith
 
 late_none : (client : Bool) (n e q from to : ℕ) (body : Body) → IsOfEpoch n body → n < e → asking client e q from to body ≡ 0
-late_none client n e q from to body of less = grind (arith, old_none)
+late_none client n e q from to body of less = grind arith
 
 left_node : (d e from q n : ℕ) → ((d == e) && nat_lt from n) ≡ false → q < n → one_if ((d == e) && (from == q)) ≡ 0
-left_node d e from q n left lt = grind (arith, nat_tests)
+left_node d e from q n left lt = grind arith
 
 left_client : (d e from q n : ℕ) → ((d == e) && (from == n)) ≡ false → q ≡ n → one_if ((d == e) && (from == q)) ≡ 0
-left_client d e from q n left is = grind (arith, nat_tests)
+left_client d e from q n left is = grind arith
 
 -- a letter that changes nothing
 left_none : (client : Bool) (s : ScriptData) (c : Restarting) (q from to : ℕ) (body : Body) → IsLeft body Recovering from c
     → TellsAnew body
     → IsAsked s client q → length c.told ≡ s.nodes → c.nodes ≡ s.nodes → asking client c.epoch q from to body ≡ 0
-left_none client s c q from to body left tells asked places nodes = grind (arith, left_client, left_node)
+left_none client s c q from to body left tells asked places nodes = grind arith
 
 -- Entries of the client and of nodes: who takes a question answers it.
 none_taken : (f : ℕ → ℕ → Body → ℕ) (s : ScriptData) (past : List Entry) (e : Entry) → MayFollow s past e
@@ -222,7 +221,7 @@ told_more (x ∷ ts) (suc from) (suc q) t = told_more ts from q t
 
 node_told : (ts : AllTold) (d from q : ℕ) (t : Told) → from < length ts
     → one_if ((d == d) && (from == q)) ≤ is_told (slice_get (slice_set ts from (Some t)) q)
-node_told ts d from q t lt = grind (arith, asks_other, cases_eq, one_if_most, told_there)
+node_told ts d from q t lt = grind (arith, told_there)
 
 heard_more : (o : Option ℕ) → is_heard o ≤ 1
 heard_more None = omega arith
@@ -236,7 +235,7 @@ record Covers (client : Bool) (c d : Restarting) (q from to : ℕ) (body : Body)
 
 hears_covers : (client : Bool) (c d : Restarting) (q from to : ℕ) (body : Body) → HearsMore c from body d
     → Covers client c d q from to body
-hears_covers client c d q from to body is = grind (arith, heard_more, node_told, one_if_most, told_more)
+hears_covers client c d q from to body is = grind (arith, node_told, told_more)
 
 -- a witness of one kind or the other is still there
 pub still_covered : (now before weight kept was : ℕ) → 1 ≤ before + was → before ≤ now + weight → weight ≤ kept → was ≤ kept
@@ -248,7 +247,7 @@ covered : (client : Bool) (s : ScriptData) (past : List Entry) (e : Entry) (d : 
     → Covers client (restarting_in s past) d q e.took.from.0 e.actor.0 e.took.body
     → 1 ≤ going (asking client (restarting_in s past).epoch q) s past + has_told client (restarting_in s past) q
     → 1 ≤ going (asking client d.epoch q) s (e ∷ past) + has_told client d q
-covered client s past e d q m covers was = grind (arith, flow_of, still_covered)
+covered client s past e d q m covers was = grind (arith, flow_of)
 
 same_told : (client : Bool) (c : Restarting) (i q : ℕ) → has_told client (with_wanted i c) q ≡ has_told client c q
 same_told true c i q = refl

@@ -121,7 +121,7 @@ apart a b test ne = let no : (a == b) ≡ false = grind (arith, nat_tests) in rw
 order_none : (s : ScriptData) (past : List Entry) (q from to : ℕ) (body : Body) → (restarting_in s past).ended ≤ 100
     → (restarting_in s past).phase ≡ Doing ToTurn → greatest_given TurnStage past < (restarting_in s past).ended + 2
     → IsRight s past from to body → order_to (restarting_in s past).epoch q from to body ≡ 0
-order_none s past q from to body few at less right = grind (arith, apart, current_turn)
+order_none s past q from to body few at less right = grind arith
 
 less_or : (a b : ℕ) → (b ≤ a) ⊎ (a < b)
 less_or a b = grind arith
@@ -129,7 +129,7 @@ less_or a b = grind arith
 turn_given : (s : ScriptData) (past : List Entry) (q : ℕ) → IsGood s past → q < s.nodes → (restarting_in s past).ended ≤ 100
     → (restarting_in s past).phase ≡ Doing ToTurn → IsSteady s past (Doing ToTurn)
     → (restarting_in s past).ended + 2 ≤ greatest_given TurnStage past
-turn_given s past q good lt few at steady = grind (arith, each_map, each_none, less_or, order_none)
+turn_given s past q good lt few at steady = grind (arith, each_map, each_none)
 
 -- so no more is done than all that the client asks for
 all_done : (n a f : ℕ) (phase : RestartPhase) → f + 1 ≤ a → f * (14 * n + 1) + begun n phase ≤ a * (14 * n + 1)

@@ -103,7 +103,7 @@ telling_apart phase c none = record { none = none; same = refl; plain = (tt, ord
 
 resume_apart : (all : Bool) (k : Option ℕ) (c : Restarting) → pace_of c.phase ≡ NoRound
     → IsApart c.count.number (resume_if all k c)
-resume_apart all k c none = grind (arith, by_none, rests_apart, telling_apart)
+resume_apart all k c none = grind (arith, telling_apart)
 
 recover_apart : (c d : Restarting) (from : ℕ) (body : Body) → c.phase ≡ Recovering → HearsMore c from body d
     → IsApart c.count.number (recover d)
@@ -142,7 +142,7 @@ room_by k e small few =
     (omega (arith, few, small), omega (arith, few, small, next))
 
 has_room : (s : ScriptData) (past : List Entry) → IsFew s past → HasRoom (restarting_in s past)
-has_room s past few = grind (arith, few, room_by)
+has_room s past few = grind arith
 
 -- what comes of a letter is a step of the count
 abbrev Step : ℕ → Restarting → ℕ → Body → Out Restarting → Type 0
@@ -167,7 +167,7 @@ Passes body _ from c = Unit {0}
 
 rests_none : (n : ℕ) (c d : Restarting) (from : ℕ) (body : Body) (out : Out Restarting) → pace_of c.phase ≡ NoRound
     → count_of d ≡ count_of c → out ≡ still d → Step n c from body out
-rests_none n c d from body out none same is = grind (arith, leaves_by)
+rests_none n c d from body out none same is = grind arith
 
 rests_step : (n : ℕ) (c d : Restarting) (from : ℕ) (body : Body) (out : Out Restarting) (phase : RestartPhase) → c.phase ≡ phase
     → Passes body phase from c → count_of d ≡ count_of c → out ≡ still d → Step n c from body out
@@ -190,7 +190,7 @@ left_paused _ reads from c left = tt
 
 left_passes : (body : Body) (phase : RestartPhase) (from : ℕ) (c : Restarting) → IsLeft body phase from c
     → Passes body phase from c
-left_passes body phase from c left = grind (arith, left_counting, left_paused)
+left_passes body phase from c left = grind arith
 
 advance_passes : (i : ℕ) (phase : RestartPhase) (from : ℕ) (c : Restarting) → Passes (AdvanceNo i) phase from c
 advance_passes i phase from c = grind arith

@@ -1,7 +1,7 @@
 -- What a step of a coordinator that forgets can be.
 use Rattle.std.proofs.Common.{◌≡◌, ℕ, ◌+◌, ◌<◌, ◌&&◌, ◌==◌, Bool, true, false, List, [], length, refl, sym, ap, subst, ◌∙◌, Option, Some, None, arith}
 use Rattle.std.specs.Prelude.{if◌then◌else◌, max, nat_lt, not}
-use Rattle.std.proofs.lemmas.Bool.{and_from, and_parts, eqb-true, ltb-true}
+use Rattle.std.proofs.lemmas.Bool.{and_parts, eqb-true, ltb-true}
 use Rattle.tv_base.specs.declared.numbers.Version.{Version}
 use Rattle.tv_base.specs.Outside.{one_more}
 use Rattle.phase_out.specs.Counts.{by_verdict, nudged, told_done, told_asked}
@@ -97,7 +97,7 @@ same_version v w is = ap (λ (n : ℕ). record { 0 = n }) is
 -- an answer to the present order
 answer_is : (e : ℕ) (what : What) (v : Version) (doing : What) (c : Restarting) → is_answer e what v doing c ≡ true
     → Obeyed e what v ≡ Obeyed c.epoch doing (target doing c.ended)
-answer_is e what v doing c is = grind (arith, and_parts, eqb-true, same_order, same_version)
+answer_is e what v doing c is = grind arith
 
 -- Steps by their tests.
 numbers_step : (e : ℕ) (u r l : Version) (from : ℕ) (c : Restarting) (test : Bool) → c.phase ≡ Recovering
@@ -150,7 +150,7 @@ done_step v k row reads from c false at is =
 judged : (v : Version) (k : ℕ) (row : List ℕ) (reads : Bool) (from : ℕ) (c : Restarting) (verdict : Option Bool)
     → TakesRequests c from (AskedRow v k row) reads v k row → verdict_of (with_asked from row c.count.current) ≡ verdict
     → by_count reads (told_asked from v k row c.count) c ≡ by_counted reads (by_verdict verdict c.count.flag) (asked_kept from row c)
-judged v k row reads from c verdict takes is = grind (arith, and_from)
+judged v k row reads from c verdict takes is = grind arith
 
 judged_step : (v : Version) (k : ℕ) (row : List ℕ) (reads : Bool) (from : ℕ) (c : Restarting) (verdict : Option Bool) (flag : Bool)
     → TakesRequests c from (AskedRow v k row) reads v k row → verdict_of (with_asked from row c.count.current) ≡ verdict → c.count.flag ≡ flag

@@ -1,7 +1,6 @@
 -- Letters that were as they should be are so after an entry of the coordinator: where it gives nothing new and waits
 -- for what it waited for, or where none of its epoch is left.
 use Rattle.std.proofs.Common.{◌≡◌, ℕ, ◌<◌, ◌≤◌, ◌==◌, List, ◌∷◌, subst, ◌∙◌, arith}
-use Rattle.std.proofs.lemmas.Bool.Decides.{nat_tests}
 use Rattle.letter_types.specs.declared.bodies.Body.{Body}
 use Rattle.letter_types.specs.declared.bodies.Body.TheVariants.{Go, Advanced, Ask, Numbers, Obeyed, Order, Wanted}
 use Rattle.letter_types.specs.declared.bodies.What.{What}
@@ -122,7 +121,7 @@ pub record IsTelling (s : ScriptData) (past : List Entry) (e : Entry) : Type 0 w
   pub knows : Knows (restarting_in s (e ∷ past)).phase
 
 same_test : (a b : ℕ) → one_if (a == b) ≡ 0 → a ≡ b → ⊥
-same_test a b none is = grind (arith, nat_tests)
+same_test a b none is = grind arith
 
 rises : (a : What) (past : List Entry) (e : Entry) (v : ℕ) → v ≤ greatest_given (stage_of a) past → v ≤ greatest_given (stage_of a) (e ∷ past)
 rises a past e v le = omega (arith, le, given_rises (stage_of a) e past)

@@ -60,7 +60,7 @@ raised : (s : ScriptData) (past : List Entry) (c d : Core) (raises : Bool) (v : 
     → d.node.turns ≡ raised_if raises v c.node.turns
     → (raises ≡ true → c.node.turns.update.0 < v) → (raises ≡ true → v ≤ greatest_given TurnStage past) → d.epoch ≡ c.epoch
     → Fares s past c c → Fares s past c d
-raised s past c d raises v is higher most epoch was = grind (arith, by_numbers)
+raised s past c d raises v is higher most epoch was = grind arith
 
 tree_of_none : (body : Body) → IsOfTrees body → IsOfNoEpoch body
 tree_of_none body of = grind arith

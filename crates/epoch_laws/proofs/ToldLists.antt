@@ -2,7 +2,6 @@
 use Rattle.std.proofs.Common.{◌≡◌, ◌≢◌, ◌⊎◌, inl, inr, ℕ, zero, suc, ◌<◌, ◌≤◌, ◌==◌, ◌||◌, Bool, true, false, [], ◌∷◌, length, refl, sym, ap, ◌∙◌, arith, Option, Some, None}
 use Rattle.std.specs.Prelude.{is_some, min, not, replicate, slice_get}
 use Rattle.std.specs.List.{list_all, list_any}
-use Rattle.std.proofs.lemmas.Bool.Decides.{nat_tests}
 use Rattle.std.proofs.lemmas.Bool.{eqb-true}
 use Rattle.world_model.specs.Restarting.{AllTold, least_low, low_differs, read_is, update_is}
 use Rattle.world_model.specs.declared.restarting.Told.{Told}
@@ -76,7 +75,7 @@ some_told test P (Some t ∷ ts) none fits any = by (λ rest. some_told test P t
   by rest false is = later (Some t) ts P (rest (sym (ap (λ (b : Bool). b || list_any test ts) is) ∙ any))
 
 differs_is : (a f : ℕ) → not (a == f) ≡ true → a ≢ f
-differs_is a f is = grind (arith, nat_tests)
+differs_is a f is = grind arith
 
 pub some_low : (ts : AllTold) (f : ℕ) → list_any (low_differs f) ts ≡ true → SomeTold ts (λ (t : Told). t.low.0 ≢ f)
 some_low ts f any = some_told (low_differs f) (λ (t : Told). t.low.0 ≢ f) ts refl (λ t is. differs_is t.low.0 f is) any

@@ -23,8 +23,6 @@ use Rattle.world_model.specs.Runs.{keeping_in}
 use Rattle.world_model.specs.Strict.{CoreKeeping, answered, core_by_kind, core_keeping, core_row, decided, is_core_apt, note_core, refused_there, strict_core}
 use Rattle.world_model.proofs.EachOutstanding.{EachKept, each_brought}
 use Rattle.world_model.proofs.Every.{each_map}
-use Rattle.world_model.proofs.KeptThere.{core_keeps}
-use Rattle.world_model.proofs.Outstanding.{keeping_here}
 use Rattle.phase_laws.proofs.Brought.{IsAsking, kept_ask}
 
 -- neither an order nor a question
@@ -46,11 +44,11 @@ decided_stays s c d o None same = same
 decided_stays s c d o (Some a) same = same
 
 strict_stays : (s : ScriptData) (p from : ℕ) (t : TreeNo) (body : Body) (c : Core) → Stays c (strict_core s p from t body c)
-strict_stays s p from t body c = grind (arith, decided_stays)
+strict_stays s p from t body c = grind arith
 
 kind_stays : (s : ScriptData) (p from : ℕ) (t : TreeNo) (body : Body) (kind : Option TreeKind) (c : Core)
     → Stays c (core_by_kind s p from t body kind c)
-kind_stays s p from t body kind c = grind (arith, strict_stays)
+kind_stays s p from t body kind c = grind arith
 
 pick : (c : Core) (test : Bool) (x y : Out Core) → Stays c x → Stays c y → Stays c (if test then x else y)
 pick c true x y left right = left
@@ -64,13 +62,13 @@ note_stays s from t k v notice c =
     pick c (is_strict_at s t.0) (decided s noted o o.answered) (answered s c o) (decided_stays s c noted o o.answered refl) refl
 
 row_stays : (s : ScriptData) (p from : ℕ) (body : Body) (c : Core) → IsOfNoEpoch body → Stays c (core_row s p c from body)
-row_stays s p from body c none = grind (arith, kind_stays, note_stays)
+row_stays s p from body c none = grind arith
 
 -- A letter that is brought, which may be kept.
 kept_stays : (s : ScriptData) (p : ℕ) (l r : Letter) (n : KeepingNode) (o : Option CoreKeeping)
     → core_keeping s n.core r.body ≡ o
     → IsOfNoEpoch r.body → (kept_row s p l r n o).state.core.epoch ≡ n.core.epoch
-kept_stays s p l r n o is none = grind (arith, core_keeps, row_stays)
+kept_stays s p l r n o is none = grind arith
 
 apt_stays : (s : ScriptData) (p : ℕ) (l r : Letter) (n : KeepingNode) (test : Bool) → is_apt_at s p n r ≡ test
     → IsOfNoEpoch r.body
@@ -88,4 +86,4 @@ brought_stays s p l n (Some r) is kept none =
 -- so is an entry
 pub epoch_stays : (s : ScriptData) (past : List Entry) (e : Entry) (p : ℕ) → e.actor.0 ≡ p → IsOfNoEpoch e.took.body
     → (keeping_in s (e ∷ past) p).core.epoch ≡ (keeping_in s past p).core.epoch
-epoch_stays s past e p at none = grind (arith, asks_of_none, brought_stays, each_map, keeping_here, kept_ask)
+epoch_stays s past e p at none = grind (arith, brought_stays, each_map, kept_ask)

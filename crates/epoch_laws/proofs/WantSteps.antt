@@ -1,8 +1,7 @@
 -- What each step of a coordinator that forgets makes of the number of advancements that it wants.
 use Rattle.std.proofs.Common.{◌≡◌, ◌⊎◌, inl, inr, ℕ, ◌≤◌, Bool, true, false, [], refl, sym, ap, subst, arith, Some}
 use Rattle.std.specs.Prelude.{max, nat_le}
-use Rattle.std.proofs.Math.Nat.{le-max_left, le-max_right}
-use Rattle.std.proofs.lemmas.Bool.Decides.{nat_tests}
+use Rattle.std.proofs.Math.Nat.{le-max_left}
 use Rattle.tv_base.specs.Outside.{one_more}
 use Rattle.phase_out.specs.Counts.{nudged}
 use Rattle.letter_types.specs.declared.bodies.Body.{Body}
@@ -31,13 +30,13 @@ Covers e a _ = Unit {0}
 
 -- Tests of numbers.
 pub most_rises : (a w v : ℕ) → w ≤ v → one_if (nat_le a w) ≤ one_if (nat_le a v)
-most_rises a w v le = grind (arith, nat_tests)
+most_rises a w v le = grind arith
 
 pub one_most : (a : ℕ) → one_if (nat_le a a) ≡ 1
-one_most a = grind (arith, nat_tests)
+one_most a = grind arith
 
 pub some_most : (a w : ℕ) → 1 ≤ one_if (nat_le a w) → a ≤ w
-some_most a w some = grind (arith, nat_tests)
+some_most a w some = grind arith
 
 -- It wants no fewer, and as many as it is asked for, unless it forgets.
 pub record WantsMore (a : ℕ) (c : Restarting) (body : Body) (d : Restarting) : Type 0 where
@@ -56,7 +55,7 @@ same_more a c body out next is none le =
 
 asked_more : (a i : ℕ) (c : Restarting) (body : Body) (out next : Out Restarting) → out ≡ next → body ≡ AdvanceNo i
     → next.state.wanted ≡ max c.wanted i → WantsMore a c body out.state
-asked_more a i c body out next is bd same = grind (arith, le-max_left, le-max_right, most_rises)
+asked_more a i c body out next is bd same = grind arith
 
 left_asks : (a : ℕ) (body : Body) (phase : RestartPhase) (from : ℕ) (c : Restarting) → IsLeft body phase from c
     → asks_for a body ≡ 0

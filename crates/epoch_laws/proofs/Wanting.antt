@@ -28,7 +28,7 @@ use Rattle.world_model.specs.Runs.{IsStepRun, MayFollow, client_in, in_flight, r
 use Rattle.world_model.specs.declared.restarting.RestartPhase.TheVariants.{Recovering}
 use Rattle.world_model.proofs.Bags.{tally-append}
 use Rattle.world_model.proofs.Every.{each_map, each_step, each_taken}
-use Rattle.world_model.proofs.Flows.{client_kept, flow}
+use Rattle.world_model.proofs.Flows.{flow}
 use Rattle.world_model.proofs.Nexts.{MadeByClient}
 use Rattle.world_model.proofs.Orders.{of}
 use Rattle.world_model.proofs.Restarts.{OfRestarts, restarting_each}
@@ -49,7 +49,7 @@ use Rattle.epoch_laws.proofs.Forgetting.{good_run}
 use Rattle.epoch_laws.proofs.Good.{IsGood, IsLetterRight, IsRight, Knows}
 use Rattle.epoch_laws.proofs.Recovers.{still_covered}
 use Rattle.epoch_laws.proofs.RecoverSteps.{HasHeard, Misses, Recovery, recovery}
-use Rattle.epoch_laws.proofs.WantSteps.{Covers, WantsMore, asks_for, heard_covers, more_waits, one_most, some_most, wants_more}
+use Rattle.epoch_laws.proofs.WantSteps.{Covers, WantsMore, asks_for, heard_covers, more_waits, one_most, wants_more}
 use Rattle.epoch_laws.proofs.RestartSteps.{HearsMore, RestartStep, restart_step}
 use Rattle.epoch_laws.proofs.RestartSteps.{Acks, Agrees, Ends, Flags, Forgets, Goes, KeepsAsked, KeepsDone, Pauses, Recounts, Recovers, Rests, Resumes, Wants}
 
@@ -124,7 +124,7 @@ same_asked s past e same = ap (λ (c : Client). advances_in (take c.next s.rows)
 
 asks_more : (s : ScriptData) (past : List Entry) (e : Entry) → is_lossy s ≡ true → Aside s past e
     → (asked_for s (e ∷ past) ≡ asked_for s past) ⊎ (1 ≤ tally (on (asks_for (asked_for s (e ∷ past)))) e.sent)
-asks_more s past e loses is = grind (arith, client_kept, same_asked, submits_asks)
+asks_more s past e loses is = grind (arith, submits_asks)
 
 -- 2. Entries of the client and of nodes: none takes a letter that asks for advancements.
 asks_away : (s : ScriptData) (a from to : ℕ) (body : Body) → IsMeant s from to body → to ≢ s.nodes → asks_for a body ≡ 0
@@ -140,7 +140,7 @@ tree_covers e a s st does _ sent = tt
 
 sent_covers : (s : ScriptData) (past : List Entry) (e : Entry) (epoch : ℕ) (body : Body) → IsSentBy s past e body
     → Covers epoch (asked_for s past) body
-sent_covers s past e epoch body is = grind (arith, bare_covers, tree_covers)
+sent_covers s past e epoch body is = grind arith
 
 will_hear_aside : (s : ScriptData) (past : List Entry) (e : Entry) (c : Restarting) → Aside s past e
     → WillHear s past (asked_for s past) c
@@ -325,7 +325,7 @@ wants_in s (e ∷ past) laws loses run apt = by (cases_eq e.actor.0 s.nodes) (wa
 -- So where no letter is in flight a coordinator that doesn't recover wants all.
 all_by : (s : ScriptData) (past : List Entry) (a : ℕ) (c : Restarting) → in_flight s past ≡ [] → Knows c.phase
     → WantsAll s past a c → a ≤ c.wanted
-all_by s past a c empty knows is = grind (arith, some_most)
+all_by s past a c empty knows is = grind arith
 
 pub all_wanted : (s : ScriptData) (past : List Entry) → IsTreeLawful s → is_lossy s ≡ true → IsStepRun s past → AllApt s past
     → in_flight s past ≡ [] → Knows (restarting_in s past).phase → asked_for s past ≤ (restarting_in s past).wanted
