@@ -34,16 +34,12 @@ use Rattle.epoch_laws.proofs.Forgetting.{all_good}
 use Rattle.epoch_laws.proofs.Good.{AllGood, IsGood, IsLetterRight, IsRight, in_phase, turns_in}
 use Rattle.epoch_laws.proofs.RecoverSteps.{Waiting, waiting}
 use Rattle.epoch_laws.proofs.RestartCounts.{good_now}
-use Rattle.epoch_laws.proofs.RestartSteps.{HearsMore, OfClient, OfNode, RestartStep, restart_step}
+use Rattle.epoch_laws.proofs.RestartSteps.{RestartStep, restart_step}
 
 -- Letters in flight after an entry of the coordinator.
 -- where it waits after it, it waited before, in the same epoch, or its epoch is new
 abbrev WaitsOn : Restarting → Restarting → Type 0
 WaitsOn c d = ((c.phase ≡ Recovering) × (d.epoch ≡ c.epoch)) ⊎ (c.epoch < d.epoch)
-
-same_epoch : (c d : Restarting) (from : ℕ) (body : Body) → HearsMore c from body d → d.epoch ≡ c.epoch
-same_epoch c d from body (OfNode u r l bd lt is) = ap (λ (x : Restarting). x.epoch) is
-same_epoch c d from body (OfClient k bd it is) = ap (λ (x : Restarting). x.epoch) is
 
 waits_on : (c : Restarting) (from : ℕ) (body : Body) (out : Out Restarting) → c.epoch ≤ 100 → Waiting c from body out
     → WaitsOn c out.state

@@ -28,8 +28,7 @@ use Rattle.strict_laws.specs.Meant.{IsLetterMeant, IsMeant}
 use Rattle.strict_laws.proofs.Meant.{letters_are_meant}
 use Rattle.phase_laws.proofs.Heeds.{Answers, Heed, Leaves, Obeys, Repeats, turned_to}
 use Rattle.phase_laws.proofs.Lawful.{IsTreeLawful}
-use Rattle.phase_laws.proofs.Working.{SentIn}
-use Rattle.epoch_laws.proofs.Aside.{Aside, Counts, Heeds, IsBare, IsSentBy, Submits, Tells, Works, sends_aside}
+use Rattle.epoch_laws.proofs.Aside.{Aside, Counts, Heeds, IsSentBy, Submits, Tells, Works, sends_aside}
 use Rattle.epoch_laws.proofs.Away.{restarting_kept}
 use Rattle.epoch_laws.proofs.ExactSteps.{AreExact, IsExactFor, IsNearIn, IsNoFurther, IsStill, IsStillTold}
 use Rattle.epoch_laws.proofs.Good.{IsCurrent, IsGood, IsLetterRight, IsOrder, IsRight, Knows, ended_few, epoch_in, in_phase, steady_in, took_right, turns_in}
@@ -125,12 +124,6 @@ still_moved : (c : Restarting) (old new : Turns) (r l : Version) → c.phase ≡
 still_moved c old new r l waits (Stood read low) was = record { read = read ∙ was.read; low = low ∙ was.low }
 still_moved c old new r l waits (Heeded what v current is) was = absurd (cc (sym waits ∙ current.phase))
 
-in_present : (c : Restarting) (old new : Turns) (what : What) (v : Version) (phase : RestartPhase) → c.phase ≡ phase
-    → IsCurrent c what v
-    → (IsNoFurther (Doing what) c.ended old → IsNoFurther (Doing what) c.ended new) → IsNoFurther phase c.ended old
-    → IsNoFurther phase c.ended new
-in_present c old new what v phase at current goes was = grind arith
-
 further_moved : (c : Restarting) (old new : Turns) (phase : RestartPhase) → c.phase ≡ phase → Moved c old new
     → IsNoFurther phase c.ended old → IsNoFurther phase c.ended new
 further_moved c old new phase at is was = grind arith
@@ -145,16 +138,6 @@ old_still s past e from to (Numbers n u r l) good m next waits meant right was =
     (moved s past e from good m next meant.0.0 (right.latest is waits).epoch) (was is)
 old_still s past e from to Go good m next waits meant right was = tt
 old_still s past e from to _ good m next waits meant right was = tt
-
-bare_still : (epoch : ℕ) (at : ℕ → Turns) (from : ℕ) (body : Body) → IsBare body → IsStillTold epoch at from body
-bare_still epoch at from (Numbers n u r l) bare = absurd bare
-bare_still epoch at from _ bare = tt
-
-tree_still : (epoch : ℕ) (at : ℕ → Turns) (s : ScriptData) (st : Node) (does : Body) (from : ℕ) (body : Body)
-    → SentIn s st does body
-    → IsStillTold epoch at from body
-tree_still epoch at s st does from (Numbers n u r l) sent = absurd sent
-tree_still epoch at s st does from _ sent = tt
 
 sent_still : (s : ScriptData) (past : List Entry) (e : Entry) (epoch : ℕ) (body : Body) → IsSentBy s past e body
     → IsStillTold epoch (turns_in s (e ∷ past)) e.actor.0 body

@@ -1,5 +1,5 @@
 -- How many rounds a coordinator that forgets may begin in one epoch, and what each of its steps makes of its numbers.
-use Rattle.std.proofs.Common.{◌≡◌, ℕ, ◌+◌, ◌-◌, ◌*◌, ◌^◌, ◌≤◌, Bool, true, false, List, refl, sym, ap, subst, ◌∙◌, Option, Some, None, arith}
+use Rattle.std.proofs.Common.{◌≡◌, ℕ, ◌+◌, ◌-◌, ◌*◌, ◌^◌, ◌≤◌, Bool, true, List, refl, sym, ap, subst, ◌∙◌, Some, arith}
 use Rattle.std.specs.Prelude.{max, not}
 use Rattle.std.proofs.Math.Nat.{max-le, min-le_left}
 use Rattle.tv_base.specs.Outside.{one_more}
@@ -11,11 +11,11 @@ use Rattle.letter_types.specs.declared.bodies.What.{What}
 use Rattle.letter_types.specs.declared.bodies.What.TheVariants.{Turn as ToTurn, Show as ToShow, Sweep as ToSweep}
 use Rattle.letter_types.specs.Steps.{Out}
 use Rattle.world_model.specs.Counts.{one_if}
-use Rattle.world_model.specs.Restarting.{AllTold, Restarting, after_doing, begin_counting, end_counting, first_number, in_restart_phase, least_low, next_advance, phase_by, recover, resume_if}
+use Rattle.world_model.specs.Restarting.{Restarting, after_doing, begin_counting, end_counting, first_number, in_restart_phase, next_advance, recover}
 use Rattle.world_model.specs.declared.restarting.RestartPhase.{RestartPhase}
 use Rattle.world_model.specs.declared.restarting.RestartPhase.TheVariants.{Idle, Recovering, Doing, Counting, Paused}
 use Rattle.world_model.proofs.Lawful.{is_nudge}
-use Rattle.epoch_laws.proofs.RecoverSteps.{next_each, phase_each}
+use Rattle.epoch_laws.proofs.RecoverSteps.{next_each}
 use Rattle.epoch_laws.proofs.RestartSteps.{RestartStep, HearsMore, asked_kept, done_kept}
 use Rattle.epoch_laws.proofs.RestartSteps.{Rests, Forgets, Wants, Goes, Recovers, Acks, Ends, Flags, Resumes, KeepsDone, KeepsAsked, Agrees, Recounts, Pauses}
 
@@ -81,21 +81,11 @@ pub record StaysSmall (a m n : ℕ) (c : Restarting) (body : Body) (d : Restarti
 first_most : (epoch : ℕ) → first_number epoch ≤ epoch * 2 ^ 32
 first_most epoch = min-le_left (epoch * 2 ^ 32) (2 ^ 64 - 1)
 
--- an advancement has ended, so one less is left
-one_less : (a f : ℕ) → a ≤ 100 → a - one_more f ≤ a - (f + 1)
-one_less a f few = omega (arith, few)
-
 -- The phases with which it goes on.
 -- the next advancement begins where it is wanted, so where not as many have ended as may be wanted
 next_due : (a wanted f : ℕ) (flag : Bool) → wanted ≤ a → still_due a (next_advance wanted f) flag f ≤ 2 * (a - f)
 next_due a wanted f flag few =
     next_each (λ phase. still_due a phase flag f ≤ 2 * (a - f)) wanted f (λ lt. omega (arith, lt, few)) (λ le. omega arith)
-
--- on resuming, at most as many are left as before
-told_due : (a wanted f : ℕ) (flag : Bool) (ts : AllTold) → wanted ≤ a → still_due a (phase_by ts wanted f) flag f ≤ 2 * a + 2
-told_due a wanted f flag ts few =
-    phase_each (λ phase. still_due a phase flag f ≤ 2 * a + 2) ts wanted f (λ l. omega arith) (λ l r. omega arith)
-    (λ l r u. omega arith) (λ l r. omega (arith, next_due a wanted f flag few))
 
 -- Steps.
 -- the epoch, what is wanted and what was heard stay
@@ -123,32 +113,7 @@ agrees_small : (a m n : ℕ) (c : Restarting) (from : ℕ) (row : List ℕ) (bod
     → c.phase ≡ Counting reads → StaysSmall a m n c body (end_counting reads (asked_kept from row c)).state
 agrees_small a m n c from row body reads was at = grind arith
 
--- it resumes, or still misses something
-resumes_small : (a m n : ℕ) (c : Restarting) (body : Body) (all : Bool) (told : Option ℕ) → m ≤ a → AreSmall a m n c
-    → c.phase ≡ Recovering → c.heard ≡ told → StaysSmall a m n c body (resume_if all told c).state
-resumes_small a m n c body true (Some k) most was at is =
-    let wanted : max c.wanted k ≤ m = max-le was.wanted (was.heard k is) in
-    record {
-      epoch = omega arith;
-      small = record {
-        wanted = wanted;
-        heard = was.heard;
-        rounds = omega (
-          arith,
-          was.rounds,
-          due_at a c Recovering at,
-          told_due a (max c.wanted k) (least_low c.told) c.count.flag c.told (omega (arith, wanted, most)),
-        );
-      };
-    }
-resumes_small a m n c body true None most was at is = same_small a m n c c body was refl refl refl (omega (arith, was.rounds))
-resumes_small a m n c body false told most was at is = same_small a m n c c body was refl refl refl (omega (arith, was.rounds))
-
 -- what it hears it keeps, and then it resumes if all is there
-heard_small : (a m n : ℕ) (c d : Restarting) (from : ℕ) (body : Body) → TellsUpTo m body → AreSmall a m n c
-    → HearsMore c from body d → (d.epoch ≡ c.epoch) × (d.phase ≡ c.phase) × AreSmall a m n d
-heard_small a m n c d from body tells was is = grind arith
-
 hears_small : (a m n : ℕ) (c d : Restarting) (from : ℕ) (body : Body) → m ≤ a → TellsUpTo m body → AreSmall a m n c
     → c.phase ≡ Recovering → HearsMore c from body d → StaysSmall a m n c body (recover d).state
 hears_small a m n c d from body most tells was at hears = grind arith

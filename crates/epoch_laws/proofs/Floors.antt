@@ -17,15 +17,13 @@ use Rattle.tx_trees.specs.ScriptData.{ScriptData}
 use Rattle.tx_trees.specs.Valid.{IsValid}
 use Rattle.world_model.specs.Counts.{Each, one_if}
 use Rattle.world_model.specs.Keeping.{KeepingNode}
-use Rattle.world_model.specs.Node.{Node}
 use Rattle.world_model.specs.Restarting.{AllTold, Restarting, least_low, read_is}
 use Rattle.world_model.specs.Runs.{MayFollow, in_flight, keeping_in, restarting_in}
 use Rattle.world_model.specs.declared.restarting.Told.{Told}
 use Rattle.world_model.proofs.Every.{each_map, each_step, each_taken}
 use Rattle.phase_laws.proofs.Outcomes.{one_more_is}
 use Rattle.phase_laws.proofs.Waves.{set_get}
-use Rattle.phase_laws.proofs.Working.{SentIn}
-use Rattle.epoch_laws.proofs.Aside.{Aside, IsBare, IsSentBy, sends_aside}
+use Rattle.epoch_laws.proofs.Aside.{Aside, IsSentBy, sends_aside}
 use Rattle.epoch_laws.proofs.AtCoordinator.{held_at}
 use Rattle.epoch_laws.proofs.Good.{IsGood, IsHeardOf, IsLetterRight, IsRight, low_few, turns_in}
 use Rattle.epoch_laws.proofs.Prices.{TellsMore}
@@ -64,15 +62,6 @@ pub record IsFloor (s : ScriptData) (past : List Entry) (f : ℕ) (shown : Bool)
   pub told : (q : ℕ) (t : Told) → HasTold (restarting_in s past).told q t → IsFrom f shown t.read.0 t.low.0
 
 -- Entries of the client and of nodes.
-bare_from : (e f : ℕ) (shown : Bool) (body : Body) → IsBare body → TellsFrom e f shown body
-bare_from e f shown (Numbers d u r l) bare = absurd bare
-bare_from e f shown _ bare = tt
-
-tree_from : (e f : ℕ) (shown : Bool) (s : ScriptData) (st : Node) (does body : Body) → SentIn s st does body
-    → TellsFrom e f shown body
-tree_from e f shown s st does (Numbers d u r l) sent = absurd sent
-tree_from e f shown s st does _ sent = tt
-
 sent_from : (s : ScriptData) (past : List Entry) (e : Entry) (n f : ℕ) (shown : Bool) (body : Body)
     → ((q : ℕ) → q < s.nodes → IsFrom f shown (turns_in s past q).read.0 (turns_in s past q).low.0) → IsSentBy s past e body
     → TellsFrom n f shown body

@@ -13,7 +13,7 @@ use Rattle.tx_trees.specs.ScriptData.{ScriptData}
 use Rattle.tx_trees.specs.Valid.{IsValid}
 use Rattle.world_model.specs.AllApt.{AllApt}
 use Rattle.world_model.specs.Counts.{Each}
-use Rattle.world_model.specs.Epochs.{is_core_timely, plain_order}
+use Rattle.world_model.specs.Epochs.{is_core_timely}
 use Rattle.world_model.specs.Kept.{kept_in, outstanding}
 use Rattle.script_parts.specs.Counts.{is_lossy}
 use Rattle.world_model.specs.Named.{is_timely}
@@ -35,10 +35,10 @@ use Rattle.phase_laws.proofs.Governed.{IsGoverned}
 use Rattle.phase_laws.proofs.Lawful.{IsTreeLawful}
 use Rattle.phase_laws.proofs.Levels.{IsOrder as IsOrderLetter}
 use Rattle.phase_laws.proofs.Progress.{course, itself, restarts, told_anew}
-use Rattle.phase_laws.proofs.Sending.{IsApart, Sending, sending}
+use Rattle.phase_laws.proofs.Sending.{Sending, sending}
 use Rattle.phase_laws.proofs.Silence.{goes_itself}
 use Rattle.epoch_laws.proofs.Away.{given_kept}
-use Rattle.epoch_laws.proofs.Good.{AllGood, IsGood, IsLetterRight, IsOrder, IsRight, epoch_in, took_right}
+use Rattle.epoch_laws.proofs.Good.{AllGood, IsGood, IsLetterRight, IsOrder, IsRight, took_right}
 use Rattle.epoch_laws.proofs.GoodCoordinator.{well_told}
 use Rattle.epoch_laws.proofs.GoodNodes.{good_elsewhere}
 use Rattle.epoch_laws.proofs.GoodTells.{IsWell}
@@ -118,10 +118,6 @@ near_at s past e p r valid good run b v is ver =
     )
 
 -- an order that its node will heed is in the window of the node's versions
-order_in : (s : ScriptData) (past : List Entry) (p e : ℕ) (what : What) (v : Version) → IsGood s past → p < s.nodes → IsOrder s past p e what v
-    → epoch_in s past p ≤ e → is_timely s (node_in s past p) (plain_order what v) ≡ true
-order_in s past p e what v good lt right heeds = grind arith
-
 order_timely : (s : ScriptData) (past : List Entry) (p e : ℕ) (what : What) (v : Version) → IsGood s past → p < s.nodes → IsOrder s past p e what v
     → is_core_timely s (keeping_in s past p).core (Order e what v) ≡ true
 order_timely s past p e what v good lt right = grind arith
@@ -185,9 +181,6 @@ advancing s past laws loses run apt =
     }
 
 -- 5. What is told was told before, or is told in quiet; and an entry that tells something has no act.
-apart_anew : (s : ScriptData) (past : List Entry) (body : Body) → IsApart body → IsGivenAnew s past body
-apart_anew s past body apart = grind arith
-
 away_anew : (s : ScriptData) (past : List Entry) (e : Entry) → e.actor.0 ≢ s.nodes → Sending s past e
     → Each (λ (o : Outgoing). IsGivenAnew s past o.body) e.sent
 away_anew s past e away is = grind (arith, each_map)

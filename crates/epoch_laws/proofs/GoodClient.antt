@@ -38,13 +38,6 @@ ended_by s past e ended p good m lt (inr (v, bd, is)) =
     let told : v.0 ≤ (turns_in s past p).low.0 = took_right s past e (Advanced v) good m bd p lt in
     subst (λ (n : ℕ). n ≤ (turns_in s past p).low.0) (sym is) (max-le (good.heard p lt) told)
 
-same_client : (s : ScriptData) (past : List Entry) (e : Entry) → IsGood s past → client_in s (e ∷ past) ≡ client_in s past
-    → Knows s past e
-same_client s past e good same = record {
-  asked = omega (arith, ap (λ (c : Client). advances_in (take c.next s.rows)) same);
-  heard = λ p lt. omega (arith, good.heard p lt, ap (λ (c : Client). c.ended) same);
-}
-
 told_client : (s : ScriptData) (past : List Entry) (e : Entry) (c : Client) (first : List Outgoing) → IsGood s past
     → MayFollow s past e
     → IsTold s past e c → MadeByClient s past e (submit s c first) → Knows s past e

@@ -12,7 +12,6 @@ use Rattle.tx_trees.specs.ScriptData.{ScriptData}
 use Rattle.tx_trees.specs.Valid.{IsValid}
 use Rattle.world_model.specs.Client.{advances_sent}
 use Rattle.world_model.specs.Counts.{Each}
-use Rattle.world_model.specs.Node.{Node}
 use Rattle.world_model.specs.Restarting.{Restarting}
 use Rattle.world_model.specs.Runs.{IsStepRun, client_in, in_flight, keeping_in, restarting_in}
 use Rattle.world_model.proofs.EachOutstanding.{each_waits}
@@ -21,8 +20,7 @@ use Rattle.strict_laws.specs.Meant.{IsLetterMeant, IsMeant}
 use Rattle.strict_laws.proofs.Meant.{letters_are_meant}
 use Rattle.phase_laws.specs.Given.{greatest_given}
 use Rattle.phase_laws.specs.Phases.{Stage, TurnStage, SweepStage, stage_of}
-use Rattle.phase_laws.proofs.Working.{SentIn}
-use Rattle.epoch_laws.proofs.Aside.{Aside, IsBare, IsSentBy, sends_aside}
+use Rattle.epoch_laws.proofs.Aside.{Aside, IsSentBy, sends_aside}
 use Rattle.epoch_laws.proofs.Good.{AreNumbers, AreRight, AreWanted, IsAnswer, IsAsTold, IsCurrent, IsGood, IsLatest, IsLetterRight, IsOrder, IsRight, took_right, turns_in}
 use Rattle.epoch_laws.proofs.Rising.{Fares}
 
@@ -110,13 +108,6 @@ right_stays s past e from to (Advanced v) left meant right = λ q lt. omega (ari
 right_stays s past e from to _ left meant right = tt
 
 -- What is sent is right.
-bare_right : (s : ScriptData) (past : List Entry) (from to : ℕ) (body : Body) → IsBare body → IsRight s past from to body
-bare_right s past from to body bare = grind arith
-
-tree_right : (s : ScriptData) (past : List Entry) (from to : ℕ) (st : Node) (does body : Body) → SentIn s st does body
-    → IsRight s past from to body
-tree_right s past from to st does body sent = grind arith
-
 -- the client tells how many advancements it asked for, which is as many as nodes were told to turn, at least
 wanted_right : (s : ScriptData) (past : List Entry) (e : Entry) (n : ℕ) → IsGood s past → Remains s past e
     → IsStepRun s (e ∷ past)
@@ -128,13 +119,7 @@ wanted_right s past e n good left run bd =
       covers = λ is phase. omega (arith, good.asked, left.given TurnStage);
     }
 
--- a node tells its numbers, which are the latest
-numbers_right : (s : ScriptData) (past : List Entry) (e : Entry) (p n : ℕ) → IsGood s past → Remains s past e
-    → IsStepRun s (e ∷ past)
-    → p < s.nodes → e.took.body ≡ Ask n → (keeping_in s (e ∷ past) p).core ≡ record (keeping_in s past p).core { epoch = n }
-    → AreNumbers s (e ∷ past) p n (turns_in s past p).update (turns_in s past p).read (turns_in s past p).low
-numbers_right s past e p n good left run lt bd is = grind arith
-
+-- an order was obeyed
 answer_right : (s : ScriptData) (past : List Entry) (e : Entry) (n : ℕ) (what : What) (v : Version) → IsGood s past
     → Remains s past e
     → IsStepRun s (e ∷ past) → e.took.body ≡ Order n what v → IsAnswer s (e ∷ past) n what v

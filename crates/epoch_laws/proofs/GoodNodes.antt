@@ -9,7 +9,6 @@ use Rattle.letter_types.specs.declared.entries.Entry.{Entry}
 use Rattle.letter_types.specs.declared.entries.Letter.{Letter}
 use Rattle.letter_types.specs.declared.entries.LetterId.{LetterId}
 use Rattle.letter_types.specs.declared.entries.Outgoing.{Outgoing}
-use Rattle.node_versions.specs.declared.turns.Turns.{Turns}
 use Rattle.tx_trees.specs.ScriptData.{ScriptData}
 use Rattle.tx_trees.specs.Valid.{IsValid}
 use Rattle.world_model.specs.AllApt.{AllApt}
@@ -17,7 +16,7 @@ use Rattle.world_model.specs.Core.{Core}
 use Rattle.world_model.specs.Counts.{Each}
 use Rattle.world_model.specs.Kept.{outstanding}
 use Rattle.script_parts.specs.Counts.{is_lossy}
-use Rattle.world_model.specs.Restarting.{Restarting, target}
+use Rattle.world_model.specs.Restarting.{Restarting}
 use Rattle.world_model.specs.Runs.{IsStepRun, MayFollow, keeping_in, node_in, restarting_in}
 use Rattle.world_model.specs.declared.restarting.RestartPhase.{RestartPhase}
 use Rattle.world_model.specs.declared.restarting.RestartPhase.TheVariants.{Idle, Recovering, Doing, Counting, Paused}
@@ -105,20 +104,6 @@ level_stays : (phase : RestartPhase) (f n : ℕ) (c d : Core) (orders more : ℕ
     → LevelOf phase f n c.epoch c.node.turns orders → LevelOf phase f n d.epoch d.node.turns more
 level_stays phase f n c d orders more rises same was =
     level_up phase f n c d orders more rises was (omega (arith, was.comes, reached_rises phase c d rises, same))
-
--- where it has obeyed the order of the phase
-target_due : (what : What) (f : ℕ) → f ≤ 100 → (target what f).0 ≡ due (Doing what) f
-target_due what f few = grind arith
-
-reached_by : (what : What) (t : Turns) → reached (Doing what) t ≡ version_of what t
-reached_by what t = grind arith
-
-comes_by : (c : Restarting) (phase : RestartPhase) (what : What) (v : Version) (t : Turns) (more : ℕ) → c.phase ≡ phase
-    → IsCurrent c what v
-    → c.ended ≤ 100 → v.0 ≤ version_of what t → due phase c.ended ≤ reached phase t + more
-comes_by c phase what v t more at current few there =
-    subst (λ (ph : RestartPhase). due ph c.ended ≤ reached ph t + more) (sym current.phase ∙ at)
-    (omega (arith, target_due what c.ended few, reached_by what t, current.version, there))
 
 -- a phase in which the coordinator knows how many have ended, with that coordinator
 record SteadyBy (s : ScriptData) (past : List Entry) (phase : RestartPhase) (c : Restarting) : Type 0 where

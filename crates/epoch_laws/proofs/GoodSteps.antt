@@ -13,7 +13,7 @@ use Rattle.tx_trees.specs.ScriptData.{ScriptData}
 use Rattle.world_model.specs.AllApt.{AllApt}
 use Rattle.world_model.specs.Counts.{Each}
 use Rattle.world_model.specs.Keeping.{KeepingNode}
-use Rattle.world_model.specs.Restarting.{Restarting, is_answer, same_what, target}
+use Rattle.world_model.specs.Restarting.{Restarting, target}
 use Rattle.world_model.specs.Runs.{IsStepRun, MayFollow, restarting_in}
 use Rattle.world_model.specs.declared.restarting.RestartPhase.{RestartPhase}
 use Rattle.world_model.specs.declared.restarting.RestartPhase.TheVariants.{Idle, Recovering, Doing, Counting, Paused}
@@ -128,15 +128,6 @@ tokens_same s past e d m asks =
     omega (arith, flow_of (token d) s past e m, tokens_none d e.actor.0 e.sent (asks_nothing e.sent asks))
 
 -- 2. The phase stays, and more advancements may be wanted.
-same_order : (what : What) → same_what what what ≡ true
-same_order what = grind arith
-
-answer_now : (d : ℕ) (what : What) (v : Version) (c : Restarting) → d ≡ c.epoch → v.0 ≡ (target what c.ended).0 → is_answer d what v what c ≡ true
-answer_now d what v c epoch version = grind arith
-
-doing_is : (a b : What) → Doing a ≡ Doing b → a ≡ b
-doing_is a b is = cc is
-
 -- a letter that changes nothing is no answer to the present order
 left_token : (s : ScriptData) (past : List Entry) (from to : ℕ) (body : Body) (doing : What) → (restarting_in s past).phase ≡ Doing doing
     → IsLeft body (Doing doing) from (restarting_in s past) → TellsAnew body → IsRight s past from to body

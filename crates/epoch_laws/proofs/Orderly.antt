@@ -11,13 +11,13 @@ use Rattle.letter_types.specs.declared.entries.Entry.{Entry}
 use Rattle.letter_types.specs.declared.entries.Letter.{Letter}
 use Rattle.letter_types.specs.Steps.{Out, still}
 use Rattle.tx_trees.specs.ScriptData.{ScriptData}
-use Rattle.world_model.specs.Restarting.{AllTold, Restarting, after_doing, begin_counting, end_counting, enter, forget, in_restart_phase, next_advance, phase_by, with_wanted}
+use Rattle.world_model.specs.Restarting.{Restarting, after_doing, begin_counting, end_counting, enter, forget, in_restart_phase, next_advance, with_wanted}
 use Rattle.world_model.specs.Runs.{restarting_in}
 use Rattle.world_model.specs.Tables.{restarting_table}
 use Rattle.world_model.specs.declared.restarting.RestartPhase.{RestartPhase}
 use Rattle.world_model.specs.declared.restarting.RestartPhase.TheVariants.{Idle, Recovering, Doing, Counting, Paused}
 use Rattle.world_model.proofs.Restarts.{restarting_nodes}
-use Rattle.epoch_laws.proofs.RecoverSteps.{Recovery, next_each, phase_each, recovery}
+use Rattle.epoch_laws.proofs.RecoverSteps.{Recovery, next_each, recovery}
 use Rattle.epoch_laws.proofs.WantSteps.{more_waits}
 use Rattle.epoch_laws.proofs.RestartSteps.{HearsMore, OfClient, OfNode, RestartStep, asked_kept, asks_with, done_kept, restart_step}
 use Rattle.epoch_laws.proofs.RestartSteps.{Acks, Agrees, Ends, Flags, Forgets, Goes, KeepsAsked, KeepsDone, Pauses, Recounts, Recovers, Rests, Resumes, Wants}
@@ -31,11 +31,6 @@ pub record IsOrderly (n : ℕ) (c : Restarting) : Type 0 where
 next_idle : (wanted f : ℕ) → next_advance wanted f ≡ Idle → wanted ≤ f
 next_idle wanted f =
     next_each (λ (p : RestartPhase). p ≡ Idle → wanted ≤ f) wanted f (λ lt is. absurd (cc is)) (λ le is. le)
-
-by_idle : (ts : AllTold) (wanted f : ℕ) → phase_by ts wanted f ≡ Idle → wanted ≤ f
-by_idle ts wanted f =
-    phase_each (λ (p : RestartPhase). p ≡ Idle → wanted ≤ f) ts wanted f (λ a is. absurd (cc is))
-    (λ a b is. absurd (cc is)) (λ a b c is. absurd (cc is)) (λ a b. next_idle wanted f)
 
 -- Steps.
 goes_to : (n : ℕ) (out next : Out Restarting) → out ≡ next → IsOrderly n next.state → IsOrderly n out.state

@@ -1,7 +1,7 @@
 -- While a coordinator that forgets recovers, each node and the client is asked by a letter in flight, or answers by one, or its
 -- answer is kept; and not all are. So some letter is in flight.
 use Rattle.std.proofs.Common.{◌≡◌, ◌≢◌, ◌⊎◌, inl, inr, ℕ, zero, suc, ◌+◌, ◌<◌, ◌≤◌, ◌==◌, ◌&&◌, not, Bool, true, false, List, [], ◌∷◌, length, replicate, refl, sym, ap, subst, ◌∙◌, arith, Option, Some, None}
-use Rattle.std.specs.Prelude.{is_some, nat_lt, slice_get, slice_set}
+use Rattle.std.specs.Prelude.{is_some, slice_get, slice_set}
 use Rattle.std.specs.List.{list_all}
 use Rattle.std.proofs.lemmas.Bool.{and_from, cases_eq}
 use Rattle.std.proofs.Math.Bool.{and-false}
@@ -75,9 +75,6 @@ Awaits s past d = d.phase ≡ Recovering → IsAwaited s past d
 asks_other : (d e a q : ℕ) → a ≢ q → one_if ((d == e) && (a == q)) ≡ 0
 asks_other d e a q ne = grind arith
 
-old_none : (d e a q : ℕ) → d ≢ e → one_if ((d == e) && (a == q)) ≡ 0
-old_none d e a q ne = grind arith
-
 epochless_none : (client : Bool) (e q from to : ℕ) (body : Body) → IsEpochless body → asking client e q from to body ≡ 0
 epochless_none client e q from to body none = grind arith
 
@@ -86,12 +83,6 @@ trees_none client e q from to body of = grind arith
 
 late_none : (client : Bool) (n e q from to : ℕ) (body : Body) → IsOfEpoch n body → n < e → asking client e q from to body ≡ 0
 late_none client n e q from to body of less = grind arith
-
-left_node : (d e from q n : ℕ) → ((d == e) && nat_lt from n) ≡ false → q < n → one_if ((d == e) && (from == q)) ≡ 0
-left_node d e from q n left lt = grind arith
-
-left_client : (d e from q n : ℕ) → ((d == e) && (from == n)) ≡ false → q ≡ n → one_if ((d == e) && (from == q)) ≡ 0
-left_client d e from q n left is = grind arith
 
 -- a letter that changes nothing
 left_none : (client : Bool) (s : ScriptData) (c : Restarting) (q from to : ℕ) (body : Body) → IsLeft body Recovering from c
@@ -222,10 +213,6 @@ told_more (x ∷ ts) (suc from) (suc q) t = told_more ts from q t
 node_told : (ts : AllTold) (d from q : ℕ) (t : Told) → from < length ts
     → one_if ((d == d) && (from == q)) ≤ is_told (slice_get (slice_set ts from (Some t)) q)
 node_told ts d from q t lt = grind (arith, told_there)
-
-heard_more : (o : Option ℕ) → is_heard o ≤ 1
-heard_more None = omega arith
-heard_more (Some k) = omega arith
 
 -- what is kept then covers what was, and the letter
 record Covers (client : Bool) (c d : Restarting) (q from to : ℕ) (body : Body) : Type 0 where

@@ -1,13 +1,9 @@
 -- What of an advancement a coordinator that forgets need not do again, and how much it has done of all.
-use Rattle.std.proofs.Common.{if◌then◌else◌, ◌≡◌, ◌⊎◌, inl, inr, ℕ, ◌+◌, ◌*◌, ◌<◌, ◌≤◌, ◌==◌, ◌&&◌, Bool, true, false, List, refl, ap, arith}
+use Rattle.std.proofs.Common.{if◌then◌else◌, ◌≡◌, ◌⊎◌, inl, inr, ℕ, ◌+◌, ◌*◌, ◌<◌, ◌≤◌, Bool, true, false, List, refl, ap, arith}
 use Rattle.std.specs.List.{list_any}
 use Rattle.std.proofs.Math.Nat.{mul-le-mul_right}
-use Rattle.std.proofs.lemmas.Bool.Decides.{nat_tests}
 use Rattle.tv_base.specs.Outside.{one_more}
-use Rattle.tv_base.specs.declared.numbers.Version.{Version}
-use Rattle.letter_types.specs.declared.bodies.Body.{Body}
 use Rattle.letter_types.specs.declared.bodies.Body.TheVariants.{Ask}
-use Rattle.letter_types.specs.declared.bodies.What.{What}
 use Rattle.letter_types.specs.declared.bodies.What.TheVariants.{Turn as ToTurn, Show as ToShow, Sweep as ToSweep}
 use Rattle.letter_types.specs.declared.entries.Entry.{Entry}
 use Rattle.node_versions.specs.declared.turns.Turns.{Turns}
@@ -25,9 +21,9 @@ use Rattle.world_model.proofs.Every.{each_append, each_map, each_none}
 use Rattle.world_model.proofs.Orders.{of, to_nodes_each}
 use Rattle.world_model.proofs.Sends.{on}
 use Rattle.phase_laws.specs.Given.{greatest_given}
-use Rattle.phase_laws.specs.Phases.{TurnStage, stage_of}
+use Rattle.phase_laws.specs.Phases.{TurnStage}
 use Rattle.epoch_laws.proofs.Floors.{AllAskAnew, AsksAnew, IsFrom, IsRestored}
-use Rattle.epoch_laws.proofs.Good.{IsCurrent, IsGood, IsRight, IsSteady, LevelOf, ended_few, ended_most, least_read, least_update, low_turned, order_to, read_turned, turned_most, turns_in}
+use Rattle.epoch_laws.proofs.Good.{IsGood, IsSteady, LevelOf, ended_few, ended_most, least_read, least_update, low_turned, read_turned, turned_most, turns_in}
 use Rattle.epoch_laws.proofs.Prices.{IsEntered, begun, doing_entered, next_entered, next_orders, ordered, price, to_nodes_price}
 use Rattle.epoch_laws.proofs.RecoverSteps.{phase_each}
 
@@ -108,24 +104,6 @@ resume_pays n ts wanted f shown rest = by shown refl (same_or_more f (least_low 
 
 -- How much it has done.
 -- While nodes turn, they were told so.
--- an order of the present epoch says so
-current_turn : (s : ScriptData) (past : List Entry) (what : What) (v : Version) → (restarting_in s past).ended ≤ 100
-    → (restarting_in s past).phase ≡ Doing ToTurn → IsCurrent (restarting_in s past) what v
-    → v.0 ≤ greatest_given (stage_of what) past
-    → (restarting_in s past).ended + 2 ≤ greatest_given TurnStage past
-current_turn s past what v few at current given = grind arith
-
-apart : (a b : ℕ) (test : Bool) → (a ≡ b → ⊥) → one_if ((a == b) && test) ≡ 0
-apart a b test ne = let no : (a == b) ≡ false = grind (arith, nat_tests) in rw no refl
-
-order_none : (s : ScriptData) (past : List Entry) (q from to : ℕ) (body : Body) → (restarting_in s past).ended ≤ 100
-    → (restarting_in s past).phase ≡ Doing ToTurn → greatest_given TurnStage past < (restarting_in s past).ended + 2
-    → IsRight s past from to body → order_to (restarting_in s past).epoch q from to body ≡ 0
-order_none s past q from to body few at less right = grind arith
-
-less_or : (a b : ℕ) → (b ≤ a) ⊎ (a < b)
-less_or a b = grind arith
-
 turn_given : (s : ScriptData) (past : List Entry) (q : ℕ) → IsGood s past → q < s.nodes → (restarting_in s past).ended ≤ 100
     → (restarting_in s past).phase ≡ Doing ToTurn → IsSteady s past (Doing ToTurn)
     → (restarting_in s past).ended + 2 ≤ greatest_given TurnStage past

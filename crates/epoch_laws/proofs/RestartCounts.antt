@@ -1,6 +1,6 @@
 -- The count of a coordinator that forgets: each of its entries is a step of a count, and the version that it counts is open
 -- where it wasn't given yet.
-use Rattle.std.proofs.Common.{◌≡◌, ℕ, ◌+◌, ◌*◌, ◌^◌, ◌<◌, ◌≤◌, ◌==◌, Bool, true, false, List, [], ◌∷◌, refl, sym, ap, subst, ◌∙◌, Option, Some, arith}
+use Rattle.std.proofs.Common.{◌≡◌, ℕ, ◌+◌, ◌<◌, ◌≤◌, ◌==◌, Bool, true, false, List, [], ◌∷◌, refl, sym, ap, subst, ◌∙◌, Option, Some, arith}
 use Rattle.std.specs.Prelude.{if◌then◌else◌, max, is_some}
 use Rattle.std.specs.List.{list_all}
 use Rattle.tv_base.specs.Outside.{one_more}
@@ -18,7 +18,7 @@ use Rattle.tx_trees.specs.ScriptData.{ScriptData}
 use Rattle.world_model.specs.AllApt.{AllApt}
 use Rattle.world_model.specs.Coordinator.{to_nodes}
 use Rattle.script_parts.specs.Counts.{is_lossy}
-use Rattle.world_model.specs.Restarting.{Restarting, AllTold, after_doing, begin_counting, end_counting, enter, first_number, forget, in_restart_phase, enter_telling, next_advance, orders, phase_by, recover, restarting_row, resume_if, target, version_counted, with_advances, with_told, with_wanted}
+use Rattle.world_model.specs.Restarting.{Restarting, after_doing, begin_counting, end_counting, enter, first_number, forget, in_restart_phase, enter_telling, next_advance, orders, recover, restarting_row, resume_if, target, version_counted, with_advances, with_told, with_wanted}
 use Rattle.world_model.specs.Runs.{IsStepRun, restarting_in}
 use Rattle.world_model.specs.Tables.{restarting_table}
 use Rattle.world_model.specs.declared.restarting.RestartPhase.{RestartPhase}
@@ -37,7 +37,7 @@ use Rattle.phase_laws.proofs.Progress.{restarts}
 use Rattle.phase_laws.proofs.Sending.{AllPlain, IsPlain}
 use Rattle.epoch_laws.proofs.Few.{IsFew, few}
 use Rattle.epoch_laws.proofs.Good.{AllGood, IsGood, IsSteady, ended_few, in_phase}
-use Rattle.epoch_laws.proofs.RecoverSteps.{next_each, phase_each}
+use Rattle.epoch_laws.proofs.RecoverSteps.{next_each}
 use Rattle.epoch_laws.proofs.RestartSteps.{HearsMore, IsLeft, OfClient, OfNode, RestartStep, asked_kept, asks_with, done_kept, restart_step}
 use Rattle.epoch_laws.proofs.RestartSteps.{Acks, Agrees, Ends, Flags, Forgets, Goes, KeepsAsked, KeepsDone, Pauses, Recounts, Recovers, Rests, Resumes, Wants}
 use Rattle.epoch_laws.proofs.RestartSteps.{TakesRequests as TakesAsked}
@@ -74,11 +74,6 @@ counting_is phase reads is = grind arith
 next_none : (wanted f : ℕ) → pace_of (next_advance wanted f) ≡ NoRound
 next_none wanted f = next_each (λ (p : RestartPhase). pace_of p ≡ NoRound) wanted f (λ lt. refl) (λ le. refl)
 
-by_none : (ts : AllTold) (wanted f : ℕ) → pace_of (phase_by ts wanted f) ≡ NoRound
-by_none ts wanted f =
-    phase_each (λ (p : RestartPhase). pace_of p ≡ NoRound) ts wanted f (λ a. refl) (λ a b. refl) (λ a b c. refl)
-    (λ a b. next_none wanted f)
-
 -- no order is a letter of a round
 orders_plain : (phase : RestartPhase) (c : Restarting) → AllPlain (orders phase c)
 orders_plain (Doing what) c = to_nodes_each (λ to b. IsPlain b) c.nodes (Order c.epoch what (target what c.ended)) (λ to lt. tt)
@@ -90,9 +85,6 @@ record IsApart (number : ℕ) (out : Out Restarting) : Type 0 where
   pub none : pace_of out.state.phase ≡ NoRound
   pub same : out.state.count.number ≡ number
   pub plain : AllPlain out.sent
-
-rests_apart : (c : Restarting) → pace_of c.phase ≡ NoRound → IsApart c.count.number (still c)
-rests_apart c none = record { none = none; same = refl; plain = tt }
 
 enter_apart : (phase : RestartPhase) (c : Restarting) → pace_of phase ≡ NoRound → IsApart c.count.number (enter phase c)
 enter_apart phase c none = record { none = none; same = refl; plain = orders_plain phase c }
@@ -136,11 +128,6 @@ record HasRoom (c : Restarting) : Type 0 where
   pub begins : c.count.number < one_more c.count.number
   pub forgets : c.count.number ≤ first_number (one_more c.epoch)
 
-room_by : (k e : ℕ) → e ≤ 100 → k < (e + 1) * 2 ^ 32 → (k < one_more k) × (k ≤ first_number (one_more e))
-room_by k e small few =
-    let next : one_more e ≡ e + 1 = one_more_is e (omega (arith, small)) in
-    (omega (arith, few, small), omega (arith, few, small, next))
-
 has_room : (s : ScriptData) (past : List Entry) → IsFew s past → HasRoom (restarting_in s past)
 has_room s past few = grind arith
 
@@ -179,14 +166,6 @@ rests_step n c d from body out (Paused reads) at ok same is =
 rests_step n c d from body out Idle at ok same is = rests_none n c d from body out (ap pace_of at) same is
 rests_step n c d from body out Recovering at ok same is = rests_none n c d from body out (ap pace_of at) same is
 rests_step n c d from body out (Doing what) at ok same is = rests_none n c d from body out (ap pace_of at) same is
-
-left_counting : (body : Body) (reads : Bool) (from : ℕ) (c : Restarting) → IsLeft body (Counting reads) from c
-    → NoNudge body × Refused body from c.count.current
-left_counting body reads from c left = grind arith
-
-left_paused : (body : Body) (reads : Bool) (from : ℕ) (c : Restarting) → IsLeft body (Paused reads) from c → NoNudge body
-left_paused Nudge reads from c left = absurd left
-left_paused _ reads from c left = tt
 
 left_passes : (body : Body) (phase : RestartPhase) (from : ℕ) (c : Restarting) → IsLeft body phase from c
     → Passes body phase from c

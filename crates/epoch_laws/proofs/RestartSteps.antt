@@ -13,7 +13,7 @@ use Rattle.letter_types.specs.declared.bodies.What.{What}
 use Rattle.letter_types.specs.declared.entries.Outgoing.{Outgoing}
 use Rattle.letter_types.specs.Steps.{Out, still}
 use Rattle.world_model.specs.Coordinator.{to_nodes, with_asked, with_done}
-use Rattle.world_model.specs.Restarting.{Restarting, after_doing, begin_counting, by_count, by_counted, end_counting, enter, forget, in_restart_phase, is_answer, next_advance, recover, restart_row_of, restarting_row, same_what, target, with_told, with_wanted}
+use Rattle.world_model.specs.Restarting.{Restarting, after_doing, begin_counting, by_count, by_counted, end_counting, enter, forget, in_restart_phase, is_answer, next_advance, recover, restart_row_of, restarting_row, target, with_told, with_wanted}
 use Rattle.world_model.specs.declared.restarting.RestartPhase.{RestartPhase}
 use Rattle.world_model.specs.declared.restarting.RestartPhase.TheVariants.{Idle, Recovering, Doing, Counting, Paused}
 
@@ -87,12 +87,6 @@ pub data RestartStep (c : Restarting) (from : ℕ) (body : Body) (out : Out Rest
   Pauses : (reads : Bool) (v : Version) (k : ℕ) (row : List ℕ) → TakesRequests c from body reads v k row
       → verdict_of (with_asked from row c.count.current) ≡ Some false → c.count.flag ≡ false
       → out ≡ still (in_restart_phase (Paused reads) (asked_kept from row c)) → RestartStep c from body out
-
-same_order : (a b : What) → same_what a b ≡ true → a ≡ b
-same_order a b is = grind arith
-
-same_version : (v w : Version) → v.0 ≡ w.0 → v ≡ w
-same_version v w is = ap (λ (n : ℕ). record { 0 = n }) is
 
 -- an answer to the present order
 answer_is : (e : ℕ) (what : What) (v : Version) (doing : What) (c : Restarting) → is_answer e what v doing c ≡ true

@@ -35,9 +35,6 @@ most_rises a w v le = grind arith
 pub one_most : (a : ℕ) → one_if (nat_le a a) ≡ 1
 one_most a = grind arith
 
-pub some_most : (a w : ℕ) → 1 ≤ one_if (nat_le a w) → a ≤ w
-some_most a w some = grind arith
-
 -- It wants no fewer, and as many as it is asked for, unless it forgets.
 pub record WantsMore (a : ℕ) (c : Restarting) (body : Body) (d : Restarting) : Type 0 where
   pub letter : asks_for a body ≤ one_if (nat_le a d.wanted)

@@ -8,7 +8,7 @@ use Rattle.std.proofs.lemmas.Bool.{cases_eq}
 use Rattle.std.proofs.lemmas.Bool.Decides.{nat_tests}
 use Rattle.tv_base.specs.Outside.{one_more}
 use Rattle.letter_types.specs.declared.bodies.Body.{Body}
-use Rattle.letter_types.specs.declared.bodies.Body.TheVariants.{AdvanceNo, Wanted}
+use Rattle.letter_types.specs.declared.bodies.Body.TheVariants.{AdvanceNo}
 use Rattle.letter_types.specs.declared.entries.Entry.{Entry}
 use Rattle.letter_types.specs.declared.entries.Letter.{Letter}
 use Rattle.letter_types.specs.declared.entries.LetterId.{LetterId}
@@ -22,9 +22,8 @@ use Rattle.tx_trees.proofs.Rebuilding.{advances_in-append}
 use Rattle.world_model.specs.AllApt.{AllApt}
 use Rattle.world_model.specs.Client.{Client, advances_sent, rows_letters, submit, submitted}
 use Rattle.world_model.specs.Counts.{Each, one_if, tally}
-use Rattle.world_model.specs.Node.{Node}
 use Rattle.world_model.specs.Restarting.{Restarting, forget, restarting_row, with_wanted}
-use Rattle.world_model.specs.Runs.{IsStepRun, MayFollow, client_in, in_flight, restarting_in}
+use Rattle.world_model.specs.Runs.{IsStepRun, MayFollow, in_flight, restarting_in}
 use Rattle.world_model.specs.declared.restarting.RestartPhase.TheVariants.{Recovering}
 use Rattle.world_model.proofs.Bags.{tally-append}
 use Rattle.world_model.proofs.Every.{each_map, each_step, each_taken}
@@ -40,8 +39,7 @@ use Rattle.phase_laws.specs.Phases.{count_in_flight}
 use Rattle.phase_laws.proofs.Lawful.{IsTreeLawful}
 use Rattle.phase_laws.proofs.Outcomes.{one_more_is}
 use Rattle.phase_laws.proofs.Progress.{MadeByRestarting, course, restarts}
-use Rattle.phase_laws.proofs.Working.{SentIn}
-use Rattle.epoch_laws.proofs.Aside.{Aside, IsBare, IsSentBy, IsTold, aside, sends_aside}
+use Rattle.epoch_laws.proofs.Aside.{Aside, IsSentBy, IsTold, aside, sends_aside}
 use Rattle.epoch_laws.proofs.AtCoordinator.{asked_stays}
 use Rattle.epoch_laws.proofs.Away.{restarting_kept}
 use Rattle.epoch_laws.proofs.Few.{IsFew, few}
@@ -118,10 +116,6 @@ submits_asks s past e c first loses told made = by (advances_in rest) refl where
         last_asks s (advances_sent s c) a rest loses after (omega (arith, more)),
       ))
 
-same_asked : (s : ScriptData) (past : List Entry) (e : Entry) → client_in s (e ∷ past) ≡ client_in s past
-    → asked_for s (e ∷ past) ≡ asked_for s past
-same_asked s past e same = ap (λ (c : Client). advances_in (take c.next s.rows)) same
-
 asks_more : (s : ScriptData) (past : List Entry) (e : Entry) → is_lossy s ≡ true → Aside s past e
     → (asked_for s (e ∷ past) ≡ asked_for s past) ⊎ (1 ≤ tally (on (asks_for (asked_for s (e ∷ past)))) e.sent)
 asks_more s past e loses is = grind (arith, submits_asks)
@@ -129,14 +123,6 @@ asks_more s past e loses is = grind (arith, submits_asks)
 -- 2. Entries of the client and of nodes: none takes a letter that asks for advancements.
 asks_away : (s : ScriptData) (a from to : ℕ) (body : Body) → IsMeant s from to body → to ≢ s.nodes → asks_for a body ≡ 0
 asks_away s a from to body meant away = grind arith
-
-bare_covers : (e a : ℕ) (body : Body) → IsBare body → Covers e a body
-bare_covers e a (Wanted d k) bare = absurd bare
-bare_covers e a _ bare = tt
-
-tree_covers : (e a : ℕ) (s : ScriptData) (st : Node) (does body : Body) → SentIn s st does body → Covers e a body
-tree_covers e a s st does (Wanted d k) sent = absurd sent
-tree_covers e a s st does _ sent = tt
 
 sent_covers : (s : ScriptData) (past : List Entry) (e : Entry) (epoch : ℕ) (body : Body) → IsSentBy s past e body
     → Covers epoch (asked_for s past) body
