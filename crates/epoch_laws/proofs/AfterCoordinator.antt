@@ -162,7 +162,8 @@ silent_now s past e laws run apt good new v lt = by (cases_lt v (greatest_given 
 of_no_tree : OfCoordinator (λ (body : Body). tree_version body ≡ 0)
 of_no_tree = grind arith
 
-coordinated : (s : ScriptData) (past : List Entry) (e : Entry) → e.actor.0 ≡ s.nodes → Moves s past e → IsCoordinated s e
+coordinated : (s : ScriptData) (past : List Entry) (e : Entry) → e.actor.0 ≡ s.nodes → Moves s past e
+    → IsCoordinated s e
 coordinated s past e at is = grind (arith, of_forgetting, of_remembering)
 
 trees_now : (s : ScriptData) (past : List Entry) (e : Entry) → MayFollow s past e → e.actor.0 ≡ s.nodes → IsGood s past

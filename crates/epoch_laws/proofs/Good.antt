@@ -205,7 +205,7 @@ pub in_phase : (s : ScriptData) (past : List Entry) (phase : RestartPhase) → I
     → (restarting_in s past).phase ≡ phase → IsInPhase s past phase
 in_phase s past phase good at = subst (λ (p : RestartPhase). IsInPhase s past p) at good.phased
 
--- in it, it knows how many advancements have ended
+-- a phase in which it knows how many advancements have ended
 abbrev pub Knows : RestartPhase → Type 0
 Knows phase = phase ≡ Recovering → ⊥
 

@@ -122,7 +122,8 @@ goes_idle s past e w m none at more =
 pub well_goes : (s : ScriptData) (past : List Entry) (e : Entry) (w : ℕ)
     → IsMove s past e (enter (next_advance w (restarting_in s past).ended) (record (restarting_in s past) { wanted = w })).state
     → e.sent ≡ (enter (next_advance w (restarting_in s past).ended) (record (restarting_in s past) { wanted = w })).sent
-    → (restarting_in s past).phase ≡ Idle → (restarting_in s past).wanted ≤ w → w ≤ asked_for s past → IsFew s past → IsWell s past e
+    → (restarting_in s past).phase ≡ Idle → (restarting_in s past).wanted ≤ w → w ≤ asked_for s past → IsFew s past
+    → IsWell s past e
 well_goes s past e w m sent at more asked few =
     let c = record (restarting_in s past) { wanted = w } in
     next_each (λ (p : RestartPhase). IsMove s past e (enter p c).state → e.sent ≡ (enter p c).sent → IsWell s past e) w c.ended
@@ -257,8 +258,9 @@ ends_idle s past e m last is at =
     (steady_at s past e x Idle m (λ q lq. level q (going (order_to c.epoch q) s (e ∷ past)) lq) tt
     (up_still past e f c.wanted c.wanted still (omega arith) (subst (λ (n : ℕ). IsUpTo past n c.wanted) (sym next) (up_next past c.ended c.wanted was.up_to)))))
 
-pub well_ends : (s : ScriptData) (past : List Entry) (e : Entry) → IsMove s past e (after_doing ToSweep (restarting_in s past)).state
-    → IsLast s past e → e.sent ≡ (after_doing ToSweep (restarting_in s past)).sent
+pub well_ends : (s : ScriptData) (past : List Entry) (e : Entry)
+    → IsMove s past e (after_doing ToSweep (restarting_in s past)).state → IsLast s past e
+    → e.sent ≡ (after_doing ToSweep (restarting_in s past)).sent
     → (restarting_in s past).phase ≡ Doing ToSweep → IsFew s past → IsWell s past e
 well_ends s past e m last is at few =
     let c = restarting_in s past in

@@ -194,7 +194,7 @@ rests_by s past e d f w m heard found at is =
     (idle_found s past f q (going (order_to c.epoch q) s (e ∷ past)) m.good lq (found.epoch q lq) (found.low q lq)))
     tt (up_still past e f w w still (omega arith) found.up_to)))
 
--- whichever comes
+-- it goes on in this phase, whichever comes
 abbrev GoesOnIn : ScriptData → List Entry → Entry → Restarting → ℕ → ℕ → RestartPhase → Type 0
 GoesOnIn s past e d f w phase = IsMove s past e (in_restart_phase phase (with_advances w f d))
     → e.sent ≡ to_client (Advanced (version f)) d ∷ orders phase (with_advances w f d) → IsWell s past e
