@@ -1,8 +1,8 @@
 -- What is left to show of an entry of the coordinator, once its letters are as they should be.
-use Rattle.std.proofs.Common.{◌≡◌, ◌⊎◌, inl, inr, ℕ, ◌+◌, ◌<◌, ◌≤◌, List, ◌∷◌, refl, ap, arith}
+use Rattle.std.proofs.Common.{◌≡◌, ◌⊎◌, inl, inr, ℕ, ◌+◌, ◌<◌, ◌≤◌, List, ◌∷◌, ap, arith}
 use Rattle.std.proofs.lemmas.Bool.{cases_lt}
 use Rattle.letter_types.specs.declared.bodies.Body.{Body}
-use Rattle.letter_types.specs.declared.bodies.Body.TheVariants.{Go, Advanced, Ask, AskAsked, AskDone, Numbers, Obeyed, Order, Show, Sweep, Turn}
+use Rattle.letter_types.specs.declared.bodies.Body.TheVariants.{Go, Obeyed, Order, Show, Sweep, Turn}
 use Rattle.letter_types.specs.declared.entries.Entry.{Entry}
 use Rattle.letter_types.specs.declared.entries.Letter.{Letter}
 use Rattle.letter_types.specs.declared.entries.LetterId.{LetterId}
@@ -16,6 +16,8 @@ use Rattle.world_model.specs.Counts.{Each, tally}
 use Rattle.world_model.specs.Keeping.{KeepingNode}
 use Rattle.world_model.specs.Kept.{outstanding}
 use Rattle.world_model.specs.Runs.{IsStepRun, MayFollow, client_in, in_flight, restarting_in}
+use Rattle.world_model.specs.Runs.{Moves}
+use Rattle.world_model.proofs.Coordination.{IsCoordinated, OfCoordinator, coordinated_each, of_forgetting, of_remembering}
 use Rattle.world_model.proofs.EachOutstanding.{each_outstanding, each_waits}
 use Rattle.world_model.proofs.Every.{each_both, each_drop, each_map, each_none}
 use Rattle.strict_laws.specs.Meant.{IsLetterMeant, IsMeant}
@@ -30,50 +32,44 @@ use Rattle.phase_laws.proofs.Lawful.{IsTreeLawful}
 use Rattle.phase_laws.proofs.Silence.{Closed, silent_stays}
 use Rattle.phase_laws.proofs.Waves.{going, leaving}
 use Rattle.epoch_laws.proofs.AtCoordinator.{asked_stays, client_stays, each_after, held_at, left_of, none_left}
-use Rattle.epoch_laws.proofs.Good.{IsGood, IsInPhase, IsRight, order_to, token, turns_in}
+use Rattle.epoch_laws.proofs.Good.{AreRight, IsGood, IsInPhase, IsLetterRight, IsRight, order_to, token, turns_in}
 use Rattle.epoch_laws.proofs.RightAfter.{IsForgetting, IsGivenStill, IsOfNode, IsSteadily, IsTelling, right_forgets, right_kept, right_told}
 
 -- Numbers come from nodes.
 of_node : (s : ScriptData) (from to : ℕ) (body : Body) → IsMeant s from to body → IsOfNode s from body
-of_node s from to (Numbers e u r l) meant = meant.0.0
-of_node s from to Go meant = tt
-of_node s from to _ meant = tt
+of_node s from to body meant = grind arith
 
 -- The letters that are left were right, and come from where they should.
-abbrev pub WasRight : ScriptData → List Entry → Letter → Type 0
-WasRight s past l = IsOfNode s l.from.0 l.body × IsRight s past l.from.0 l.to.0 l.body
+abbrev WasRight : ScriptData → List Entry → Letter → Type 0
+WasRight s past l = IsOfNode s l.from.0 l.body × IsLetterRight s past l
 
-pub were_right : (s : ScriptData) (past : List Entry) (e : Entry) → IsValid s → IsStepRun s past → IsGood s past
+were_right : (s : ScriptData) (past : List Entry) (e : Entry) → IsValid s → IsStepRun s past → IsGood s past
     → Each (WasRight s past) (left_of s past e)
 were_right s past e valid run good =
     let P = λ (l : Letter). IsOfNode s l.from.0 l.body in
-    let Q = λ (l : Letter). IsRight s past l.from.0 l.to.0 l.body in
     each_drop (WasRight s past) e.took.id (in_flight s past)
-    (each_both P Q (in_flight s past)
+    (each_both P (IsLetterRight s past) (in_flight s past)
     (each_map (IsLetterMeant s) P (in_flight s past) (λ l meant. of_node s l.from.0 l.to.0 l.body meant)
     (each_waits (IsLetterMeant s) s past (letters_are_meant s past valid run))) good.letters)
 
 -- what is sent is right
-abbrev pub AreSentRight : ScriptData → List Entry → Entry → Type 0
+abbrev AreSentRight : ScriptData → List Entry → Entry → Type 0
 AreSentRight s past e = Each (λ (o : Outgoing). (i : LetterId) → IsRight s (e ∷ past) e.actor.0 o.to.0 o.body) e.sent
 
-abbrev pub AreRight : ScriptData → List Entry → Type 0
-AreRight s past = Each (λ (l : Letter). IsRight s past l.from.0 l.to.0 l.body) (in_flight s past)
-
-pub letters_kept : (s : ScriptData) (past : List Entry) (e : Entry) → IsValid s → IsStepRun s past → IsGood s past → IsSteadily s past e
-    → AreSentRight s past e → AreRight s (e ∷ past)
+pub letters_kept : (s : ScriptData) (past : List Entry) (e : Entry) → IsValid s → IsStepRun s past → IsGood s past
+    → IsSteadily s past e → AreSentRight s past e → AreRight s (e ∷ past)
 letters_kept s past e valid run good steadily sent =
-    let Q = λ (l : Letter). IsRight s (e ∷ past) l.from.0 l.to.0 l.body in
-    each_after Q s past e
-    (each_map (WasRight s past) Q (left_of s past e) (λ l was. right_kept s past e l.from.0 l.to.0 l.body steadily was.0 was.1)
+    each_after (IsLetterRight s (e ∷ past)) s past e
+    (each_map (WasRight s past) (IsLetterRight s (e ∷ past)) (left_of s past e)
+    (λ l was. right_kept s past e l.from.0 l.to.0 l.body steadily was.0 was.1)
     (were_right s past e valid run good)) sent
 
-pub letters_forgotten : (s : ScriptData) (past : List Entry) (e : Entry) → IsValid s → IsStepRun s past → IsGood s past → IsForgetting s past e
-    → AreSentRight s past e → AreRight s (e ∷ past)
+pub letters_forgotten : (s : ScriptData) (past : List Entry) (e : Entry) → IsValid s → IsStepRun s past → IsGood s past
+    → IsForgetting s past e → AreSentRight s past e → AreRight s (e ∷ past)
 letters_forgotten s past e valid run good forgets sent =
-    let Q = λ (l : Letter). IsRight s (e ∷ past) l.from.0 l.to.0 l.body in
-    each_after Q s past e
-    (each_map (WasRight s past) Q (left_of s past e) (λ l was. right_forgets s past e l.from.0 l.to.0 l.body forgets was.0 was.1)
+    each_after (IsLetterRight s (e ∷ past)) s past e
+    (each_map (WasRight s past) (IsLetterRight s (e ∷ past)) (left_of s past e)
+    (λ l was. right_forgets s past e l.from.0 l.to.0 l.body forgets was.0 was.1)
     (were_right s past e valid run good)) sent
 
 -- the letter that is taken is the last of its epoch, or there is none
@@ -81,15 +77,15 @@ abbrev pub IsLast : ScriptData → List Entry → Entry → Type 0
 IsLast s past e =
     going (token (restarting_in s past).epoch) s past ≡ token (restarting_in s past).epoch e.took.from.0 e.took.to.0 e.took.body
 
-pub letters_told : (s : ScriptData) (past : List Entry) (e : Entry) → IsValid s → IsStepRun s past → MayFollow s past e → IsGood s past
-    → IsTelling s past e → IsLast s past e → AreSentRight s past e → AreRight s (e ∷ past)
+pub letters_told : (s : ScriptData) (past : List Entry) (e : Entry) → IsValid s → IsStepRun s past → MayFollow s past e
+    → IsGood s past → IsTelling s past e → IsLast s past e → AreSentRight s past e → AreRight s (e ∷ past)
 letters_told s past e valid run m good telling last sent =
     let T = λ (l : Letter). token (restarting_in s past).epoch l.from.0 l.to.0 l.body ≡ 0 in
-    let Q = λ (l : Letter). IsRight s (e ∷ past) l.from.0 l.to.0 l.body in
-    each_after Q s past e
-    (each_map (λ (l : Letter). WasRight s past l × T l) Q (left_of s past e)
+    each_after (IsLetterRight s (e ∷ past)) s past e
+    (each_map (λ (l : Letter). WasRight s past l × T l) (IsLetterRight s (e ∷ past)) (left_of s past e)
     (λ l was. right_told s past e l.from.0 l.to.0 l.body telling was.0.0 (was.0.1, was.1))
-    (each_both (WasRight s past) T (left_of s past e) (were_right s past e valid run good) (none_left s past e m last))) sent
+    (each_both (WasRight s past) T (left_of s past e) (were_right s past e valid run good) (none_left s past e m last)))
+    sent
 
 -- Letters that order nothing.
 abbrev pub OrdersNothing : Body → Type 0
@@ -105,17 +101,7 @@ abbrev pub OrderNothing : List Outgoing → Type 0
 OrderNothing os = Each (λ (o : Outgoing). OrdersNothing o.body) os
 
 told_nothing : (g : Stage) (body : Body) → OrdersNothing body → version_told g body ≡ 0
-told_nothing g (Turn v) none = absurd none
-told_nothing g (Show v) none = absurd none
-told_nothing g (Sweep v) none = absurd none
-told_nothing g (Order e what v) none = absurd none
-told_nothing g (Obeyed e what v) none = absurd none
-told_nothing TurnStage Go none = refl
-told_nothing ShowStage Go none = refl
-told_nothing SweepStage Go none = refl
-told_nothing TurnStage _ none = refl
-told_nothing ShowStage _ none = refl
-told_nothing SweepStage _ none = refl
+told_nothing g body none = grind arith
 
 pub given_still : (past : List Entry) (e : Entry) → OrderNothing e.sent → IsGivenStill past e
 given_still past e none =
@@ -123,10 +109,7 @@ given_still past e none =
     (each_map (λ (o : Outgoing). OrdersNothing o.body) (λ (o : Outgoing). version_told g o.body ≡ 0) e.sent (λ o is. told_nothing g o.body is) none)
 
 no_token : (e from to : ℕ) (body : Body) → OrdersNothing body → token e from to body ≡ 0
-no_token e from to (Order d what v) none = absurd none
-no_token e from to (Obeyed d what v) none = absurd none
-no_token e from to Go none = refl
-no_token e from to _ none = refl
+no_token e from to body none = grind arith
 
 pub tokens_none : (e a : ℕ) (os : List Outgoing) → OrderNothing os → tally (leaving (token e) a) os ≡ 0
 tokens_none e a os none =
@@ -134,10 +117,7 @@ tokens_none e a os none =
     (each_map (λ (o : Outgoing). OrdersNothing o.body) (λ (o : Outgoing). leaving (token e) a o ≡ 0) os (λ o is. no_token e a o.to.0 o.body is) none)
 
 no_order : (e q from to : ℕ) (body : Body) → OrdersNothing body → order_to e q from to body ≡ 0
-no_order e q from to (Order d what v) none = absurd none
-no_order e q from to (Obeyed d what v) none = absurd none
-no_order e q from to Go none = refl
-no_order e q from to _ none = refl
+no_order e q from to body none = grind arith
 
 pub orders_none : (e q a : ℕ) (os : List Outgoing) → OrderNothing os → tally (leaving (order_to e q) a) os ≡ 0
 orders_none e q a os none =
@@ -154,31 +134,15 @@ pub record IsFit (past : List Entry) (e : Entry) (turns : Turns) : Type 0 where
   pub reached : greatest_given SweepStage (e ∷ past) ≤ turns.read.0
 
 within_now : (past : List Entry) (e : Entry) (turns : Turns) → IsWithin past turns → IsFit past e turns → IsWithin (e ∷ past) turns
-within_now past e turns was fit = record {
-  turned_low = fit.turned;
-  showed_low = fit.showed;
-  swept_low = fit.swept;
-  showed_update = fit.above;
-  swept_read = fit.reached;
-  update_turned = omega (arith, was.update_turned, given_rises TurnStage e past);
-  read_showed = omega (arith, was.read_showed, given_rises ShowStage e past);
-  low_swept = omega (arith, was.low_swept, given_rises SweepStage e past);
-}
+within_now past e turns was fit =
+    omega (arith, was, fit, given_rises TurnStage e past, given_rises ShowStage e past, given_rises SweepStage e past)
 
 pub fits_still : (past : List Entry) (e : Entry) (turns : Turns) → IsGivenStill past e → IsWithin past turns → IsFit past e turns
-fits_still past e turns still was = record {
-  turned = omega (arith, still TurnStage, was.turned_low);
-  showed = omega (arith, still ShowStage, was.showed_low);
-  swept = omega (arith, still SweepStage, was.swept_low);
-  above = omega (arith, still ShowStage, was.showed_update);
-  reached = omega (arith, still SweepStage, was.swept_read);
-}
+fits_still past e turns still was = omega (arith, was, still TurnStage, still ShowStage, still SweepStage)
 
 -- Below what was swept to, nothing is born.
 pub closed_below : (s : ScriptData) (past : List Entry) (v : ℕ) → IsGood s past → v < greatest_given SweepStage past → Closed s past v
-closed_below s past v good lt = λ p lp.
-    let w = good.within p lp in
-    ((λ eq. omega (arith, eq, lt, w.swept_read, w.read_showed, w.showed_update)), (λ eq. omega (arith, eq, lt, w.swept_read)))
+closed_below s past v good lt = grind arith
 
 -- a version that is newly swept to has left one that is silent, in which nothing is born
 pub record IsNewlySilent (s : ScriptData) (past : List Entry) (v : ℕ) : Type 0 where
@@ -194,50 +158,39 @@ silent_now s past e laws run apt good new v lt = by (cases_lt v (greatest_given 
   by (inr from) = let n = new v from lt in silent_stays s past e v laws run apt n.silent n.closed
 
 -- So all is as it should be.
--- a letter that the coordinator sends
-abbrev pub IsOfCoordinator : Body → Type 0
-IsOfCoordinator (AskDone v k) = Unit {0}
-IsOfCoordinator (AskAsked v k) = Unit {0}
-IsOfCoordinator (Ask e) = Unit {0}
-IsOfCoordinator (Order e what v) = Unit {0}
-IsOfCoordinator (Advanced v) = Unit {0}
-IsOfCoordinator Go = ⊥
-IsOfCoordinator _ = ⊥
+-- no letter that the coordinator sends is one of a tree
+of_no_tree : OfCoordinator (λ (body : Body). tree_version body ≡ 0)
+of_no_tree = grind arith
 
-no_tree : (body : Body) → IsOfCoordinator body → tree_version body ≡ 0
-no_tree (AskDone v k) is = refl
-no_tree (AskAsked v k) is = refl
-no_tree (Ask e) is = refl
-no_tree (Order e what v) is = refl
-no_tree (Advanced v) is = refl
-no_tree Go is = absurd is
-no_tree _ is = absurd is
+coordinated : (s : ScriptData) (past : List Entry) (e : Entry) → e.actor.0 ≡ s.nodes → Moves s past e
+    → IsCoordinated s e
+coordinated s past e at is = grind (arith, of_forgetting, of_remembering)
 
-trees_now : (s : ScriptData) (past : List Entry) (e : Entry) → MayFollow s past e → IsGood s past → Each (λ (o : Outgoing). IsOfCoordinator o.body) e.sent
+trees_now : (s : ScriptData) (past : List Entry) (e : Entry) → MayFollow s past e → e.actor.0 ≡ s.nodes → IsGood s past
     → Each (λ (l : Letter). tree_version l.body ≤ greatest_given TurnStage (e ∷ past)) (outstanding s (e ∷ past))
-trees_now s past e m good sent =
+trees_now s past e m at good =
     each_outstanding (λ (l : Letter). tree_version l.body ≤ greatest_given TurnStage (e ∷ past)) s past e m
     (each_map (λ (l : Letter). tree_version l.body ≤ greatest_given TurnStage past)
     (λ (l : Letter). tree_version l.body ≤ greatest_given TurnStage (e ∷ past)) (outstanding s past)
     (λ l le. omega (arith, le, given_rises TurnStage e past)) good.trees)
-    (each_map (λ (o : Outgoing). IsOfCoordinator o.body)
+    (each_map (λ (o : Outgoing). tree_version o.body ≡ 0)
     (λ (o : Outgoing). (i : LetterId) → tree_version o.body ≤ greatest_given TurnStage (e ∷ past)) e.sent
-    (λ o is i. omega (arith, no_tree o.body is)) sent)
+    (λ o none i. omega (arith, none))
+    (coordinated_each (λ (body : Body). tree_version body ≡ 0) s e of_no_tree (coordinated s past e at m.moves)))
 
 pub good_now : (s : ScriptData) (past : List Entry) (e : Entry) → IsTreeLawful s → IsStepRun s (e ∷ past) → AllApt s (e ∷ past)
     → e.actor.0 ≡ s.nodes → IsGood s past → (restarting_in s past).epoch ≤ (restarting_in s (e ∷ past)).epoch
-    → Each (λ (o : Outgoing). IsOfCoordinator o.body) e.sent → AreRight s (e ∷ past)
-    → ((q : ℕ) → q < s.nodes → IsFit past e (turns_in s past q))
+    → AreRight s (e ∷ past) → ((q : ℕ) → q < s.nodes → IsFit past e (turns_in s past q))
     → ((v : ℕ) → greatest_given SweepStage past ≤ v → v < greatest_given SweepStage (e ∷ past) → IsNewlySilent s past v)
     → greatest_given TurnStage (e ∷ past) ≤ asked_for s past + 1
     → IsInPhase s (e ∷ past) (restarting_in s (e ∷ past)).phase → IsGood s (e ∷ past)
-good_now s past e laws run apt at good later sent letters fit new asked phased = record {
+good_now s past e laws run apt at good later letters fit new asked phased = record {
   epochs = λ p lt. held_at (λ (n : KeepingNode). n.core.epoch ≤ (restarting_in s (e ∷ past)).epoch) s past e p at lt
       (omega (arith, good.epochs p lt, later));
   within = λ p lt. held_at (λ (n : KeepingNode). IsWithin (e ∷ past) n.core.node.turns) s past e p at lt
       (within_now past e (turns_in s past p) (good.within p lt) (fit p lt));
   silent = silent_now s past e laws run apt good new;
-  trees = trees_now s past e run.0 good sent;
+  trees = trees_now s past e run.0 at good;
   letters = letters;
   phased = phased;
   asked = omega (arith, asked, asked_stays s past e at);

@@ -124,10 +124,11 @@ order_aside s past e p out more valid loses run at lt (TellsAsked v k bd is) sta
     counts s past e p out (AskAsked v k) more at lt bd tt (ap (λ (o : Out Node). o.state) is)
     (subst (λ (o : Out Node). AreBare o.sent) (sym is) (tt, tt)) state sent woken
 
--- each entry that isn't the coordinator's
+-- what the client has heard then
 pub end_is : (s : ScriptData) (v : Version) (c : Client) → is_lossy s ≡ true → (with_end s v c).ended ≡ max c.ended v.0
 end_is s v c loses = rw loses refl
 
+-- each entry that isn't the coordinator's
 pub aside : (s : ScriptData) (past : List Entry) (e : Entry) → IsValid s → is_lossy s ≡ true → IsStepRun s (e ∷ past)
     → e.actor.0 ≢ s.nodes
     → Course s past e → Aside s past e

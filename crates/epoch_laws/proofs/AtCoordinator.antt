@@ -1,7 +1,6 @@
 -- An entry of the coordinator leaves nodes and the client, and letters that it doesn't take.
-use Rattle.std.proofs.Common.{◌≡◌, ◌≢◌, ◌⊎◌, inl, inr, ℕ, zero, suc, ◌+◌, ◌<◌, ◌≤◌, ◌==◌, ◌&&◌, Bool, true, false, List, [], ◌∷◌, refl, sym, ap, subst, ◌∙◌, arith}
+use Rattle.std.proofs.Common.{◌≡◌, ◌⊎◌, inl, inr, ℕ, zero, suc, ◌+◌, ◌<◌, ◌≤◌, List, [], ◌∷◌, refl, sym, ap, subst, ◌∙◌, arith}
 use Rattle.std.specs.Prelude.{take}
-use Rattle.std.proofs.lemmas.Bool.Decides.{nat_tests}
 use Rattle.letter_types.specs.Letters.{drop_id, letters_of}
 use Rattle.letter_types.specs.declared.bodies.Body.{Body}
 use Rattle.letter_types.specs.declared.bodies.Body.TheVariants.{Go, Obeyed, Order}
@@ -18,13 +17,13 @@ use Rattle.world_model.specs.Coordinator.{to_nodes}
 use Rattle.world_model.specs.Counts.{Each, tally}
 use Rattle.world_model.specs.Keeping.{KeepingNode}
 use Rattle.world_model.specs.Runs.{MayFollow, client_in, in_flight, keeping_in, restarting_in}
-use Rattle.world_model.proofs.Bags.{tally-append, tally-drop, one_if_and, one_if_both, one_if_other, one_if_same, tally_most}
+use Rattle.world_model.proofs.Bags.{tally-append, tally-drop, one_if_both, one_if_other, one_if_same}
 use Rattle.world_model.proofs.Every.{each_append, each_map, each_none, each_sealed, each_zero}
 use Rattle.world_model.proofs.Flows.{client_kept}
 use Rattle.world_model.proofs.Outstanding.{keeping_elsewhere}
 use Rattle.phase_laws.specs.Advances.{asked_for}
 use Rattle.phase_laws.proofs.Waves.{going, leaving}
-use Rattle.epoch_laws.proofs.Good.{IsCurrent, IsRight, order_to, token}
+use Rattle.epoch_laws.proofs.Good.{AreRight, IsCurrent, IsLetterRight, IsRight, order_to, token}
 
 -- What stays.
 pub node_stays : (s : ScriptData) (past : List Entry) (e : Entry) (q : ℕ) → e.actor.0 ≡ s.nodes → q < s.nodes
@@ -63,11 +62,11 @@ token_none e from to _ s past same calm right = refl
 
 -- there is none
 pub calm_none : (s : ScriptData) (past : List Entry) → ((what : What) (v : Version) → IsCurrent (restarting_in s past) what v → ⊥)
-    → Each (λ (l : Letter). IsRight s past l.from.0 l.to.0 l.body) (in_flight s past) → going (token (restarting_in s past).epoch) s past ≡ 0
+    → AreRight s past → going (token (restarting_in s past).epoch) s past ≡ 0
 calm_none s past calm right =
     let e = (restarting_in s past).epoch in
     each_none (λ (l : Letter). token e l.from.0 l.to.0 l.body) (in_flight s past)
-    (each_map (λ (l : Letter). IsRight s past l.from.0 l.to.0 l.body) (λ (l : Letter). token e l.from.0 l.to.0 l.body ≡ 0) (in_flight s past)
+    (each_map (IsLetterRight s past) (λ (l : Letter). token e l.from.0 l.to.0 l.body ≡ 0) (in_flight s past)
     (λ l ok. token_none e l.from.0 l.to.0 l.body s past refl calm ok) right)
 
 -- where the letter that is taken is the last one, none is left
@@ -81,15 +80,7 @@ none_left s past e m last =
 
 -- An order to a node is one of the epoch's letters.
 pub order_most : (e q from to : ℕ) (body : Body) → order_to e q from to body ≤ token e from to body
-order_most e q from to (Order d what v) = one_if_and (d == e) (to == q)
-order_most e q from to (Obeyed d what v) = omega arith
-order_most e q from to Go = omega arith
-order_most e q from to _ = omega arith
-
-pub orders_most : (s : ScriptData) (past : List Entry) (e q : ℕ) → going (order_to e q) s past ≤ going (token e) s past
-orders_most s past e q =
-    tally_most (λ (l : Letter). order_to e q l.from.0 l.to.0 l.body) (λ (l : Letter). token e l.from.0 l.to.0 l.body) (in_flight s past)
-    (λ l. order_most e q l.from.0 l.to.0 l.body)
+order_most e q from to body = grind arith
 
 -- Orders to all nodes.
 pub orders_tokens : (n e a : ℕ) (what : What) (v : Version) → tally (leaving (token e) a) (to_nodes n (Order e what v)) ≡ n

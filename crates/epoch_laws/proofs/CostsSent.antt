@@ -7,7 +7,6 @@ use Rattle.std.specs.List.{list_all}
 use Rattle.std.proofs.lemmas.Bool.{cases_eq}
 use Rattle.std.proofs.lemmas.Bool.Decides.{nat_tests}
 use Rattle.letter_types.specs.declared.entries.Entry.{Entry}
-use Rattle.letter_types.specs.declared.entries.Letter.{Letter}
 use Rattle.letter_types.specs.declared.entries.Outgoing.{Outgoing}
 use Rattle.letter_types.specs.Steps.{Out}
 use Rattle.tx_trees.specs.Counts.{advances_in, is_lossy}
@@ -15,11 +14,9 @@ use Rattle.tx_trees.specs.ScriptData.{ScriptData}
 use Rattle.tx_trees.specs.Valid.{IsValid}
 use Rattle.world_model.specs.AllApt.{AllApt}
 use Rattle.world_model.specs.Counts.{tally}
-use Rattle.world_model.specs.Restarting.{Restarting, forget, least_low, phase_by, restarting_row, resume, with_advances}
+use Rattle.world_model.specs.Restarting.{Restarting, forget, least_low, phase_by, restarting_row, resume}
 use Rattle.world_model.specs.Runs.{IsStepRun, MayFollow, restarting_in}
-use Rattle.world_model.specs.declared.restarting.RestartPhase.{RestartPhase}
 use Rattle.world_model.specs.declared.restarting.RestartPhase.TheVariants.{Recovering}
-use Rattle.world_model.proofs.Every.{each_taken}
 use Rattle.world_model.proofs.Lawful.{nudged}
 use Rattle.world_model.proofs.Restarts.{restarting_nodes}
 use Rattle.world_model.proofs.Sends.{on}
@@ -29,15 +26,15 @@ use Rattle.phase_laws.proofs.Progress.{course, restarts}
 use Rattle.phase_laws.proofs.Waves.{going}
 use Rattle.epoch_laws.proofs.Aside.{Aside, aside}
 use Rattle.epoch_laws.proofs.Away.{restarting_kept}
-use Rattle.epoch_laws.proofs.Few.{IsFew, TellsAsked, few}
+use Rattle.epoch_laws.proofs.Few.{IsFew, few}
 use Rattle.epoch_laws.proofs.Floors.{AllAskAnew, IsFloor, IsFrom, IsRestored, floor_aside, floor_forgets, floor_waits, restored}
 use Rattle.epoch_laws.proofs.Forgetting.{good_run}
-use Rattle.epoch_laws.proofs.Good.{IsGood, IsInPhase, IsRight, IsSteady, epoch_in, order_to, turns_in}
+use Rattle.epoch_laws.proofs.Good.{IsGood, Knows, ended_few, epoch_in, order_to, steady_in, turns_in}
 use Rattle.epoch_laws.proofs.GoodResumes.{HasHeard, heard_more}
-use Rattle.epoch_laws.proofs.Prices.{IsEntered, Pays, StepCosts, TellsMore, begun, ordered, orders_price, owed, price, recovers_or, spent, step_costs, tells_more}
+use Rattle.epoch_laws.proofs.Prices.{IsEntered, Pays, StepCosts, TellsMore, ordered, orders_price, owed, price, recovers_or, spent, step_costs, tells_more}
 use Rattle.epoch_laws.proofs.Prices.{Forgets, Resumes, Spends, Waits}
-use Rattle.epoch_laws.proofs.Refunds.{begun_most, by_entered, ended_most, forget_asks, forget_price, from_level, kept_most, kept_of, resume_pays, shown_in, spent_most, steady_in}
-use Rattle.epoch_laws.proofs.RestartSteps.{HearsMore, restart_step}
+use Rattle.epoch_laws.proofs.Refunds.{begun_most, by_entered, forget_asks, forget_price, from_level, kept_most, kept_of, resume_pays, shown_in, spent_most}
+use Rattle.epoch_laws.proofs.RestartSteps.{restart_step}
 
 -- what the letters cost that the coordinator has sent so far
 abbrev pub priced : ScriptData → List Entry → ℕ
@@ -57,7 +54,7 @@ pub record IsCovered (s : ScriptData) (past : List Entry) : Type 0 where
 
 -- what was sent is paid for
 pub record IsPaid (s : ScriptData) (past : List Entry) : Type 0 where
-  pub steady : ((restarting_in s past).phase ≡ Recovering → ⊥)
+  pub steady : Knows (restarting_in s past).phase
       → priced s past + owed s.nodes (restarting_in s past) ≤ spent s.nodes (restarting_in s past) + allowed s past
   pub recovers : (restarting_in s past).phase ≡ Recovering → IsCovered s past
 
@@ -99,26 +96,10 @@ priced_here s past e os at is =
 
 -- it pays for what it sends
 paid_spends : (s : ScriptData) (past : List Entry) (e : Entry) (out : Out Restarting) → e.actor.0 ≡ s.nodes
-    → restarting_in s (e ∷ past) ≡ out.state → e.sent ≡ out.sent → ((restarting_in s past).phase ≡ Recovering → ⊥)
-    → (out.state.phase ≡ Recovering → ⊥) → out.state.epoch ≡ (restarting_in s past).epoch
+    → restarting_in s (e ∷ past) ≡ out.state → e.sent ≡ out.sent → Knows (restarting_in s past).phase
+    → Knows out.state.phase → out.state.epoch ≡ (restarting_in s past).epoch
     → Pays s.nodes (restarting_in s past) e.took.body out → IsPaid s past → IsPaid s (e ∷ past)
-paid_spends s past e out at state sent known after epoch pays was =
-    let n = s.nodes in
-    record {
-      steady =
-          λ next.
-          omega (
-            arith,
-            was.steady known,
-            pays,
-            priced_here s past e out.sent at sent,
-            ap (λ (c : Restarting). owed n c) state,
-            ap (λ (c : Restarting). spent n c) state,
-            ap (λ (c : Restarting). (10 * n + 3) * c.epoch) state,
-            ap (λ (k : ℕ). (10 * n + 3) * k) epoch,
-          );
-      recovers = λ is. absurd (after (sym (ap (λ (c : Restarting). c.phase) state) ∙ is));
-    }
+paid_spends s past e out at state sent known after epoch pays was = grind (arith, priced_here)
 
 -- it forgets, and each node is as far as the phase says, or as far as it was before
 covered_anew : (s : ScriptData) (past : List Entry) (e : Entry) (f : ℕ) (shown : Bool) → IsGood s past → e.actor.0 ≡ s.nodes
@@ -149,32 +130,31 @@ covered_anew s past e f shown good at few state sent nodes paid =
       );
     }
 
-forgets_by : (s : ScriptData) (past : List Entry) (e : Entry) (phase : RestartPhase) → IsGood s past → e.actor.0 ≡ s.nodes
+forgets_by : (s : ScriptData) (past : List Entry) (e : Entry) → IsGood s past → e.actor.0 ≡ s.nodes
     → (restarting_in s past).epoch ≤ 100 → restarting_in s (e ∷ past) ≡ (forget (restarting_in s past)).state
-    → e.sent ≡ (forget (restarting_in s past)).sent → (restarting_in s past).phase ≡ phase → IsInPhase s past phase
-    → (phase ≡ Recovering) ⊎ (phase ≡ Recovering → ⊥) → IsPaid s past → IsCovered s (e ∷ past)
-forgets_by s past e phase good at few state sent is here (inl recovers) was =
-    let cover = was.recovers (is ∙ recovers) in
+    → e.sent ≡ (forget (restarting_in s past)).sent
+    → ((restarting_in s past).phase ≡ Recovering) ⊎ Knows (restarting_in s past).phase → IsPaid s past
+    → IsCovered s (e ∷ past)
+forgets_by s past e good at few state sent (inl recovers) was =
+    let cover = was.recovers recovers in
     covered_anew s past e cover.ended cover.shown good at few state sent cover.floor.nodes (omega (arith, cover.paid))
-forgets_by s past e phase good at few state sent is here (inr known) was =
+forgets_by s past e good at few state sent (inr known) was =
     let n = s.nodes in
     let c = restarting_in s past in
-    let steady : IsSteady s past phase = steady_in s past phase known here in
-    covered_anew s past e c.ended (shown_in phase) good at few state sent
+    let steady = steady_in s past c.phase good refl known in
+    covered_anew s past e c.ended (shown_in c.phase) good at few state sent
     (λ q lt.
-    from_level phase c.ended c.epoch (epoch_in s past q) (turns_in s past q) (going (order_to c.epoch q) s past)
+    from_level c.phase c.ended c.epoch (epoch_in s past q) (turns_in s past q) (going (order_to c.epoch q) s past)
     (steady.level q lt))
-    (omega (arith, was.steady (λ no. known (sym is ∙ no)), begun_most n phase, ap (λ (p : RestartPhase). begun n p) is))
+    (omega (arith, was.steady known, begun_most n c.phase))
 
 paid_forgets : (s : ScriptData) (past : List Entry) (e : Entry) → IsGood s past → e.actor.0 ≡ s.nodes
     → (restarting_in s past).epoch ≤ 100 → restarting_in s (e ∷ past) ≡ (forget (restarting_in s past)).state
     → e.sent ≡ (forget (restarting_in s past)).sent → IsPaid s past → IsPaid s (e ∷ past)
-paid_forgets s past e good at few state sent was =
-    let phase = (restarting_in s past).phase in
-    record {
-      steady = λ known. absurd (known (ap (λ (c : Restarting). c.phase) state));
-      recovers = λ is. forgets_by s past e phase good at few state sent refl good.phased (recovers_or phase) was;
-    }
+paid_forgets s past e good at few state sent was = record {
+  steady = λ known. absurd (known (ap (λ (c : Restarting). c.phase) state));
+  recovers = λ is. forgets_by s past e good at few state sent (recovers_or (restarting_in s past).phase) was;
+}
 
 -- it waits
 paid_waits : (s : ScriptData) (past : List Entry) (e : Entry) (out : Out Restarting) → MayFollow s past e → e.actor.0 ≡ s.nodes
@@ -210,18 +190,10 @@ paid_waits s past e out m at state sent is after epoch more none was =
 -- it resumes
 resume_price : (n k : ℕ) (d : Restarting) → d.nodes ≡ n
     → tally (on price) (resume k d).sent ≡ 1 + ordered n (phase_by d.told (max d.wanted k) (least_low d.told))
-resume_price n k d nodes =
-    omega (
-      arith,
-      orders_price n (phase_by d.told (max d.wanted k) (least_low d.told))
-          (with_advances (max d.wanted k) (least_low d.told) d) nodes,
-    )
+resume_price n k d nodes = grind (arith, orders_price)
 
 resume_owes : (n k : ℕ) (d : Restarting) → owed n (resume k d).state ≡ 0
-resume_owes n k d =
-    let e : IsEntered n (phase_by d.told (max d.wanted k) (least_low d.told)) =
-    by_entered n d.told (max d.wanted k) (least_low d.told) in
-    omega (arith, e.unasked d.count.current.dones, e.promised d.count.flag)
+resume_owes n k d = grind arith
 
 paid_resumes : (s : ScriptData) (past : List Entry) (e : Entry) (k : ℕ) (d : Restarting) → IsValid s → IsGood s past
     → MayFollow s past e
@@ -254,17 +226,6 @@ paid_resumes s past e k d valid good m at state sent is heard more all was =
     }
 
 -- each entry of it
--- what it heard with the letter that it took
-heard_with : (s : ScriptData) (past : List Entry) (e : Entry) (d : Restarting) → IsGood s past → IsFew s past
-    → MayFollow s past e
-    → (restarting_in s past).phase ≡ Recovering → HearsMore (restarting_in s past) e.took.from.0 e.took.body d
-    → HasHeard s past d
-heard_with s past e d good few m is hears =
-    let asked : TellsAsked s past e.took.body = each_taken (λ (l : Letter). TellsAsked s past l.body) s past e m few.letters in
-    heard_more s past e.took.from.0 e.took.to.0 e.took.body d good few is
-    (each_taken (λ (l : Letter). IsRight s past l.from.0 l.to.0 l.body) s past e m good.letters)
-    (λ n k bd. subst (TellsAsked s past) bd asked) hears
-
 paid_by : (s : ScriptData) (past : List Entry) (e : Entry) (out : Out Restarting) → IsValid s → IsGood s past → IsFew s past
     → MayFollow s past e → e.actor.0 ≡ s.nodes → restarting_in s (e ∷ past) ≡ out.state → e.sent ≡ out.sent
     → StepCosts s.nodes (restarting_in s past) e.took.from.0 e.took.body out → IsPaid s past → IsPaid s (e ∷ past)
@@ -277,7 +238,7 @@ paid_by s past e out valid good few m at state sent (Waits is after epoch more n
     paid_waits s past e out m at state sent is after epoch more none was
 paid_by s past e out valid good few m at state sent (Resumes k d is hears all same) was =
     paid_resumes s past e k d valid good m at (state ∙ ap (λ (o : Out Restarting). o.state) same)
-    (sent ∙ ap (λ (o : Out Restarting). o.sent) same) is (heard_with s past e d good few m is hears)
+    (sent ∙ ap (λ (o : Out Restarting). o.sent) same) is (heard_more s past e d good few m is hears)
     (tells_more (restarting_in s past) d e.took.from.0 e.took.body hears) all was
 
 paid_coordinator : (s : ScriptData) (past : List Entry) (e : Entry) → IsTreeLawful s → is_lossy s ≡ true
@@ -287,12 +248,8 @@ paid_coordinator s past e laws loses run apt good at was =
     let c = restarting_in s past in
     let made = restarts s past e loses run.0 at in
     let out = restarting_row c e.took.from.0 e.took.body in
-    let ended : (c.phase ≡ Recovering → ⊥) → c.ended ≤ 200 =
-    λ known. omega (
-      arith,
-      ended_most s past c.phase laws.valid good (steady_in s past c.phase known good.phased),
-      laws.valid.limited.advances,
-    ) in
+    let ended : Knows c.phase → c.ended ≤ 100 =
+    λ known. ended_few s past c.phase laws.valid good (steady_in s past c.phase good refl known) in
     paid_by s past e out laws.valid good (few s past laws loses run.1 apt) run.0 at made.state made.sent
     (step_costs s.nodes c e.took.from.0 e.took.body out laws.valid.some_nodes (restarting_nodes s past) ended
     (restart_step c e.took.from.0 e.took.body)) was
@@ -311,29 +268,15 @@ all_paid s (e ∷ past) laws loses run apt =
     paid_next s past e laws loses run apt (good_run s past laws loses run.1 apt.1)
     (all_paid s past laws loses run.1 apt.1) (cases_eq e.actor.0 s.nodes)
 
-priced_by : (s : ScriptData) (past : List Entry) (phase : RestartPhase) → IsValid s → IsGood s past
-    → (restarting_in s past).phase ≡ phase
-    → IsInPhase s past phase → (phase ≡ Recovering) ⊎ (phase ≡ Recovering → ⊥) → IsPaid s past
+priced_by : (s : ScriptData) (past : List Entry) → IsValid s → IsGood s past
+    → ((restarting_in s past).phase ≡ Recovering) ⊎ Knows (restarting_in s past).phase → IsPaid s past
     → priced s past ≤ advances_in s.rows * (14 * s.nodes + 1) + allowed s past
-priced_by s past phase valid good is here (inl recovers) paid =
-    let cover = paid.recovers (is ∙ recovers) in
-    omega (
-      arith,
-      cover.paid,
-      kept_most s past cover.ended cover.shown valid good (cover.floor.nodes 0 (omega (arith, valid.some_nodes))),
-    )
-priced_by s past phase valid good is here (inr known) paid =
-    omega (
-      arith,
-      paid.steady (λ no. known (sym is ∙ no)),
-      spent_most s past phase valid good is (steady_in s past phase known here),
-      ap (λ (p : RestartPhase). begun s.nodes p) is,
-    )
+priced_by s past valid good is paid = grind (arith, kept_most, spent_most)
 
 -- what is sent costs no more than all advancements that the script has, once, and what nudges and forgetting add
 pub priced_most : (s : ScriptData) (past : List Entry) → IsTreeLawful s → is_lossy s ≡ true → IsStepRun s past → AllApt s past
     → priced s past ≤ advances_in s.rows * (14 * s.nodes + 1) + allowed s past
 priced_most s past laws loses run apt =
     let good = good_run s past laws loses run apt in
-    priced_by s past (restarting_in s past).phase laws.valid good refl good.phased (recovers_or (restarting_in s past).phase)
+    priced_by s past laws.valid good (recovers_or (restarting_in s past).phase)
     (all_paid s past laws loses run apt)

@@ -11,7 +11,6 @@ use Rattle.letter_types.specs.declared.bodies.Body.TheVariants.{Go, Advanced}
 use Rattle.letter_types.specs.declared.bodies.What.{What}
 use Rattle.letter_types.specs.declared.bodies.What.TheVariants.{Turn as ToTurn, Show as ToShow, Sweep as ToSweep}
 use Rattle.letter_types.specs.declared.entries.Entry.{Entry}
-use Rattle.letter_types.specs.declared.entries.Letter.{Letter}
 use Rattle.letter_types.specs.declared.entries.Outgoing.{Outgoing}
 use Rattle.letter_types.specs.Steps.{Out, still}
 use Rattle.tx_trees.specs.ScriptData.{ScriptData, client_of}
@@ -33,9 +32,10 @@ use Rattle.phase_laws.proofs.Progress.{MadeByRestarting, TellsAnew, restarts, to
 use Rattle.epoch_laws.proofs.Aside.{end_is}
 use Rattle.epoch_laws.proofs.AtCoordinator.{client_stays}
 use Rattle.epoch_laws.proofs.Away.{restarting_kept}
+use Rattle.epoch_laws.proofs.Good.{Knows}
 use Rattle.epoch_laws.proofs.Recovers.{still_covered}
-use Rattle.epoch_laws.proofs.RecoverSteps.{HasHeard, Knows, Misses, Recovery, recovery, knows_by}
-use Rattle.epoch_laws.proofs.WantSteps.{more_waits, most_rises, one_most, some_most}
+use Rattle.epoch_laws.proofs.RecoverSteps.{HasHeard, Misses, Recovery, knows_by, recovery}
+use Rattle.epoch_laws.proofs.WantSteps.{more_waits, most_rises, one_most}
 use Rattle.epoch_laws.proofs.RestartSteps.{RestartStep, asked_kept, asks_with, done_kept, restart_step}
 use Rattle.epoch_laws.proofs.RestartSteps.{Acks, Agrees, Ends, Flags, Forgets, Goes, KeepsAsked, KeepsDone, Pauses, Recounts, Recovers, Rests, Resumes, Wants}
 
@@ -45,7 +45,7 @@ tells_end f (Advanced v) = one_if (nat_le f v.0)
 tells_end f Go = 0
 tells_end f _ = 0
 
-abbrev pub HearsAll : ScriptData → List Entry → Restarting → Type 0
+abbrev HearsAll : ScriptData → List Entry → Restarting → Type 0
 HearsAll s past c = Knows c.phase
     → 1 ≤ count_in_flight (tells_end c.ended) s past + one_if (nat_le c.ended (client_in s past).ended)
 
@@ -117,9 +117,7 @@ tells_out c from body out (Pauses reads v k row takes verdict flag is) knows =
 
 -- what it takes tells of no end
 anew_none : (f : ℕ) (body : Body) → TellsAnew body → tells_end f body ≡ 0
-anew_none f (Advanced v) tells = absurd tells
-anew_none f Go tells = absurd tells
-anew_none f _ tells = refl
+anew_none f body tells = grind arith
 
 coordinator_by : (s : ScriptData) (past : List Entry) (e : Entry) (out : Out Restarting) → MayFollow s past e
     → TellsAnew e.took.body
@@ -151,9 +149,7 @@ coordinator_hears s past e m tells at made was =
 
 -- 2. Who takes a letter that tells of an end is the client, and has heard of it then.
 end_away : (s : ScriptData) (f from to : ℕ) (body : Body) → IsMeant s from to body → to ≢ client_of s → tells_end f body ≡ 0
-end_away s f from to (Advanced v) meant away = absurd (away meant)
-end_away s f from to Go meant away = refl
-end_away s f from to _ meant away = refl
+end_away s f from to body meant away = grind arith
 
 same_heard : (s : ScriptData) (past : List Entry) (e : Entry) (f : ℕ) → MayFollow s past e → tells_end f e.took.body ≡ 0
     → (client_in s (e ∷ past)).ended ≡ (client_in s past).ended
@@ -191,7 +187,7 @@ client_hears s past e f laws loses run (Aside away) was =
     (ap (λ (c : Client). c.ended) (client_kept s past e away)) was
 
 -- In every run.
-pub hears_in : (s : ScriptData) (past : List Entry) → IsTreeLawful s → is_lossy s ≡ true → IsStepRun s past → AllApt s past
+hears_in : (s : ScriptData) (past : List Entry) → IsTreeLawful s → is_lossy s ≡ true → IsStepRun s past → AllApt s past
     → HearsAll s past (restarting_in s past)
 hears_in s [] laws loses run apt = λ knows. omega arith
 hears_in s (e ∷ past) laws loses run apt = by (cases_eq e.actor.0 s.nodes) (hears_in s past laws loses run.1 apt.1) where
@@ -206,8 +202,4 @@ hears_in s (e ∷ past) laws loses run apt = by (cases_eq e.actor.0 s.nodes) (he
 -- so where no letter is in flight, it has heard of all that have ended
 pub all_heard : (s : ScriptData) (past : List Entry) → IsTreeLawful s → is_lossy s ≡ true → IsStepRun s past → AllApt s past
     → in_flight s past ≡ [] → Knows (restarting_in s past).phase → (restarting_in s past).ended ≤ (client_in s past).ended
-all_heard s past laws loses run apt empty knows =
-    let f = (restarting_in s past).ended in
-    let none : count_in_flight (tells_end f) s past ≡ 0 =
-    ap (λ (ls : List Letter). tally (λ (l : Letter). tells_end f l.body) ls) empty in
-    some_most f (client_in s past).ended (omega (arith, hears_in s past laws loses run apt knows, none))
+all_heard s past laws loses run apt empty knows = grind (arith, hears_in)

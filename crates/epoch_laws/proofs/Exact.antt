@@ -1,11 +1,9 @@
 -- While a coordinator that forgets recovers, nodes read and keep just what they have told since; and while it knows how many
 -- advancements have ended, no node is further than its phase says. So each node's low version is the number of those that have
 -- ended, but while nodes are told to sweep; and so is its read version, until they are told to show the next one.
-use Rattle.std.proofs.Common.{◌≡◌, ◌≢◌, ◌⊎◌, inl, inr, ℕ, ◌<◌, ◌≤◌, true, List, [], ◌∷◌, sym, ap, subst, ◌∙◌, arith}
+use Rattle.std.proofs.Common.{◌≡◌, ◌≢◌, ◌⊎◌, inl, inr, ℕ, ◌<◌, ◌≤◌, true, List, [], ◌∷◌, sym, ap, subst, arith}
 use Rattle.std.proofs.lemmas.Bool.{cases_eq}
-use Rattle.tv_base.specs.Outside.{one_more}
 use Rattle.letter_types.specs.declared.bodies.Body.{Body}
-use Rattle.letter_types.specs.declared.bodies.Body.TheVariants.{Go, Numbers}
 use Rattle.letter_types.specs.declared.entries.Entry.{Entry}
 use Rattle.letter_types.specs.declared.entries.Letter.{Letter}
 use Rattle.letter_types.specs.declared.entries.LetterId.{LetterId}
@@ -20,43 +18,32 @@ use Rattle.script_parts.specs.Counts.{is_lossy}
 use Rattle.world_model.specs.Restarting.{AllTold, Restarting, restarting_row}
 use Rattle.world_model.specs.Runs.{IsStepRun, in_flight, restarting_in}
 use Rattle.world_model.specs.declared.restarting.RestartPhase.{RestartPhase}
-use Rattle.world_model.specs.declared.restarting.RestartPhase.TheVariants.{Idle, Recovering, Doing, Counting, Paused}
+use Rattle.world_model.specs.declared.restarting.RestartPhase.TheVariants.{Recovering}
 use Rattle.world_model.proofs.Every.{each_map, each_step, each_taken}
 use Rattle.world_model.proofs.Orders.{of}
 use Rattle.world_model.proofs.Restarts.{OfRestarts, restarting_each}
 use Rattle.strict_laws.specs.Meant.{IsLetterMeant, IsMeant}
 use Rattle.phase_laws.proofs.Lawful.{IsTreeLawful}
-use Rattle.phase_laws.proofs.Outcomes.{one_more_is}
 use Rattle.phase_laws.proofs.Progress.{MadeByRestarting, course, restarts}
 use Rattle.epoch_laws.proofs.Aside.{aside}
 use Rattle.epoch_laws.proofs.AtCoordinator.{node_stays}
 use Rattle.epoch_laws.proofs.ExactAside.{IsExact, each_now, exact_aside, near_now}
-use Rattle.epoch_laws.proofs.ExactSteps.{AreExact, AreNear, IsExactFor, IsNearIn, IsNoFurther, IsStill, IsStillTold, exact_out}
+use Rattle.epoch_laws.proofs.ExactSteps.{AreExact, AreNear, IsExactFor, IsNearIn, IsStillTold, exact_out}
 use Rattle.epoch_laws.proofs.Few.{IsFew, few}
 use Rattle.epoch_laws.proofs.Forgetting.{all_good}
-use Rattle.epoch_laws.proofs.Good.{AllGood, IsGood, IsRight, turns_in, heard_now}
-use Rattle.epoch_laws.proofs.RecoverSteps.{Forgot, HasMore, IsWanted, Stays, Waiting, waiting}
+use Rattle.epoch_laws.proofs.Good.{AllGood, IsGood, IsLetterRight, IsRight, in_phase, turns_in}
+use Rattle.epoch_laws.proofs.RecoverSteps.{Waiting, waiting}
 use Rattle.epoch_laws.proofs.RestartCounts.{good_now}
-use Rattle.epoch_laws.proofs.RestartSteps.{HearsMore, OfClient, OfNode, RestartStep, restart_step}
+use Rattle.epoch_laws.proofs.RestartSteps.{RestartStep, restart_step}
 
 -- Letters in flight after an entry of the coordinator.
 -- where it waits after it, it waited before, in the same epoch, or its epoch is new
 abbrev WaitsOn : Restarting → Restarting → Type 0
 WaitsOn c d = ((c.phase ≡ Recovering) × (d.epoch ≡ c.epoch)) ⊎ (c.epoch < d.epoch)
 
-same_epoch : (c d : Restarting) (from : ℕ) (body : Body) → HearsMore c from body d → d.epoch ≡ c.epoch
-same_epoch c d from body (OfNode u r l bd lt is) = ap (λ (x : Restarting). x.epoch) is
-same_epoch c d from body (OfClient k bd it is) = ap (λ (x : Restarting). x.epoch) is
-
 waits_on : (c : Restarting) (from : ℕ) (body : Body) (out : Out Restarting) → c.epoch ≤ 100 → Waiting c from body out
     → WaitsOn c out.state
-waits_on c from body out small (Forgot is) =
-    let epoch : out.state.epoch ≡ one_more c.epoch = ap (λ (o : Out Restarting). o.state.epoch) is in
-    inr (omega (arith, epoch, one_more_is c.epoch (omega (arith, small))))
-waits_on c from body out small (Stays waits left is) = inl (waits, ap (λ (o : Out Restarting). o.state.epoch) is)
-waits_on c from body out small (IsWanted i waits bd is) = inl (waits, ap (λ (o : Out Restarting). o.state.epoch) is)
-waits_on c from body out small (HasMore d waits hears misses is) =
-    inl (waits, ap (λ (o : Out Restarting). o.state.epoch) is ∙ same_epoch c d from body hears)
+waits_on c from body out small is = grind arith
 
 -- nodes stay
 turns_stay : (s : ScriptData) (past : List Entry) (e : Entry) (q : ℕ) → e.actor.0 ≡ s.nodes → q < s.nodes
@@ -66,18 +53,13 @@ turns_stay s past e q at lt = ap (λ (n : KeepingNode). n.core.node.turns) (node
 still_at : (s : ScriptData) (past : List Entry) (e : Entry) (epoch from to : ℕ) (body : Body) → e.actor.0 ≡ s.nodes
     → IsMeant s from to body → IsStillTold epoch (turns_in s past) from body
     → IsStillTold epoch (turns_in s (e ∷ past)) from body
-still_at s past e epoch from to (Numbers n u r l) at meant was = λ is.
-    subst (λ (t : Turns). IsStill t r l) (sym (turns_stay s past e from at meant.0.0)) (was is)
-still_at s past e epoch from to Go at meant was = tt
-still_at s past e epoch from to _ at meant was = tt
+still_at s past e epoch from to body at meant was = grind (arith, turns_stay)
 
 -- no letter is of a new epoch
 still_none : (s : ScriptData) (past : List Entry) (epoch from to : ℕ) (body : Body) (at : ℕ → Turns)
     → (restarting_in s past).epoch < epoch
     → IsRight s past from to body → IsStillTold epoch at from body
-still_none s past epoch from to (Numbers n u r l) at less right = λ is. absurd (omega (arith, is, less, right.epoch))
-still_none s past epoch from to Go at less right = tt
-still_none s past epoch from to _ at less right = tt
+still_none s past epoch from to body at less right = grind arith
 
 old_letters : (s : ScriptData) (past : List Entry) (e : Entry) (d : Restarting) → IsTreeLawful s → IsStepRun s past
     → IsGood s past
@@ -88,13 +70,12 @@ old_letters s past e d laws run good at was (inl (waits, same)) =
     let P = λ (l : Letter). IsStillTold c.epoch (turns_in s past) l.from.0 l.body in
     subst (λ (n : ℕ). Each (λ (l : Letter). IsStillTold n (turns_in s (e ∷ past)) l.from.0 l.body) (in_flight s past))
     (sym same)
-    (each_map (λ (l : Letter). IsLetterMeant s l × (IsRight s past l.from.0 l.to.0 l.body × P l))
+    (each_map (λ (l : Letter). IsLetterMeant s l × (IsLetterRight s past l × P l))
     (λ (l : Letter). IsStillTold c.epoch (turns_in s (e ∷ past)) l.from.0 l.body) (in_flight s past)
     (λ l all. still_at s past e c.epoch l.from.0 l.to.0 l.body at all.0 all.1.1)
     (each_now P s past laws run good (was.letters waits)))
 old_letters s past e d laws run good at was (inr less) =
-    each_map (λ (l : Letter). IsRight s past l.from.0 l.to.0 l.body)
-    (λ (l : Letter). IsStillTold d.epoch (turns_in s (e ∷ past)) l.from.0 l.body) (in_flight s past)
+    each_map (IsLetterRight s past) (λ (l : Letter). IsStillTold d.epoch (turns_in s (e ∷ past)) l.from.0 l.body) (in_flight s past)
     (λ l right. still_none s past d.epoch l.from.0 l.to.0 l.body (turns_in s (e ∷ past)) less right) good.letters
 
 -- it sends no numbers
@@ -119,15 +100,7 @@ new_letters s past e epoch made =
 -- Nodes after it.
 exact_same : (n : ℕ) (phase : RestartPhase) (f : ℕ) (ts : AllTold) (old new : ℕ → Turns) → ((q : ℕ) → q < n → new q ≡ old q)
     → AreExact n phase f ts old → AreExact n phase f ts new
-exact_same n Recovering f ts old new same was =
-    λ q t lt has. subst (λ (x : Turns). IsStill x t.read t.low) (sym (same q lt)) (was q t lt has)
-exact_same n Idle f ts old new same was = λ q lt. subst (λ (x : Turns). IsNoFurther Idle f x) (sym (same q lt)) (was q lt)
-exact_same n (Doing what) f ts old new same was =
-    λ q lt. subst (λ (x : Turns). IsNoFurther (Doing what) f x) (sym (same q lt)) (was q lt)
-exact_same n (Counting reads) f ts old new same was =
-    λ q lt. subst (λ (x : Turns). IsNoFurther (Counting reads) f x) (sym (same q lt)) (was q lt)
-exact_same n (Paused reads) f ts old new same was =
-    λ q lt. subst (λ (x : Turns). IsNoFurther (Paused reads) f x) (sym (same q lt)) (was q lt)
+exact_same n phase f ts old new same was = grind arith
 
 near_same : (n f : ℕ) (old new : ℕ → Turns) → ((q : ℕ) → q < n → new q ≡ old q) → AreNear n f new → AreNear n f old
 near_same n f old new same now = record {
@@ -146,7 +119,7 @@ exact_coordinator s past e laws run little less good now at made was =
     let step : RestartStep c e.took.from.0 e.took.body out = restart_step c e.took.from.0 e.took.body in
     let same : (q : ℕ) → q < s.nodes → turns_in s (e ∷ past) q ≡ turns_in s past q = λ q lt. turns_stay s past e q at lt in
     let after : IsNearIn s.nodes out.state (turns_in s (e ∷ past)) =
-    subst (λ (d : Restarting). IsNearIn s.nodes d (turns_in s (e ∷ past))) made.state (near_now s (e ∷ past) laws less now) in
+    subst (λ (d : Restarting). IsNearIn s.nodes d (turns_in s (e ∷ past))) made.state (near_now s (e ∷ past) laws.valid now) in
     record {
       letters =
           subst
@@ -163,11 +136,11 @@ exact_coordinator s past e laws run little less good now at made was =
           subst (λ (d : Restarting). IsExactFor s.nodes d (turns_in s (e ∷ past))) (sym made.state)
           (exact_same s.nodes out.state.phase out.state.ended out.state.told (turns_in s past) (turns_in s (e ∷ past)) same
           (exact_out s.nodes c (turns_in s past) e.took.from.0 e.took.body out was.nodes (record {
-            places = λ waits. (heard_now s past good waits).places;
+            places = λ waits. (in_phase s past Recovering good waits).places;
             letter = λ waits.
                 each_taken (λ (l : Letter). IsStillTold c.epoch (turns_in s past) l.from.0 l.body) s past e run.0
                 (was.letters waits);
-            before = near_now s past laws little good;
+            before = near_now s past laws.valid good;
             after = λ knows. near_same s.nodes out.state.ended (turns_in s past) (turns_in s (e ∷ past)) same (after knows);
           }) step));
     }

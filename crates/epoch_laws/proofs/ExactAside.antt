@@ -1,25 +1,24 @@
 -- Exact versions, and what entries of the client and of nodes make of them: a node that has told its numbers since the
 -- coordinator has forgotten heeds no order before it goes on, and then only those of its phase.
-use Rattle.std.proofs.Common.{◌≡◌, ◌≢◌, ◌⊎◌, inl, inr, ℕ, ◌+◌, ◌<◌, ◌≤◌, Bool, true, false, List, ◌∷◌, refl, sym, ap, subst, ◌∙◌, arith}
+use Rattle.std.proofs.Common.{◌≡◌, ◌≢◌, ◌⊎◌, inl, inr, ℕ, ◌<◌, ◌≤◌, Bool, true, false, List, ◌∷◌, refl, sym, ap, subst, ◌∙◌, arith}
 use Rattle.std.proofs.lemmas.Bool.{cases_eq}
 use Rattle.tv_base.specs.declared.numbers.Version.{Version}
-use Rattle.tv_base.proofs.Chosen.{one_more_most}
 use Rattle.letter_types.specs.declared.bodies.Body.{Body}
 use Rattle.letter_types.specs.declared.bodies.Body.TheVariants.{Go, Order, Numbers}
 use Rattle.letter_types.specs.declared.bodies.What.{What}
-use Rattle.letter_types.specs.declared.bodies.What.TheVariants.{Turn as ToTurn, Show as ToShow, Sweep as ToSweep}
 use Rattle.letter_types.specs.declared.entries.Entry.{Entry}
 use Rattle.letter_types.specs.declared.entries.Letter.{Letter}
 use Rattle.letter_types.specs.declared.entries.LetterId.{LetterId}
 use Rattle.letter_types.specs.declared.entries.Outgoing.{Outgoing}
 use Rattle.node_versions.specs.declared.turns.Turns.{Turns}
 use Rattle.tx_trees.specs.ScriptData.{ScriptData}
+use Rattle.tx_trees.specs.Valid.{IsValid}
 use Rattle.world_model.specs.Core.{Core}
 use Rattle.world_model.specs.Counts.{Each}
 use Rattle.world_model.specs.Done.{raised_if}
 use Rattle.world_model.specs.Node.{Node}
 use Rattle.world_model.specs.Restarting.{Restarting}
-use Rattle.world_model.specs.Runs.{IsStepRun, MayFollow, in_flight, keeping_in, node_in, restarting_in}
+use Rattle.world_model.specs.Runs.{IsStepRun, MayFollow, in_flight, keeping_in, restarting_in}
 use Rattle.world_model.specs.declared.restarting.RestartPhase.{RestartPhase}
 use Rattle.world_model.specs.declared.restarting.RestartPhase.TheVariants.{Idle, Recovering, Doing, Counting, Paused}
 use Rattle.world_model.proofs.EachOutstanding.{each_waits}
@@ -29,15 +28,10 @@ use Rattle.strict_laws.specs.Meant.{IsLetterMeant, IsMeant}
 use Rattle.strict_laws.proofs.Meant.{letters_are_meant}
 use Rattle.phase_laws.proofs.Heeds.{Answers, Heed, Leaves, Obeys, Repeats, turned_to}
 use Rattle.phase_laws.proofs.Lawful.{IsTreeLawful}
-use Rattle.phase_laws.proofs.Working.{SentIn}
-use Rattle.epoch_laws.proofs.Aside.{Answered, Aside, Asks, Bare, Counts, Heeds, IsBare, IsSentBy, Numbered, OfTree, Submits, Tells, Works, sends_aside}
+use Rattle.epoch_laws.proofs.Aside.{Aside, Counts, Heeds, IsSentBy, Submits, Tells, Works, sends_aside}
 use Rattle.epoch_laws.proofs.Away.{restarting_kept}
 use Rattle.epoch_laws.proofs.ExactSteps.{AreExact, IsExactFor, IsNearIn, IsNoFurther, IsStill, IsStillTold}
-use Rattle.epoch_laws.proofs.Few.{IsFew, few}
-use Rattle.epoch_laws.proofs.Good.{IsCurrent, IsGood, IsInPhase, IsOrder, IsRight, IsSteady, epoch_in, turns_in, heard_now}
-use Rattle.epoch_laws.proofs.GoodOutcomes.{few_ended}
-use Rattle.epoch_laws.proofs.RecoverSteps.{Knows}
-use Rattle.epoch_laws.proofs.Rising.{took_right}
+use Rattle.epoch_laws.proofs.Good.{IsCurrent, IsGood, IsLetterRight, IsOrder, IsRight, Knows, ended_few, epoch_in, in_phase, steady_in, took_right, turns_in}
 
 pub record IsExact (s : ScriptData) (past : List Entry) : Type 0 where
   pub letters : (restarting_in s past).phase ≡ Recovering
@@ -45,21 +39,13 @@ pub record IsExact (s : ScriptData) (past : List Entry) : Type 0 where
   pub nodes : IsExactFor s.nodes (restarting_in s past) (turns_in s past)
 
 -- What is known of a good past.
-pub steady_by : (s : ScriptData) (past : List Entry) (phase : RestartPhase) → IsInPhase s past phase → Knows phase
-    → IsSteady s past phase
-steady_by s past Recovering is knows = absurd (knows refl)
-steady_by s past Idle is knows = is
-steady_by s past (Doing what) is knows = is
-steady_by s past (Counting reads) is knows = is
-steady_by s past (Paused reads) is knows = is
-
-pub near_now : (s : ScriptData) (past : List Entry) → IsTreeLawful s → IsFew s past → IsGood s past
+pub near_now : (s : ScriptData) (past : List Entry) → IsValid s → IsGood s past
     → IsNearIn s.nodes (restarting_in s past) (turns_in s past)
-near_now s past laws few good = λ knows.
+near_now s past valid good = λ knows.
     let c = restarting_in s past in
-    let steady = steady_by s past c.phase good.phased knows in
+    let steady = steady_in s past c.phase good refl knows in
     record {
-      small = few_ended s past c.phase laws.valid.some_nodes good few steady;
+      small = ended_few s past c.phase valid good steady;
       low = λ q lt. omega (arith, (good.within q lt).low_swept, steady.up_to.swept);
       read = λ q lt. omega (arith, (good.within q lt).read_showed, steady.up_to.showed);
     }
@@ -101,9 +87,7 @@ raised_moved c old new false v is = Stood (ap (λ (t : Turns). t.read.0) is) (ap
 -- whoever's entry it is
 away_moved : (s : ScriptData) (past : List Entry) (e : Entry) (q : ℕ) → e.actor.0 ≢ q
     → Moved (restarting_in s past) (turns_in s past q) (turns_in s (e ∷ past) q)
-away_moved s past e q ne =
-    let same =
-    node_kept s past e q ne in Stood (ap (λ (st : Node). st.turns.read.0) same) (ap (λ (st : Node). st.turns.low.0) same)
+away_moved s past e q ne = grind (arith, node_kept)
 
 at_moved : (s : ScriptData) (past : List Entry) (e : Entry) (p q : ℕ) → e.actor.0 ≡ p
     → (p ≡ q → Moved (restarting_in s past) (turns_in s past p) (turns_in s (e ∷ past) p)) → (p ≡ q) ⊎ (p ≢ q)
@@ -140,39 +124,9 @@ still_moved : (c : Restarting) (old new : Turns) (r l : Version) → c.phase ≡
 still_moved c old new r l waits (Stood read low) was = record { read = read ∙ was.read; low = low ∙ was.low }
 still_moved c old new r l waits (Heeded what v current is) was = absurd (cc (sym waits ∙ current.phase))
 
-in_present : (c : Restarting) (old new : Turns) (what : What) (v : Version) (phase : RestartPhase) → c.phase ≡ phase
-    → IsCurrent c what v
-    → (IsNoFurther (Doing what) c.ended old → IsNoFurther (Doing what) c.ended new) → IsNoFurther phase c.ended old
-    → IsNoFurther phase c.ended new
-in_present c old new what v phase at current goes was =
-    let same : phase ≡ Doing what = sym at ∙ current.phase in
-    subst (λ (p : RestartPhase). IsNoFurther p c.ended new) (sym same)
-    (goes (subst (λ (p : RestartPhase). IsNoFurther p c.ended old) same was))
-
 further_moved : (c : Restarting) (old new : Turns) (phase : RestartPhase) → c.phase ≡ phase → Moved c old new
     → IsNoFurther phase c.ended old → IsNoFurther phase c.ended new
-further_moved c old new phase at (Stood read low) was =
-    record { low = omega (arith, low, was.low); read = omega (arith, read, was.read) }
-further_moved c old new phase at (Heeded ToTurn v current is) was =
-    let read : new.read.0 ≡ old.read.0 = ap (λ (t : Turns). t.read.0) is in
-    let low : new.low.0 ≡ old.low.0 = ap (λ (t : Turns). t.low.0) is in
-    record { low = omega (arith, low, was.low); read = omega (arith, read, was.read) }
-further_moved c old new phase at (Heeded ToShow v current is) was =
-    let read : new.read.0 ≡ v.0 = ap (λ (t : Turns). t.read.0) is in
-    let low : new.low.0 ≡ old.low.0 = ap (λ (t : Turns). t.low.0) is in
-    in_present c old new ToShow v phase at current
-    (λ before. record {
-      low = omega (arith, low, before.low);
-      read = omega (arith, read, current.version, one_more_most c.ended);
-    }) was
-further_moved c old new phase at (Heeded ToSweep v current is) was =
-    let read : new.read.0 ≡ old.read.0 = ap (λ (t : Turns). t.read.0) is in
-    let low : new.low.0 ≡ v.0 = ap (λ (t : Turns). t.low.0) is in
-    in_present c old new ToSweep v phase at current
-    (λ before. record {
-      low = omega (arith, low, current.version, one_more_most c.ended);
-      read = omega (arith, read, before.read);
-    }) was
+further_moved c old new phase at is was = grind arith
 
 -- Letters and nodes after an entry of the client or of a node.
 old_still : (s : ScriptData) (past : List Entry) (e : Entry) (from to : ℕ) (body : Body) → IsGood s past → MayFollow s past e
@@ -185,40 +139,18 @@ old_still s past e from to (Numbers n u r l) good m next waits meant right was =
 old_still s past e from to Go good m next waits meant right was = tt
 old_still s past e from to _ good m next waits meant right was = tt
 
-bare_still : (epoch : ℕ) (at : ℕ → Turns) (from : ℕ) (body : Body) → IsBare body → IsStillTold epoch at from body
-bare_still epoch at from (Numbers n u r l) bare = absurd bare
-bare_still epoch at from _ bare = tt
-
-tree_still : (epoch : ℕ) (at : ℕ → Turns) (s : ScriptData) (st : Node) (does : Body) (from : ℕ) (body : Body)
-    → SentIn s st does body
-    → IsStillTold epoch at from body
-tree_still epoch at s st does from (Numbers n u r l) sent = absurd sent
-tree_still epoch at s st does from _ sent = tt
-
 sent_still : (s : ScriptData) (past : List Entry) (e : Entry) (epoch : ℕ) (body : Body) → IsSentBy s past e body
     → IsStillTold epoch (turns_in s (e ∷ past)) e.actor.0 body
-sent_still s past e epoch body (Bare bare) = bare_still epoch (turns_in s (e ∷ past)) e.actor.0 body bare
-sent_still s past e epoch body (OfTree p r work sent) =
-    tree_still epoch (turns_in s (e ∷ past)) s (node_in s past p) r.body e.actor.0 body sent
-sent_still s past e epoch body (Asks n bd is) =
-    subst (IsStillTold epoch (turns_in s (e ∷ past)) e.actor.0) (sym is) tt
-sent_still s past e epoch body (Numbered p n at lt bd same is) =
-    subst (IsStillTold epoch (turns_in s (e ∷ past)) e.actor.0) (sym is) (λ now.
-    subst (λ (a : ℕ). IsStill (turns_in s (e ∷ past) a) (turns_in s past p).read (turns_in s past p).low) (sym at) (record {
-      read = ap (λ (x : Core). x.node.turns.read.0) same;
-      low = ap (λ (x : Core). x.node.turns.low.0) same;
-    }))
-sent_still s past e epoch body (Answered n what v bd is) =
-    subst (IsStillTold epoch (turns_in s (e ∷ past)) e.actor.0) (sym is) tt
+sent_still s past e epoch body is = grind arith
 
 -- what holds of each letter in flight, to be as it should
 pub each_now : (P : Letter → Type 0) (s : ScriptData) (past : List Entry) → IsTreeLawful s → IsStepRun s past → IsGood s past
     → Each P (in_flight s past)
-    → Each (λ (l : Letter). IsLetterMeant s l × (IsRight s past l.from.0 l.to.0 l.body × P l)) (in_flight s past)
+    → Each (λ (l : Letter). IsLetterMeant s l × (IsLetterRight s past l × P l)) (in_flight s past)
 each_now P s past laws run good all =
-    each_both (IsLetterMeant s) (λ (l : Letter). IsRight s past l.from.0 l.to.0 l.body × P l) (in_flight s past)
+    each_both (IsLetterMeant s) (λ (l : Letter). IsLetterRight s past l × P l) (in_flight s past)
     (each_waits (IsLetterMeant s) s past (letters_are_meant s past laws.valid run))
-    (each_both (λ (l : Letter). IsRight s past l.from.0 l.to.0 l.body) P (in_flight s past) good.letters all)
+    (each_both (IsLetterRight s past) P (in_flight s past) good.letters all)
 
 aside_letters : (s : ScriptData) (past : List Entry) (e : Entry) → IsTreeLawful s → IsStepRun s (e ∷ past) → IsGood s past
     → Aside s past e → (restarting_in s past).phase ≡ Recovering
@@ -230,7 +162,7 @@ aside_letters s past e laws run good next waits was =
     let P = λ (l : Letter). IsStillTold c.epoch (turns_in s past) l.from.0 l.body in
     let Q = λ (l : Letter). IsStillTold c.epoch (turns_in s (e ∷ past)) l.from.0 l.body in
     each_step Q s past e
-    (each_map (λ (l : Letter). IsLetterMeant s l × (IsRight s past l.from.0 l.to.0 l.body × P l)) Q (in_flight s past)
+    (each_map (λ (l : Letter). IsLetterMeant s l × (IsLetterRight s past l × P l)) Q (in_flight s past)
     (λ l all. old_still s past e l.from.0 l.to.0 l.body good run.0 next waits all.0 all.1.0 all.1.1)
     (each_now P s past laws run.1 good was))
     (each_map (λ (o : Outgoing). IsSentBy s past e o.body)
@@ -244,7 +176,7 @@ aside_steady : (s : ScriptData) (past : List Entry) (e : Entry) (phase : Restart
     → (q : ℕ) → q < s.nodes → IsNoFurther phase (restarting_in s past).ended (turns_in s (e ∷ past) q)
 aside_steady s past e phase good m next at knows was = λ q lt.
     let c = restarting_in s past in
-    let steady = steady_by s past phase (subst (IsInPhase s past) at good.phased) knows in
+    let steady = steady_in s past phase good at knows in
     further_moved c (turns_in s past q) (turns_in s (e ∷ past) q) phase at
     (moved s past e q good m next lt (steady.level q lt).since)
     (was q lt)
@@ -254,7 +186,7 @@ aside_nodes : (s : ScriptData) (past : List Entry) (e : Entry) (phase : RestartP
     → AreExact s.nodes phase (restarting_in s past).ended (restarting_in s past).told (turns_in s past)
     → AreExact s.nodes phase (restarting_in s past).ended (restarting_in s past).told (turns_in s (e ∷ past))
 aside_nodes s past e Recovering good m next at was = λ q t lt has.
-    let heard = (heard_now s past good at).nodes q t lt has in
+    let heard = (in_phase s past Recovering good at).nodes q t lt has in
     still_moved (restarting_in s past) (turns_in s past q) (turns_in s (e ∷ past) q) t.read t.low at
     (moved s past e q good m next lt heard.latest.epoch) (was q t lt has)
 aside_nodes s past e Idle good m next at was = aside_steady s past e Idle good m next at (λ is. cc is) was

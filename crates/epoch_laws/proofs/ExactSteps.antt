@@ -1,9 +1,8 @@
 -- What each step of a coordinator that forgets makes of exact versions: it keeps what it was told just as it is, and goes on in
 -- the phase in which nodes are.
-use Rattle.std.proofs.Common.{◌≡◌, ◌≢◌, ◌⊎◌, inl, inr, ℕ, zero, suc, ◌+◌, ◌<◌, ◌≤◌, ◌==◌, ◌||◌, Bool, true, false, [], ◌∷◌, length, refl, sym, subst, ◌∙◌, arith, Option, Some}
-use Rattle.std.specs.Prelude.{if◌then◌else◌, max, nat_lt, not, slice_set}
+use Rattle.std.proofs.Common.{◌≡◌, ◌≢◌, ℕ, zero, suc, ◌+◌, ◌<◌, ◌≤◌, ◌==◌, ◌||◌, Bool, true, false, [], ◌∷◌, length, refl, sym, subst, ◌∙◌, arith, Option, Some}
+use Rattle.std.specs.Prelude.{max, not, slice_set}
 use Rattle.std.specs.List.{list_any}
-use Rattle.std.proofs.lemmas.Bool.Decides.{nat_tests}
 use Rattle.std.proofs.lemmas.List.{length-set}
 use Rattle.std.proofs.lemmas.Bool.{eqb-false}
 use Rattle.tv_base.specs.Outside.{one_more}
@@ -11,17 +10,18 @@ use Rattle.tv_base.specs.declared.numbers.Version.{Version}
 use Rattle.letter_types.specs.declared.bodies.Body.{Body}
 use Rattle.letter_types.specs.declared.bodies.Body.TheVariants.{Go, Numbers}
 use Rattle.letter_types.specs.declared.bodies.What.{What}
-use Rattle.letter_types.specs.declared.bodies.What.TheVariants.{Turn as ToTurn, Show as ToShow, Sweep as ToSweep}
+use Rattle.letter_types.specs.declared.bodies.What.TheVariants.{Turn as ToTurn, Sweep as ToSweep}
 use Rattle.letter_types.specs.Steps.{Out, still}
 use Rattle.node_versions.specs.declared.turns.Turns.{Turns}
-use Rattle.world_model.specs.Restarting.{AllTold, Restarting, after_doing, begin_counting, end_counting, enter, forget, in_restart_phase, least_low, low_differs, next_advance, phase_by, read_is, resume, update_is, with_wanted}
+use Rattle.world_model.specs.Restarting.{AllTold, Restarting, after_doing, begin_counting, end_counting, enter, forget, in_restart_phase, least_low, low_differs, next_advance, phase_by, read_is, resume, with_wanted}
 use Rattle.world_model.specs.declared.restarting.RestartPhase.{RestartPhase}
 use Rattle.world_model.specs.declared.restarting.RestartPhase.TheVariants.{Idle, Recovering, Doing, Counting, Paused}
 use Rattle.world_model.specs.declared.restarting.Told.{Told}
 use Rattle.phase_out.specs.Counts.{nudged}
 use Rattle.phase_laws.proofs.Outcomes.{one_more_is}
 use Rattle.phase_laws.proofs.Waves.{set_get}
-use Rattle.epoch_laws.proofs.RecoverSteps.{HasHeard, Knows, Misses, Recovery, by_knows, recovery}
+use Rattle.epoch_laws.proofs.Good.{Knows}
+use Rattle.epoch_laws.proofs.RecoverSteps.{HasHeard, Misses, Recovery, by_knows, phase_each, recovery}
 use Rattle.epoch_laws.proofs.RestartSteps.{HearsMore, OfClient, OfNode, RestartStep, asked_kept, asks_with, done_kept}
 use Rattle.epoch_laws.proofs.RestartSteps.{Acks, Agrees, Ends, Flags, Forgets, Goes, KeepsAsked, KeepsDone, Pauses, Recounts, Recovers, Rests, Resumes, Wants}
 use Rattle.epoch_laws.proofs.ToldLists.{HasTold, all_told, none_told}
@@ -50,10 +50,10 @@ pub record IsStill (turns : Turns) (r l : Version) : Type 0 where
 
 -- n nodes have these versions: where the coordinator knows how many advancements have ended they are no further than that, and
 -- else just as they have told
-abbrev pub AreNoFurther : ℕ → RestartPhase → ℕ → (ℕ → Turns) → Type 0
+abbrev AreNoFurther : ℕ → RestartPhase → ℕ → (ℕ → Turns) → Type 0
 AreNoFurther n phase f at = (q : ℕ) → q < n → IsNoFurther phase f (at q)
 
-abbrev pub AreStill : ℕ → AllTold → (ℕ → Turns) → Type 0
+abbrev AreStill : ℕ → AllTold → (ℕ → Turns) → Type 0
 AreStill n ts at = (q : ℕ) (t : Told) → q < n → HasTold ts q t → IsStill (at q) t.read t.low
 
 abbrev pub AreExact : ℕ → RestartPhase → ℕ → AllTold → (ℕ → Turns) → Type 0
@@ -82,10 +82,7 @@ in_phase n c at phase is was = subst (λ (p : RestartPhase). AreExact n p c.ende
 
 next_exact : (n f wanted : ℕ) (ts : AllTold) (at : ℕ → Turns)
     → ((q : ℕ) → q < n → ((at q).low.0 ≤ f) × ((at q).read.0 ≤ f)) → AreExact n (next_advance wanted f) f ts at
-next_exact n f wanted ts at all = by (nat_lt f wanted) where
-  by : (b : Bool) → AreExact n (if b then Doing ToTurn else Idle) f ts at
-  by true = λ q lt. record { low = (all q lt).0; read = (all q lt).1 }
-  by false = λ q lt. record { low = (all q lt).0; read = (all q lt).1 }
+next_exact n f wanted ts at all = grind arith
 
 counting_exact : (n f : ℕ) (reads : Bool) (at : ℕ → Turns) → AreNoFurther n (Paused reads) f at
     → AreNoFurther n (Counting reads) f at
@@ -105,12 +102,7 @@ ends_exact n false c at was = λ q lt. record { low = (was q lt).low; read = ome
 done_exact : (n : ℕ) (what : What) (c : Restarting) (at : ℕ → Turns) → AreNear n c.ended at
     → AreNoFurther n (Doing what) c.ended at
     → IsExactFor n (after_doing what c).state at
-done_exact n ToTurn c at near was = λ q lt. record { low = (was q lt).low; read = (was q lt).read }
-done_exact n ToShow c at near was = λ q lt. record { low = (was q lt).low; read = (was q lt).read }
-done_exact n ToSweep c at near was =
-    let next : one_more c.ended ≡ c.ended + 1 = one_more_is c.ended (omega (arith, near.small)) in
-    next_exact n (one_more c.ended) c.wanted c.told at
-    (λ q lt. (omega (arith, next, near.low q lt), omega (arith, next, near.read q lt)))
+done_exact n what c at near was = grind arith
 
 -- It resumes: by what all nodes have told.
 -- where no node passes a test, each fails it
@@ -127,7 +119,7 @@ none_passes test (o ∷ ts) zero t none has =
 none_passes test (o ∷ ts) (suc q) t none has = none_passes test ts q t (either_false (test o) (list_any test ts) none).1 has
 
 not_other : (a f : ℕ) → not (a == f) ≡ false → a ≡ f
-not_other a f is = grind (arith, nat_tests)
+not_other a f is = grind arith
 
 at_most : (a f v : ℕ) → a ≤ f + 1 → v ≡ f + 1 → a ≢ v → a ≤ f
 at_most a f v le is ne = grind arith
@@ -153,27 +145,18 @@ reads_are n ts at f q told near none lt =
     at_most (at q).read.0 f (one_more f) (near.read q lt) (one_more_is f (omega (arith, near.small)))
     (λ same. other (sym is ∙ same))
 
-resumes_by : (n : ℕ) (ts : AllTold) (at : ℕ → Turns) (f wanted : ℕ) (sweeps shows turns : Bool) → HasToldAll n ts at
-    → AreNear n f at
-    → list_any (low_differs f) ts ≡ sweeps → list_any (read_is (one_more f)) ts ≡ shows
-    → AreExact n
-    (if sweeps then Doing ToSweep else if shows then Doing ToShow else if turns then Doing ToTurn else next_advance wanted f)
-    f ts at
-resumes_by n ts at f wanted true shows turns told near lows reads =
-    λ q lt. record { low = near.low q lt; read = near.read q lt }
-resumes_by n ts at f wanted false true turns told near lows reads =
-    λ q lt. record { low = omega (arith, lows_are n ts at f q told lows lt); read = near.read q lt }
-resumes_by n ts at f wanted false false true told near lows reads =
-    λ q lt. record { low = omega (arith, lows_are n ts at f q told lows lt); read = reads_are n ts at f q told near reads lt }
-resumes_by n ts at f wanted false false false told near lows reads =
-    next_exact n f wanted ts at
-    (λ q lt. (omega (arith, lows_are n ts at f q told lows lt), reads_are n ts at f q told near reads lt))
-
 resumes_exact : (n : ℕ) (ts : AllTold) (at : ℕ → Turns) (f wanted : ℕ) → HasToldAll n ts at → AreNear n f at
     → AreExact n (phase_by ts wanted f) f ts at
 resumes_exact n ts at f wanted told near =
-    resumes_by n ts at f wanted (list_any (low_differs f) ts) (list_any (read_is (one_more f)) ts)
-    (list_any (update_is (one_more (one_more f))) ts) told near refl refl
+    phase_each (λ (p : RestartPhase). AreExact n p f ts at) ts wanted f
+    (λ a q lt. record { low = near.low q lt; read = near.read q lt })
+    (λ a b q lt. record { low = omega (arith, lows_are n ts at f q told a lt); read = near.read q lt })
+    (λ a b c q lt. record {
+      low = omega (arith, lows_are n ts at f q told a lt);
+      read = reads_are n ts at f q told near b lt;
+    })
+    (λ a b. next_exact n f wanted ts at
+    (λ q lt. (omega (arith, lows_are n ts at f q told a lt), reads_are n ts at f q told near b lt)))
 
 recovered_exact : (n : ℕ) (d : Restarting) (at : ℕ → Turns) (out : Out Restarting) → d.phase ≡ Recovering → length d.told ≡ n
     → AreStill n d.told at → IsNearIn n out.state at → Recovery d out → IsExactFor n out.state at
@@ -201,12 +184,7 @@ record IsToldMore (n : ℕ) (d : Restarting) (at : ℕ → Turns) : Type 0 where
 
 put_still : (n : ℕ) (ts : AllTold) (at : ℕ → Turns) (from : ℕ) (t : Told) → AreStill n ts at → IsStill (at from) t.read t.low
     → AreStill n (slice_set ts from (Some t)) at
-put_still n ts at from t was now = λ q x lt has. by q x lt (set_get ts from q (Some t) (Some x) has) where
-  by : (q : ℕ) (x : Told) → q < n → ((from ≡ q) × (Some t ≡ Some x)) ⊎ HasTold ts q x → IsStill (at q) x.read x.low
-  by q x lt (inl (here, same)) =
-      let is : t ≡ x = cc same in
-      subst (λ (k : ℕ). IsStill (at k) x.read x.low) here (subst (λ (y : Told). IsStill (at from) y.read y.low) is now)
-  by q x lt (inr has) = was q x lt has
+put_still n ts at from t was now = grind (arith, set_get)
 
 hears_exact : (n : ℕ) (c d : Restarting) (at : ℕ → Turns) (from : ℕ) (body : Body) → length c.told ≡ n → c.phase ≡ Recovering
     → AreStill n c.told at → IsStillTold c.epoch at from body → HearsMore c from body d → IsToldMore n d at

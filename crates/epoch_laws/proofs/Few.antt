@@ -4,7 +4,7 @@ use Rattle.std.proofs.Common.{◌≡◌, ◌≢◌, inl, inr, ℕ, ◌+◌, ◌*
 use Rattle.std.proofs.Math.Seq.{take-add}
 use Rattle.std.proofs.lemmas.List.{take-append-drop}
 use Rattle.letter_types.specs.declared.bodies.Body.{Body}
-use Rattle.letter_types.specs.declared.bodies.Body.TheVariants.{Go, AdvanceNo, Wanted, Lose, Sub as SubLetter, Done, Reply, Decide, Decided, Release, Wake, Obeyed}
+use Rattle.letter_types.specs.declared.bodies.Body.TheVariants.{Go, AdvanceNo, Wanted, Lose, Wake, Obeyed}
 use Rattle.letter_types.specs.declared.entries.Entry.{Entry}
 use Rattle.letter_types.specs.declared.entries.Letter.{Letter}
 use Rattle.letter_types.specs.declared.entries.Outgoing.{Outgoing}
@@ -27,7 +27,6 @@ use Rattle.world_model.proofs.Every.{each_append, each_map, each_none, each_step
 use Rattle.world_model.proofs.Flows.{client_kept, flow}
 use Rattle.world_model.proofs.Lawful.{nudged}
 use Rattle.world_model.proofs.Nexts.{MadeByClient, Order}
-use Rattle.world_model.proofs.Nexts.{Turns, Shows, Sweeps, TellsDone, TellsAsked as TellsRequests}
 use Rattle.world_model.proofs.Restarts.{restarting_each}
 use Rattle.world_model.proofs.Sends.{advance_each, on}
 use Rattle.phase_laws.specs.Advances.{asked_for}
@@ -55,6 +54,11 @@ pub record IsFew (s : ScriptData) (past : List Entry) : Type 0 where
   pub heard : (k : ℕ) → (restarting_in s past).heard ≡ Some k → k ≤ asked_for s past
   pub letters : Each (λ (l : Letter). TellsAsked s past l.body) (in_flight s past)
   pub number : (restarting_in s past).count.number < ((restarting_in s past).epoch + 1) * 2 ^ 32
+
+pub took_asked : (s : ScriptData) (past : List Entry) (e : Entry) (body : Body) → IsFew s past → MayFollow s past e
+    → e.took.body ≡ body → TellsAsked s past body
+took_asked s past e body few m is =
+    subst (TellsAsked s past) is (each_taken (λ (l : Letter). TellsAsked s past l.body) s past e m few.letters)
 
 -- how often the client has made the coordinator forget
 abbrev pub lost_for : ScriptData → List Entry → ℕ
@@ -116,9 +120,7 @@ request_none Lose plain = absurd plain
 request_none _ plain = refl
 
 request_tells : (s : ScriptData) (past : List Entry) (body : Body) → IsNoRequest body → TellsAsked s past body
-request_tells s past (AdvanceNo i) plain = absurd plain
-request_tells s past (Wanted e k) plain = absurd plain
-request_tells s past _ plain = tt
+request_tells s past body plain = grind arith
 
 none_lose : (os : List Outgoing) → NoRequests os → tally (on is_lose_letter) os ≡ 0
 none_lose os none =
@@ -132,14 +134,7 @@ none_tell s past os none =
     (λ o plain. request_tells s past o.body plain) none
 
 trees_none : (s : ScriptData) (st : Node) (does body : Body) → SentIn s st does body → IsNoRequest body
-trees_none s st does (SubLetter t k v) sent = tt
-trees_none s st does (Done t k v notice) sent = tt
-trees_none s st does (Decide t v commit) sent = tt
-trees_none s st does (Decided t v) sent = tt
-trees_none s st does (Reply t v answer) sent = tt
-trees_none s st does (Release t) sent = tt
-trees_none s st does (Wake t k) sent = tt
-trees_none s st does _ sent = absurd sent
+trees_none s st does body sent = grind arith
 
 wake_none : (body : Body) → IsWake body → IsNoRequest body
 wake_none (Wake t k) wake = tt
@@ -152,11 +147,7 @@ wakes_none os more none woken =
     (λ o wake. wake_none o.body wake) woken)
 
 order_none : (s : ScriptData) (st : Node) (body : Body) (out : Out Node) → Order s st body out → NoRequests out.sent
-order_none s st body out (Turns v bd is) = subst (λ (o : Out Node). NoRequests o.sent) (sym is) (tt, tt)
-order_none s st body out (Shows v bd is) = subst (λ (o : Out Node). NoRequests o.sent) (sym is) (tt, tt)
-order_none s st body out (Sweeps v bd is) = subst (λ (o : Out Node). NoRequests o.sent) (sym is) (tt, tt)
-order_none s st body out (TellsDone v k bd is) = subst (λ (o : Out Node). NoRequests o.sent) (sym is) (tt, tt)
-order_none s st body out (TellsRequests v k bd is) = subst (λ (o : Out Node). NoRequests o.sent) (sym is) (tt, tt)
+order_none s st body out is = grind arith
 
 heed_none : (s : ScriptData) (c d : Core) (body : Body) (sent : List Outgoing) → Heed s c d body sent → NoRequests sent
 heed_none s c d body sent (Leaves n of late same none) = subst NoRequests (sym none) tt
@@ -180,9 +171,7 @@ restarts_none s past e made =
 -- What an entry leaves: what letters tell, where no less is asked for.
 tells_more : (s : ScriptData) (past : List Entry) (e : Entry) (body : Body) → asked_for s past ≤ asked_for s (e ∷ past)
     → TellsAsked s past body → TellsAsked s (e ∷ past) body
-tells_more s past e (AdvanceNo i) more tells = omega (arith, more, tells)
-tells_more s past e (Wanted n k) more tells = omega (arith, more, tells)
-tells_more s past e _ more tells = tt
+tells_more s past e body more tells = grind arith
 
 letters_after : (s : ScriptData) (past : List Entry) (e : Entry) → asked_for s past ≤ asked_for s (e ∷ past)
     → Each (λ (l : Letter). TellsAsked s past l.body) (in_flight s past) → AllTell s (e ∷ past) e.sent
@@ -197,12 +186,7 @@ away : (s : ScriptData) (past : List Entry) (e : Entry) → e.actor.0 ≢ s.node
     → count_in_flight is_lose_letter s (e ∷ past) + lost_for s past
     ≤ count_in_flight is_lose_letter s past + lost_for s (e ∷ past)
     → AllTell s (e ∷ past) e.sent → AreFew s past → AreFew s (e ∷ past)
-away s past e ne more lost sent was =
-    subst (λ (c : Restarting). Holds s (e ∷ past) c) (sym (restarting_kept s past e ne)) (record {
-      epoch = omega (arith, was.epoch, lost);
-      letters = letters_after s past e more was.letters sent;
-      small = more_small (advances_in s.rows) _ _ _ _ (restarting_in s past) was.small more (omega arith);
-    })
+away s past e ne more lost sent was = grind (arith, letters_after, restarting_kept)
 
 by_node : (s : ScriptData) (past : List Entry) (e : Entry) → MayFollow s past e → e.actor.0 < s.nodes → NoRequests e.sent
     → AreFew s past → AreFew s (e ∷ past)
@@ -316,16 +300,4 @@ all_few s (e ∷ past) laws loses run apt =
 -- in every run
 pub few : (s : ScriptData) (past : List Entry) → IsTreeLawful s → is_lossy s ≡ true → IsStepRun s past → AllApt s past
     → IsFew s past
-few s past laws loses run apt =
-    let h = all_few s past laws loses run apt in
-    let asked : asked_for s past ≤ advances_in s.rows = asked_most (client_in s past).next s.rows in
-    let nudges : nudged past ≤ 20000 = omega (arith, laws.nudges past run apt, laws.valid.few_trees) in
-    record {
-      epoch = omega (arith, h.epoch, lost_most (client_in s past).next s.rows, laws.valid.limited.loses);
-      lost = omega (arith, h.epoch, lost_most (client_in s past).next s.rows);
-      asked = omega (arith, asked, laws.valid.limited.advances);
-      wanted = h.small.wanted;
-      heard = h.small.heard;
-      letters = h.letters;
-      number = omega (arith, h.small.rounds, laws.valid.limited.advances, nudges);
-    }
+few s past laws loses run apt = grind (arith, all_few, asked_most, lost_most)

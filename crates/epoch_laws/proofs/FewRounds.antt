@@ -1,9 +1,7 @@
 -- How many rounds a coordinator that forgets may begin in one epoch, and what each of its steps makes of its numbers.
-use Rattle.std.proofs.Common.{◌≡◌, ℕ, ◌+◌, ◌-◌, ◌*◌, ◌^◌, ◌<◌, ◌≤◌, Bool, true, false, List, refl, sym, ap, subst, ◌∙◌, Option, Some, None, arith}
-use Rattle.std.specs.Prelude.{if◌then◌else◌, max, nat_lt, not, is_some}
-use Rattle.std.specs.List.{list_all, list_any}
+use Rattle.std.proofs.Common.{◌≡◌, ℕ, ◌+◌, ◌-◌, ◌*◌, ◌^◌, ◌≤◌, Bool, true, List, refl, sym, ap, subst, ◌∙◌, Some, arith}
+use Rattle.std.specs.Prelude.{max, not}
 use Rattle.std.proofs.Math.Nat.{max-le, min-le_left}
-use Rattle.std.proofs.lemmas.Bool.Decides.{nat_tests}
 use Rattle.tv_base.specs.Outside.{one_more}
 use Rattle.tv_base.proofs.Chosen.{one_more_most}
 use Rattle.phase_out.specs.Counts.{nudged}
@@ -13,12 +11,12 @@ use Rattle.letter_types.specs.declared.bodies.What.{What}
 use Rattle.letter_types.specs.declared.bodies.What.TheVariants.{Turn as ToTurn, Show as ToShow, Sweep as ToSweep}
 use Rattle.letter_types.specs.Steps.{Out}
 use Rattle.world_model.specs.Counts.{one_if}
-use Rattle.world_model.specs.Restarting.{AllTold, Restarting, after_doing, begin_counting, end_advancing, end_counting, first_number, in_restart_phase, least_low, low_differs, next_advance, phase_by, read_is, recover, resume_if, update_is}
+use Rattle.world_model.specs.Restarting.{Restarting, after_doing, begin_counting, end_counting, first_number, in_restart_phase, next_advance, recover}
 use Rattle.world_model.specs.declared.restarting.RestartPhase.{RestartPhase}
 use Rattle.world_model.specs.declared.restarting.RestartPhase.TheVariants.{Idle, Recovering, Doing, Counting, Paused}
 use Rattle.world_model.proofs.Lawful.{is_nudge}
+use Rattle.epoch_laws.proofs.RecoverSteps.{next_each}
 use Rattle.epoch_laws.proofs.RestartSteps.{RestartStep, HearsMore, asked_kept, done_kept}
-use Rattle.epoch_laws.proofs.RestartSteps.{OfNode, OfClient}
 use Rattle.epoch_laws.proofs.RestartSteps.{Rests, Forgets, Wants, Goes, Recovers, Acks, Ends, Flags, Resumes, KeepsDone, KeepsAsked, Agrees, Recounts, Pauses}
 
 -- a letter that makes it forget
@@ -30,7 +28,7 @@ is_lose_letter _ = 0
 -- How many rounds may still begin without a nudge, where at most a advancements are wanted and f have ended: two in each that
 -- hasn't begun, and those that the one in progress hasn't begun. Who recovers doesn't know how many have ended: as it resumes,
 -- nodes may be in one more than are wanted.
-abbrev pub rounds_left : ℕ → RestartPhase → ℕ → ℕ
+abbrev rounds_left : ℕ → RestartPhase → ℕ → ℕ
 rounds_left a Recovering f = 2 * a + 2
 rounds_left a Idle f = 2 * (a - f)
 rounds_left a (Doing ToTurn) f = 2 * (a - (f + 1)) + 2
@@ -46,11 +44,11 @@ remembered Idle flag = 0
 remembered _ flag = 0
 
 -- the rounds that may still begin: those, and one where a nudge is remembered
-abbrev pub still_due : ℕ → RestartPhase → Bool → ℕ → ℕ
+abbrev still_due : ℕ → RestartPhase → Bool → ℕ → ℕ
 still_due a phase flag f = remembered phase flag + rounds_left a phase f
 
 -- with these, the rounds of the epoch so far are one for each of n nudges, and those that begin without one, at most
-abbrev pub AreFewRounds : ℕ → ℕ → Restarting → Type 0
+abbrev AreFewRounds : ℕ → ℕ → Restarting → Type 0
 AreFewRounds a n c = c.count.number + still_due a c.phase c.count.flag c.ended ≤ c.epoch * 2 ^ 32 + n + (2 * a + 2)
 
 -- the coordinator's numbers, where m advancements were asked for and n nudges came: no more are wanted, the client told of no
@@ -83,36 +81,11 @@ pub record StaysSmall (a m n : ℕ) (c : Restarting) (body : Body) (d : Restarti
 first_most : (epoch : ℕ) → first_number epoch ≤ epoch * 2 ^ 32
 first_most epoch = min-le_left (epoch * 2 ^ 32) (2 ^ 64 - 1)
 
--- an advancement has ended, so one less is left
-one_less : (a f : ℕ) → a ≤ 100 → a - one_more f ≤ a - (f + 1)
-one_less a f few = omega (arith, few)
-
 -- The phases with which it goes on.
-next_by : (P : RestartPhase → Type 0) (wanted f : ℕ) (test : Bool) → nat_lt f wanted ≡ test → (f < wanted → P (Doing ToTurn))
-    → P Idle → P (if test then Doing ToTurn else Idle)
-next_by P wanted f true is turns rests = turns (grind (arith, nat_tests))
-next_by P wanted f false is turns rests = rests
-
 -- the next advancement begins where it is wanted, so where not as many have ended as may be wanted
 next_due : (a wanted f : ℕ) (flag : Bool) → wanted ≤ a → still_due a (next_advance wanted f) flag f ≤ 2 * (a - f)
 next_due a wanted f flag few =
-    next_by (λ phase. still_due a phase flag f ≤ 2 * (a - f)) wanted f (nat_lt f wanted) refl
-    (λ lt. omega (arith, lt, few)) (omega arith)
-
-by_told : (P : RestartPhase → Type 0) (lows reads updates : Bool) (next : RestartPhase) → P (Doing ToSweep) → P (Doing ToShow)
-    → P (Doing ToTurn) → P next
-    → P (if lows then Doing ToSweep else if reads then Doing ToShow else if updates then Doing ToTurn else next)
-by_told P true reads updates next sweeps shows turns goes = sweeps
-by_told P false true updates next sweeps shows turns goes = shows
-by_told P false false true next sweeps shows turns goes = turns
-by_told P false false false next sweeps shows turns goes = goes
-
--- on resuming, at most as many are left as before
-told_due : (a wanted f : ℕ) (flag : Bool) (ts : AllTold) → wanted ≤ a → still_due a (phase_by ts wanted f) flag f ≤ 2 * a + 2
-told_due a wanted f flag ts few =
-    by_told (λ phase. still_due a phase flag f ≤ 2 * a + 2) (list_any (low_differs f) ts) (list_any (read_is (one_more f)) ts)
-    (list_any (update_is (one_more (one_more f))) ts) (next_advance wanted f) (omega arith) (omega arith) (omega arith)
-    (omega (arith, next_due a wanted f flag few))
+    next_each (λ phase. still_due a phase flag f ≤ 2 * (a - f)) wanted f (λ lt. omega (arith, lt, few)) (λ le. omega arith)
 
 -- Steps.
 -- the epoch, what is wanted and what was heard stay
@@ -134,73 +107,16 @@ due_at a c phase at = ap (λ (p : RestartPhase). still_due a p c.count.flag c.en
 
 ends_small : (a m n : ℕ) (c : Restarting) (body : Body) (what : What) → a ≤ 100 → m ≤ a → AreSmall a m n c
     → c.phase ≡ Doing what → StaysSmall a m n c body (after_doing what c).state
-ends_small a m n c body ToTurn few most was at =
-    same_small a m n c (begin_counting false c).state body was refl refl refl
-    (omega (arith, was.rounds, due_at a c (Doing ToTurn) at, one_more_most c.count.number))
-ends_small a m n c body ToShow few most was at =
-    same_small a m n c (begin_counting true c).state body was refl refl refl
-    (omega (arith, was.rounds, due_at a c (Doing ToShow) at, one_more_most c.count.number))
-ends_small a m n c body ToSweep few most was at =
-    same_small a m n c (end_advancing c).state body was refl refl refl (omega (
-      arith,
-      was.rounds,
-      due_at a c (Doing ToSweep) at,
-      one_less a c.ended few,
-      next_due a c.wanted (one_more c.ended) c.count.flag (omega (arith, was.wanted, most)),
-    ))
+ends_small a m n c body what few most was at = grind (arith, next_due, same_small)
 
 agrees_small : (a m n : ℕ) (c : Restarting) (from : ℕ) (row : List ℕ) (body : Body) (reads : Bool) → AreSmall a m n c
     → c.phase ≡ Counting reads → StaysSmall a m n c body (end_counting reads (asked_kept from row c)).state
-agrees_small a m n c from row body false was at =
-    same_small a m n c _ body was refl refl refl (omega (arith, was.rounds, due_at a c (Counting false) at))
-agrees_small a m n c from row body true was at =
-    same_small a m n c _ body was refl refl refl (omega (arith, was.rounds, due_at a c (Counting true) at))
-
--- it resumes, or still misses something
-resumes_small : (a m n : ℕ) (c : Restarting) (body : Body) (all : Bool) (told : Option ℕ) → m ≤ a → AreSmall a m n c
-    → c.phase ≡ Recovering → c.heard ≡ told → StaysSmall a m n c body (resume_if all told c).state
-resumes_small a m n c body true (Some k) most was at is =
-    let wanted : max c.wanted k ≤ m = max-le was.wanted (was.heard k is) in
-    record {
-      epoch = omega arith;
-      small = record {
-        wanted = wanted;
-        heard = was.heard;
-        rounds = omega (
-          arith,
-          was.rounds,
-          due_at a c Recovering at,
-          told_due a (max c.wanted k) (least_low c.told) c.count.flag c.told (omega (arith, wanted, most)),
-        );
-      };
-    }
-resumes_small a m n c body true None most was at is = same_small a m n c c body was refl refl refl (omega (arith, was.rounds))
-resumes_small a m n c body false told most was at is = same_small a m n c c body was refl refl refl (omega (arith, was.rounds))
+agrees_small a m n c from row body reads was at = grind arith
 
 -- what it hears it keeps, and then it resumes if all is there
-heard_small : (a m n : ℕ) (c d : Restarting) (from : ℕ) (body : Body) → TellsUpTo m body → AreSmall a m n c
-    → HearsMore c from body d → (d.epoch ≡ c.epoch) × (d.phase ≡ c.phase) × AreSmall a m n d
-heard_small a m n c d from body tells was (OfNode u r l bd lt is) =
-    subst (λ (x : Restarting). (x.epoch ≡ c.epoch) × (x.phase ≡ c.phase) × AreSmall a m n x) (sym is)
-    (refl, refl, record { wanted = was.wanted; heard = was.heard; rounds = was.rounds })
-heard_small a m n c d from body tells was (OfClient k bd client is) =
-    subst (λ (x : Restarting). (x.epoch ≡ c.epoch) × (x.phase ≡ c.phase) × AreSmall a m n x) (sym is) (
-      refl,
-      refl,
-      record {
-        wanted = was.wanted;
-        heard = λ j told. let same : k ≡ j = grind arith in subst (λ (i : ℕ). i ≤ m) same (tells.told c.epoch k bd);
-        rounds = was.rounds;
-      },
-    )
-
 hears_small : (a m n : ℕ) (c d : Restarting) (from : ℕ) (body : Body) → m ≤ a → TellsUpTo m body → AreSmall a m n c
     → c.phase ≡ Recovering → HearsMore c from body d → StaysSmall a m n c body (recover d).state
-hears_small a m n c d from body most tells was at hears =
-    let (epoch, phase, now) = heard_small a m n c d from body tells was hears in
-    let next : StaysSmall a m n d body (recover d).state =
-    resumes_small a m n d body (list_all is_some d.told) d.heard most now (phase ∙ at) refl in
-    record { epoch = omega (arith, next.epoch, epoch); small = next.small }
+hears_small a m n c d from body most tells was at hears = grind arith
 
 -- each step
 pub stays_small : (a m n : ℕ) (c : Restarting) (from : ℕ) (body : Body) (out : Out Restarting) → a ≤ 100 → m ≤ a

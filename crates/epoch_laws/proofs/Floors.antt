@@ -1,10 +1,9 @@
 -- From where on the versions of nodes are while a coordinator that forgets recovers, and what they tell it. It goes on from
 -- there.
-use Rattle.std.proofs.Common.{◌≡◌, ◌≢◌, ◌⊎◌, inl, inr, ℕ, zero, suc, ◌+◌, ◌<◌, ◌≤◌, ◌==◌, Bool, true, List, [], ◌∷◌, length, refl, sym, ap, subst, ◌∙◌, arith, Option, Some, None}
+use Rattle.std.proofs.Common.{◌≡◌, ◌≢◌, ℕ, zero, suc, ◌+◌, ◌<◌, ◌≤◌, Bool, true, List, [], ◌∷◌, length, refl, sym, ap, subst, ◌∙◌, arith, Option, Some, None}
 use Rattle.std.specs.Prelude.{is_some, replicate}
 use Rattle.std.specs.List.{list_all, list_any}
 use Rattle.std.proofs.lemmas.Bool.{or_left, or_right, eq-eqb}
-use Rattle.std.proofs.lemmas.Bool.Decides.{nat_tests}
 use Rattle.std.proofs.lemmas.Option.{slice_get_within}
 use Rattle.tv_base.specs.Outside.{one_more}
 use Rattle.tv_base.specs.declared.numbers.Version.{Version}
@@ -16,21 +15,18 @@ use Rattle.letter_types.specs.declared.entries.LetterId.{LetterId}
 use Rattle.letter_types.specs.declared.entries.Outgoing.{Outgoing}
 use Rattle.tx_trees.specs.ScriptData.{ScriptData}
 use Rattle.tx_trees.specs.Valid.{IsValid}
-use Rattle.tx_trees.proofs.Rebuilding.{asked_most}
 use Rattle.world_model.specs.Counts.{Each, one_if}
 use Rattle.world_model.specs.Keeping.{KeepingNode}
-use Rattle.world_model.specs.Node.{Node}
 use Rattle.world_model.specs.Restarting.{AllTold, Restarting, least_low, read_is}
-use Rattle.world_model.specs.Runs.{MayFollow, client_in, in_flight, keeping_in, node_in, restarting_in}
+use Rattle.world_model.specs.Runs.{MayFollow, in_flight, keeping_in, restarting_in}
 use Rattle.world_model.specs.declared.restarting.Told.{Told}
 use Rattle.world_model.proofs.Every.{each_map, each_step, each_taken}
 use Rattle.phase_laws.proofs.Outcomes.{one_more_is}
 use Rattle.phase_laws.proofs.Waves.{set_get}
-use Rattle.phase_laws.proofs.Working.{SentIn}
-use Rattle.epoch_laws.proofs.Aside.{Answered, Aside, Asks, Bare, IsBare, IsSentBy, Numbered, OfTree, sends_aside}
+use Rattle.epoch_laws.proofs.Aside.{Aside, IsSentBy, sends_aside}
 use Rattle.epoch_laws.proofs.AtCoordinator.{held_at}
-use Rattle.epoch_laws.proofs.Good.{IsGood, IsHeardOf, IsRight, turns_in}
-use Rattle.epoch_laws.proofs.Prices.{OneMore, Same, TellsMore}
+use Rattle.epoch_laws.proofs.Good.{IsGood, IsHeardOf, IsLetterRight, IsRight, low_few, turns_in}
+use Rattle.epoch_laws.proofs.Prices.{TellsMore}
 use Rattle.epoch_laws.proofs.Away.{restarting_kept}
 use Rattle.epoch_laws.proofs.GoodResumes.{HasHeard}
 use Rattle.epoch_laws.proofs.Rising.{Rises, fares}
@@ -66,24 +62,10 @@ pub record IsFloor (s : ScriptData) (past : List Entry) (f : ℕ) (shown : Bool)
   pub told : (q : ℕ) (t : Told) → HasTold (restarting_in s past).told q t → IsFrom f shown t.read.0 t.low.0
 
 -- Entries of the client and of nodes.
-bare_from : (e f : ℕ) (shown : Bool) (body : Body) → IsBare body → TellsFrom e f shown body
-bare_from e f shown (Numbers d u r l) bare = absurd bare
-bare_from e f shown _ bare = tt
-
-tree_from : (e f : ℕ) (shown : Bool) (s : ScriptData) (st : Node) (does body : Body) → SentIn s st does body
-    → TellsFrom e f shown body
-tree_from e f shown s st does (Numbers d u r l) sent = absurd sent
-tree_from e f shown s st does _ sent = tt
-
 sent_from : (s : ScriptData) (past : List Entry) (e : Entry) (n f : ℕ) (shown : Bool) (body : Body)
     → ((q : ℕ) → q < s.nodes → IsFrom f shown (turns_in s past q).read.0 (turns_in s past q).low.0) → IsSentBy s past e body
     → TellsFrom n f shown body
-sent_from s past e n f shown body nodes (Bare bare) = bare_from n f shown body bare
-sent_from s past e n f shown body nodes (OfTree p r work sent) = tree_from n f shown s (node_in s past p) r.body body sent
-sent_from s past e n f shown body nodes (Asks k bd is) = subst (TellsFrom n f shown) (sym is) tt
-sent_from s past e n f shown body nodes (Numbered p k at lt bd same is) =
-    subst (TellsFrom n f shown) (sym is) (λ now. nodes p lt)
-sent_from s past e n f shown body nodes (Answered k what v bd is) = subst (TellsFrom n f shown) (sym is) tt
+sent_from s past e n f shown body nodes is = grind arith
 
 pub floor_aside : (s : ScriptData) (past : List Entry) (e : Entry) (f : ℕ) (shown : Bool) → IsGood s past → MayFollow s past e
     → e.actor.0 ≢ s.nodes → Aside s past e → IsFloor s past f shown → IsFloor s (e ∷ past) f shown
@@ -110,27 +92,19 @@ floor_aside s past e f shown good m away aside was =
     }
 
 -- Entries of the coordinator: nodes stay.
-pub nodes_stay : (s : ScriptData) (past : List Entry) (e : Entry) (f : ℕ) (shown : Bool) → e.actor.0 ≡ s.nodes
+nodes_stay : (s : ScriptData) (past : List Entry) (e : Entry) (f : ℕ) (shown : Bool) → e.actor.0 ≡ s.nodes
     → ((q : ℕ) → q < s.nodes → IsFrom f shown (turns_in s past q).read.0 (turns_in s past q).low.0)
     → (q : ℕ) → q < s.nodes → IsFrom f shown (turns_in s (e ∷ past) q).read.0 (turns_in s (e ∷ past) q).low.0
 nodes_stay s past e f shown at was q lt =
     held_at (λ (n : KeepingNode). IsFrom f shown n.core.node.turns.read.0 n.core.node.turns.low.0) s past e q at lt (was q lt)
 
 -- What holds of all that was told, and of what is told now, holds of all that is told with it.
-pub told_each : (P : ℕ → Told → Type 0) (c : Restarting) (from : ℕ) (body : Body) (ts : AllTold) → TellsMore c from body ts
+told_each : (P : ℕ → Told → Type 0) (c : Restarting) (from : ℕ) (body : Body) (ts : AllTold) → TellsMore c from body ts
     → ((q : ℕ) (t : Told) → HasTold c.told q t → P q t)
     → ((u r l : Version) → body ≡ Numbers c.epoch u r l → from < length c.told
     → P from (record { update = u; read = r; low = l }))
     → (q : ℕ) (t : Told) → HasTold ts q t → P q t
-told_each P c from body ts (Same is) old new q t has = old q t (subst (λ (x : AllTold). HasTold x q t) is has)
-told_each P c from body ts (OneMore u r l bd lt is) old new q t has =
-    by (set_get c.told from q (Some now) (Some t) (subst (λ (x : AllTold). HasTold x q t) is has)) where
-      now : Told
-      now = record { update = u; read = r; low = l }
-
-      by : ((from ≡ q) × (Some now ≡ Some t)) ⊎ HasTold c.told q t → P q t
-      by (inl (at, same)) = let this : now ≡ t = cc same in subst (λ (k : ℕ). P k t) at (subst (P from) this (new u r l bd lt))
-      by (inr there) = old q t there
+told_each P c from body ts more old new q t has = grind (arith, set_get)
 
 -- Numbers of this epoch that are told now are so far too, so all that was told is.
 told_from : (s : ScriptData) (past : List Entry) (e : Entry) (f : ℕ) (shown : Bool) (ts : AllTold) → MayFollow s past e
@@ -164,9 +138,7 @@ floor_waits s past e f shown m at none same more was = record {
 earlier_from : (s : ScriptData) (past : List Entry) (n f : ℕ) (shown : Bool) (from to : ℕ) (body : Body)
     → (restarting_in s past).epoch < n
     → IsRight s past from to body → TellsFrom n f shown body
-earlier_from s past n f shown from to (Numbers d u r l) lt right = λ now. absurd (omega (arith, right.epoch, now, lt))
-earlier_from s past n f shown from to Go lt right = tt
-earlier_from s past n f shown from to _ lt right = tt
+earlier_from s past n f shown from to body lt right = grind arith
 
 pub floor_forgets : (s : ScriptData) (past : List Entry) (e : Entry) (f : ℕ) (shown : Bool) → IsGood s past
     → e.actor.0 ≡ s.nodes → (restarting_in s past).epoch < (restarting_in s (e ∷ past)).epoch
@@ -179,8 +151,7 @@ floor_forgets s past e f shown good at later none asks nodes =
       nodes = nodes_stay s past e f shown at nodes;
       letters =
           each_step (λ (l : Letter). TellsFrom n f shown l.body) s past e
-          (each_map (λ (l : Letter). IsRight s past l.from.0 l.to.0 l.body) (λ (l : Letter). TellsFrom n f shown l.body)
-          (in_flight s past)
+          (each_map (IsLetterRight s past) (λ (l : Letter). TellsFrom n f shown l.body) (in_flight s past)
           (λ l right. earlier_from s past n f shown l.from.0 l.to.0 l.body later right) good.letters)
           (each_map (λ (o : Outgoing). AsksAnew o.body) (λ (o : Outgoing). LetterId → TellsFrom n f shown o.body) e.sent
           (λ o ask i. anew_from n f shown o.body ask) asks);
@@ -195,24 +166,7 @@ record IsSeen (t : Told) (f : ℕ) (shown : Bool) : Type 0 where
 
 seen : (s : ScriptData) (past : List Entry) (q : ℕ) (t : Told) (f : ℕ) (shown : Bool) → IsValid s → IsGood s past → q < s.nodes
     → IsHeardOf s past q t → IsFrom f shown t.read.0 t.low.0 → IsSeen t f shown
-seen s past q t f shown valid good lt heard from =
-    let within = good.within q lt in
-    record {
-      from = from;
-      showed = omega (arith, heard.told.read, within.read_showed, heard.latest.showed);
-      small = omega (
-        arith,
-        heard.told.low,
-        within.low_swept,
-        within.swept_read,
-        within.read_showed,
-        within.showed_update,
-        within.update_turned,
-        good.asked,
-        asked_most (client_in s past).next s.rows,
-        valid.limited.advances,
-      );
-    }
+seen s past q t f shown valid good lt heard from = grind (arith, low_few)
 
 -- a test that one of the told numbers passes
 any_told : (test : Option Told → Bool) (ts : AllTold) (q : ℕ) (t : Told) → HasTold ts q t → test (Some t) ≡ true

@@ -1,28 +1,24 @@
 -- A coordinator that forgets: all is as it should be after each entry of its runs, and so the laws above hold of it.
-use Rattle.std.proofs.Common.{◌≡◌, ◌≢◌, ◌⊎◌, inl, inr, ℕ, ◌+◌, ◌<◌, ◌≤◌, ◌&&◌, ◌||◌, Bool, true, false, List, [], ◌∷◌, refl, sym, ap, subst, ◌∙◌, arith, Some}
-use Rattle.std.specs.Prelude.{nat_le, nat_lt}
-use Rattle.std.proofs.lemmas.Bool.{and_from, cases_eq, le-leb}
-use Rattle.std.proofs.lemmas.Bool.Decides.{nat_tests}
+use Rattle.std.proofs.Common.{◌≡◌, ◌≢◌, ◌⊎◌, inl, inr, ℕ, ◌<◌, ◌≤◌, true, List, [], ◌∷◌, refl, sym, ap, subst, ◌∙◌, arith, Some}
+use Rattle.std.proofs.lemmas.Bool.{cases_eq}
 use Rattle.tv_base.specs.declared.numbers.Version.{Version}
 use Rattle.letter_types.specs.Kept.{brought}
 use Rattle.letter_types.specs.declared.bodies.Body.{Body}
-use Rattle.letter_types.specs.declared.bodies.Body.TheVariants.{Go, AskAsked, AskDone, Order, Show, Sub as SubLetter, Sweep, Turn}
+use Rattle.letter_types.specs.declared.bodies.Body.TheVariants.{Go, Order}
 use Rattle.letter_types.specs.declared.bodies.What.{What}
-use Rattle.letter_types.specs.declared.bodies.What.TheVariants as whats
 use Rattle.letter_types.specs.declared.entries.Entry.{Entry}
 use Rattle.letter_types.specs.declared.entries.Letter.{Letter}
 use Rattle.letter_types.specs.declared.entries.Outgoing.{Outgoing}
-use Rattle.item_versions.proofs.Window.{in_window-is}
 use Rattle.tx_trees.specs.ScriptData.{ScriptData}
 use Rattle.tx_trees.specs.Valid.{IsValid}
 use Rattle.world_model.specs.AllApt.{AllApt}
 use Rattle.world_model.specs.Counts.{Each}
-use Rattle.world_model.specs.Epochs.{is_core_timely, plain_order}
+use Rattle.world_model.specs.Epochs.{is_core_timely}
 use Rattle.world_model.specs.Kept.{kept_in, outstanding}
 use Rattle.script_parts.specs.Counts.{is_lossy}
 use Rattle.world_model.specs.Named.{is_timely}
 use Rattle.world_model.specs.Runs.{IsStepRun, in_flight, keeping_in, node_in}
-use Rattle.world_model.proofs.Every.{each_both, each_map, each_taken}
+use Rattle.world_model.proofs.Every.{each_both, each_map}
 use Rattle.world_model.proofs.EachOutstanding.{each_first, each_waits}
 use Rattle.world_model.proofs.Gone.{under_or}
 use Rattle.strict_laws.specs.Meant.{IsLetterMeant, IsMeant}
@@ -39,10 +35,10 @@ use Rattle.phase_laws.proofs.Governed.{IsGoverned}
 use Rattle.phase_laws.proofs.Lawful.{IsTreeLawful}
 use Rattle.phase_laws.proofs.Levels.{IsOrder as IsOrderLetter}
 use Rattle.phase_laws.proofs.Progress.{course, itself, restarts, told_anew}
-use Rattle.phase_laws.proofs.Sending.{IsApart, Sending, SendsApart, SendsAsked, SendsDone, SendsOrders, sending}
+use Rattle.phase_laws.proofs.Sending.{Sending, sending}
 use Rattle.phase_laws.proofs.Silence.{goes_itself}
 use Rattle.epoch_laws.proofs.Away.{given_kept}
-use Rattle.epoch_laws.proofs.Good.{AllGood, IsGood, IsOrder, IsRight, epoch_in, turns_in}
+use Rattle.epoch_laws.proofs.Good.{AllGood, IsGood, IsLetterRight, IsOrder, IsRight, took_right}
 use Rattle.epoch_laws.proofs.GoodCoordinator.{well_told}
 use Rattle.epoch_laws.proofs.GoodNodes.{good_elsewhere}
 use Rattle.epoch_laws.proofs.GoodTells.{IsWell}
@@ -122,40 +118,14 @@ near_at s past e p r valid good run b v is ver =
     )
 
 -- an order that its node will heed is in the window of the node's versions
-order_in : (s : ScriptData) (past : List Entry) (p e : ℕ) (what : What) (v : Version) → IsGood s past → p < s.nodes → IsOrder s past p e what v
-    → epoch_in s past p ≤ e → is_timely s (node_in s past p) (plain_order what v) ≡ true
-order_in s past p e whats.Turn v good lt right heeds =
-    le-leb v.0 ((turns_in s past p).low.0 + 2) (omega (arith, right.given, (good.within p lt).turned_low))
-order_in s past p e whats.Show v good lt right heeds =
-    let was = good.within p lt in
-    in_window-is (turns_in s past p).low.0 v.0 (omega (arith, right.window lt heeds, was.low_swept)) (omega (arith, right.given, was.showed_low))
-order_in s past p e whats.Sweep v good lt right heeds =
-    let was = good.within p lt in
-    let turns = turns_in s past p in
-    let read : v.0 ≤ turns.read.0 = omega (arith, right.given, was.swept_read) in
-    and_from (nat_le turns.low.0 v.0) (nat_le v.0 turns.read.0 && nat_le v.0 turns.update.0)
-    (le-leb turns.low.0 v.0 (omega (arith, right.window lt heeds, was.low_swept)))
-    (and_from (nat_le v.0 turns.read.0) (nat_le v.0 turns.update.0) (le-leb v.0 turns.read.0 read)
-    (le-leb v.0 turns.update.0 (omega (arith, read, was.read_showed, was.showed_update))))
-
 order_timely : (s : ScriptData) (past : List Entry) (p e : ℕ) (what : What) (v : Version) → IsGood s past → p < s.nodes → IsOrder s past p e what v
     → is_core_timely s (keeping_in s past p).core (Order e what v) ≡ true
-order_timely s past p e what v good lt right = by (nat_lt e (epoch_in s past p)) refl where
-  by : (late : Bool) → nat_lt e (epoch_in s past p) ≡ late → (late || is_timely s (node_in s past p) (plain_order what v)) ≡ true
-  by true is = refl
-  by false is =
-      let heeds : epoch_in s past p ≤ e = grind (arith, nat_tests) in order_in s past p e what v good lt right heeds
+order_timely s past p e what v good lt right = grind arith
 
 -- and orders of a coordinator that remembers never come
 plain_in : (s : ScriptData) (past : List Entry) (from p : ℕ) (body : Body) → is_lossy s ≡ true → IsMeant s from p body → IsOrderLetter body
     → is_timely s (node_in s past p) body ≡ true
-plain_in s past from p (Turn v) loses meant order = absurd (cc (sym loses ∙ meant.1))
-plain_in s past from p (Show v) loses meant order = absurd (cc (sym loses ∙ meant.1))
-plain_in s past from p (Sweep v) loses meant order = absurd (cc (sym loses ∙ meant.1))
-plain_in s past from p (AskDone v k) loses meant order = refl
-plain_in s past from p (AskAsked v k) loses meant order = refl
-plain_in s past from p Go loses meant order = absurd order
-plain_in s past from p _ loses meant order = absurd order
+plain_in s past from p body loses meant order = grind arith
 
 -- by the letter that is brought
 core_timely : (s : ScriptData) (past : List Entry) (e : Entry) (p : ℕ) (r : Letter) (body : Body) → IsGood s past → IsStepRun s (e ∷ past)
@@ -163,10 +133,10 @@ core_timely : (s : ScriptData) (past : List Entry) (e : Entry) (p : ℕ) (r : Le
     → is_core_timely s (keeping_in s past p).core body ≡ true
 core_timely s past e p r (Order d what v) good run b bd timely =
     let same : r ≡ e.took = itself s past e p r b (λ asks. subst IsAsking bd asks) in
-    let taken = each_taken (λ (l : Letter). IsRight s past l.from.0 l.to.0 l.body) s past e run.0 good.letters in
     let right : IsRight s past e.took.from.0 p (Order d what v) =
     subst (IsRight s past e.took.from.0 p) (sym (ap (λ (l : Letter). l.body) same) ∙ bd)
-    (subst (λ (n : ℕ). IsRight s past e.took.from.0 n e.took.body) (run.0.addressee ∙ b.at) taken) in
+    (subst (λ (n : ℕ). IsRight s past e.took.from.0 n e.took.body) (run.0.addressee ∙ b.at)
+    (took_right s past e e.took.body good run.0 refl)) in
     order_timely s past p d what v good b.below right
 core_timely s past e p r Go good run b bd timely = timely
 core_timely s past e p r _ good run b bd timely = timely
@@ -183,39 +153,27 @@ timely s past e r laws loses run apt lt is =
 -- 4. How far advancements are.
 order_given : (s : ScriptData) (past : List Entry) (from to : ℕ) (body : Body) → is_lossy s ≡ true → IsMeant s from to body
     → IsRight s past from to body → IsOrderGiven past body
-order_given s past from to (Turn v) loses meant right = absurd (cc (sym loses ∙ meant.1))
-order_given s past from to (Show v) loses meant right = absurd (cc (sym loses ∙ meant.1))
-order_given s past from to (Sweep v) loses meant right = absurd (cc (sym loses ∙ meant.1))
-order_given s past from to (Order e whats.Turn v) loses meant right = right.given
-order_given s past from to (Order e whats.Show v) loses meant right = right.given
-order_given s past from to (Order e whats.Sweep v) loses meant right = right.given
-order_given s past from to Go loses meant right = tt
-order_given s past from to _ loses meant right = tt
+order_given s past from to body loses meant right = grind arith
 
 turned_to : (s : ScriptData) (past : List Entry) (body : Body) → tree_version body ≤ greatest_given TurnStage past → IsTurnedTo s past body
-turned_to s past (SubLetter t k v) le = λ updates. le
-turned_to s past Go le = tt
-turned_to s past _ le = tt
+turned_to s past body le = grind arith
 
 is_ahead : (s : ScriptData) (past : List Entry) (from to p : ℕ) (body : Body) → is_lossy s ≡ true → IsMeant s from to body
     → IsAhead (node_in s past p).turns body
-is_ahead s past from to p (Show v) loses meant = absurd (cc (sym loses ∙ meant.1))
-is_ahead s past from to p (Sweep v) loses meant = absurd (cc (sym loses ∙ meant.1))
-is_ahead s past from to p Go loses meant = tt
-is_ahead s past from to p _ loses meant = tt
+is_ahead s past from to p body loses meant = grind arith
 
 advancing : (s : ScriptData) (past : List Entry) → IsTreeLawful s → is_lossy s ≡ true → IsStepRun s past → AllApt s past → IsAdvancing s past
 advancing s past laws loses run apt =
     let good = good_run s past laws loses run apt in
     let meant = each_waits (IsLetterMeant s) s past (letters_are_meant s past laws.valid run) in
-    let right = λ (l : Letter). IsRight s past l.from.0 l.to.0 l.body in
     record {
       within = good.within;
       asked = good.asked;
       heard = good.heard;
-      orders = each_map (λ (l : Letter). IsLetterMeant s l × right l) (λ (l : Letter). IsOrderGiven past l.body) (in_flight s past)
+      orders = each_map (λ (l : Letter). IsLetterMeant s l × IsLetterRight s past l)
+          (λ (l : Letter). IsOrderGiven past l.body) (in_flight s past)
           (λ l both. order_given s past l.from.0 l.to.0 l.body loses both.0 both.1)
-          (each_both (IsLetterMeant s) right (in_flight s past) meant good.letters);
+          (each_both (IsLetterMeant s) (IsLetterRight s past) (in_flight s past) meant good.letters);
       trees = each_map (λ (l : Letter). tree_version l.body ≤ greatest_given TurnStage past) (λ (l : Letter). IsTurnedTo s past l.body)
           (outstanding s past) (λ l le. turned_to s past l.body le) good.trees;
       ahead = λ p lt. each_map (IsLetterMeant s) (λ (l : Letter). l.to.0 ≡ p → IsAhead (node_in s past p).turns l.body) (in_flight s past)
@@ -223,22 +181,9 @@ advancing s past laws loses run apt =
     }
 
 -- 5. What is told was told before, or is told in quiet; and an entry that tells something has no act.
-apart_anew : (s : ScriptData) (past : List Entry) (body : Body) → IsApart body → IsGivenAnew s past body
-apart_anew s past (Show v) apart = absurd apart
-apart_anew s past (Sweep v) apart = absurd apart
-apart_anew s past (Order e what v) apart = absurd apart
-apart_anew s past Go apart = tt
-apart_anew s past _ apart = tt
-
 away_anew : (s : ScriptData) (past : List Entry) (e : Entry) → e.actor.0 ≢ s.nodes → Sending s past e
     → Each (λ (o : Outgoing). IsGivenAnew s past o.body) e.sent
-away_anew s past e away (SendsApart other plain all) =
-    each_map (λ (o : Outgoing). IsApart o.body) (λ (o : Outgoing). IsGivenAnew s past o.body) e.sent (λ o apart. apart_anew s past o.body apart) all
-away_anew s past e away (SendsDone v k lt bd sent same) =
-    subst (λ (os : List Outgoing). Each (λ (o : Outgoing). IsGivenAnew s past o.body) os) (sym sent) (tt, tt)
-away_anew s past e away (SendsAsked v k lt bd sent same) =
-    subst (λ (os : List Outgoing). Each (λ (o : Outgoing). IsGivenAnew s past o.body) os) (sym sent) (tt, tt)
-away_anew s past e away (SendsOrders at rowless) = absurd (away at)
+away_anew s past e away is = grind (arith, each_map)
 
 anew : (s : ScriptData) (past : List Entry) (e : Entry) → IsTreeLawful s → is_lossy s ≡ true → IsStepRun s (e ∷ past) → AllApt s (e ∷ past)
     → (e.actor.0 ≡ s.nodes) ⊎ (e.actor.0 ≢ s.nodes) → Each (λ (o : Outgoing). IsGivenAnew s past o.body) e.sent

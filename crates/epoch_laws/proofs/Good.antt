@@ -1,5 +1,5 @@
 -- What holds after each entry of a run of a coordinator that forgets.
-use Rattle.std.proofs.Common.{◌≡◌, ℕ, ◌+◌, ◌<◌, ◌≤◌, ◌==◌, ◌&&◌, true, List, [], ◌∷◌, length, Some, subst}
+use Rattle.std.proofs.Common.{◌≡◌, ℕ, ◌+◌, ◌<◌, ◌≤◌, ◌==◌, ◌&&◌, true, List, [], ◌∷◌, length, Some, arith, subst}
 use Rattle.std.specs.Prelude.{slice_get}
 use Rattle.tv_base.specs.declared.numbers.Version.{Version}
 use Rattle.letter_types.specs.declared.bodies.Body.{Body}
@@ -9,17 +9,21 @@ use Rattle.letter_types.specs.declared.bodies.What.TheVariants.{Turn as ToTurn, 
 use Rattle.letter_types.specs.declared.entries.Entry.{Entry}
 use Rattle.letter_types.specs.declared.entries.Letter.{Letter}
 use Rattle.node_versions.specs.declared.turns.Turns.{Turns}
+use Rattle.tx_trees.specs.Counts.{advances_in}
 use Rattle.tx_trees.specs.ScriptData.{ScriptData}
+use Rattle.tx_trees.specs.Valid.{IsValid}
+use Rattle.tx_trees.proofs.Rebuilding.{asked_most}
 use Rattle.world_model.specs.Counts.{Each, one_if}
 use Rattle.world_model.specs.Kept.{outstanding}
 use Rattle.world_model.specs.Restarting.{Restarting, target}
-use Rattle.world_model.specs.Runs.{client_in, in_flight, keeping_in, node_in, restarting_in}
+use Rattle.world_model.specs.Runs.{MayFollow, client_in, in_flight, keeping_in, node_in, restarting_in}
 use Rattle.world_model.specs.declared.restarting.RestartPhase.{RestartPhase}
 use Rattle.world_model.specs.declared.restarting.RestartPhase.TheVariants.{Idle, Recovering, Doing, Counting, Paused}
 use Rattle.world_model.specs.declared.restarting.Told.{Told}
+use Rattle.world_model.proofs.Every.{each_taken}
 use Rattle.phase_laws.specs.Advances.{asked_for}
 use Rattle.phase_laws.specs.Given.{greatest_given}
-use Rattle.phase_laws.specs.Phases.{Stage, TurnStage, ShowStage, SweepStage, stage_of}
+use Rattle.phase_laws.specs.Phases.{TurnStage, ShowStage, SweepStage, stage_of}
 use Rattle.phase_laws.specs.Quiet.{IsSilent}
 use Rattle.phase_laws.proofs.Advancing.{IsWithin}
 use Rattle.phase_laws.proofs.Closing.{tree_version}
@@ -63,10 +67,10 @@ pub record IsLatest (s : ScriptData) (past : List Entry) (q l : ℕ) : Type 0 wh
   pub showed : greatest_given ShowStage past ≤ l + 1
   pub swept : greatest_given SweepStage past ≤ l + 1
 
--- A letter in flight: its epoch has begun; numbers are no more than the node's, and those of this epoch are the latest while
--- they are waited for; orders and answers of this epoch are of its phase; an order is of a version that was given, and one that its node
--- will still heed isn't below what was swept to; what the client tells in this epoch covers what was given; and an advancement that
--- has ended has ended at each node.
+-- A letter in flight: its epoch has begun; numbers are no more than the node's, and those of this epoch are the latest
+-- while they are waited for; orders and answers of this epoch are of its phase; an order is of a version that was
+-- given, and one that its node will still heed isn't below what was swept to; what the client tells in this epoch
+-- covers what was given; and an advancement that has ended has ended at each node.
 pub record AreNumbers (s : ScriptData) (past : List Entry) (q e : ℕ) (u r l : Version) : Type 0 where
   pub epoch : e ≤ (restarting_in s past).epoch
   pub told : IsAsTold (turns_in s past q) u r l
@@ -95,6 +99,13 @@ IsRight s past from to (Wanted e k) = AreWanted s past e k
 IsRight s past from to (Advanced v) = (q : ℕ) → q < s.nodes → v.0 ≤ (turns_in s past q).low.0
 IsRight s past from to Go = Unit {0}
 IsRight s past from to _ = Unit {0}
+
+abbrev pub IsLetterRight : ScriptData → List Entry → Letter → Type 0
+IsLetterRight s past l = IsRight s past l.from.0 l.to.0 l.body
+
+-- all in flight are as they should be
+abbrev pub AreRight : ScriptData → List Entry → Type 0
+AreRight s past = Each (IsLetterRight s past) (in_flight s past)
 
 -- from where on a node's versions are in each phase, where so many advancements have ended
 abbrev pub least_read : RestartPhase → ℕ → ℕ
@@ -132,7 +143,8 @@ pub record LevelOf (phase : RestartPhase) (f e epoch : ℕ) (turns : Turns) (ord
   pub update : least_update phase f ≤ turns.update.0
   pub comes : due phase f ≤ reached phase turns + orders
 
--- in a phase in which nodes are told something: its orders and answers in flight and its acknowledgements are as many as nodes
+-- in a phase in which nodes are told something: its orders and answers in flight and its acknowledgements are as many
+-- as nodes
 abbrev pub AreTokens : RestartPhase → ℕ → ℕ → ℕ → Type 0
 AreTokens (Doing what) tokens acks n = tokens + acks ≡ n
 AreTokens Idle tokens acks n = Unit {0}
@@ -170,14 +182,15 @@ IsInPhase s past (Doing what) = IsSteady s past (Doing what)
 IsInPhase s past (Counting reads) = IsSteady s past (Counting reads)
 IsInPhase s past (Paused reads) = IsSteady s past (Paused reads)
 
--- no node is in a later epoch than the coordinator, and each is within what was given; below what was swept to all is silent;
--- letters of trees are of versions to which nodes were told to turn, and the others as they should be; and so is the coordinator
+-- no node is in a later epoch than the coordinator, and each is within what was given; below what was swept to all is
+-- silent; letters of trees are of versions to which nodes were told to turn, and the others as they should be; and so
+-- is the coordinator
 pub record IsGood (s : ScriptData) (past : List Entry) : Type 0 where
   pub epochs : (p : ℕ) → p < s.nodes → epoch_in s past p ≤ (restarting_in s past).epoch
   pub within : (p : ℕ) → p < s.nodes → IsWithin past (turns_in s past p)
   pub silent : (v : ℕ) → v < greatest_given SweepStage past → IsSilent s past v
   pub trees : Each (λ (l : Letter). tree_version l.body ≤ greatest_given TurnStage past) (outstanding s past)
-  pub letters : Each (λ (l : Letter). IsRight s past l.from.0 l.to.0 l.body) (in_flight s past)
+  pub letters : AreRight s past
   pub phased : IsInPhase s past (restarting_in s past).phase
   pub asked : greatest_given TurnStage past ≤ asked_for s past + 1
   pub heard : (p : ℕ) → p < s.nodes → (client_in s past).ended ≤ (turns_in s past p).low.0
@@ -187,7 +200,48 @@ abbrev pub AllGood : ScriptData → List Entry → Type 0
 AllGood s [] = IsGood s []
 AllGood s (e ∷ past) = IsGood s (e ∷ past) × AllGood s past
 
--- what it has heard while it recovers
-pub heard_now : (s : ScriptData) (past : List Entry) → IsGood s past → (restarting_in s past).phase ≡ Recovering
-    → IsHeard s past
-heard_now s past good waits = subst (λ (phase : RestartPhase). IsInPhase s past phase) waits good.phased
+-- Where the coordinator is in this phase.
+pub in_phase : (s : ScriptData) (past : List Entry) (phase : RestartPhase) → IsGood s past
+    → (restarting_in s past).phase ≡ phase → IsInPhase s past phase
+in_phase s past phase good at = subst (λ (p : RestartPhase). IsInPhase s past p) at good.phased
+
+-- a phase in which it knows how many advancements have ended
+abbrev pub Knows : RestartPhase → Type 0
+Knows phase = phase ≡ Recovering → ⊥
+
+pub steady_in : (s : ScriptData) (past : List Entry) (phase : RestartPhase) → IsGood s past
+    → (restarting_in s past).phase ≡ phase → Knows phase → IsSteady s past phase
+steady_in s past phase good at knows = grind arith
+
+-- How far nodes are: no further than what was given, nor than the advancements that the client asks for.
+pub low_turned : (past : List Entry) (turns : Turns) → IsWithin past turns → turns.low.0 + 1 ≤ greatest_given TurnStage past
+low_turned past turns w = omega (arith, w.low_swept, w.swept_read, w.read_showed, w.showed_update, w.update_turned)
+
+pub read_turned : (past : List Entry) (turns : Turns) → IsWithin past turns
+    → turns.read.0 + 1 ≤ greatest_given TurnStage past
+read_turned past turns w = omega (arith, w.read_showed, w.showed_update, w.update_turned)
+
+pub turned_most : (s : ScriptData) (past : List Entry) → IsGood s past
+    → greatest_given TurnStage past ≤ advances_in s.rows + 1
+turned_most s past good = omega (arith, good.asked, asked_most (client_in s past).next s.rows)
+
+pub low_few : (s : ScriptData) (past : List Entry) (q : ℕ) → IsValid s → IsGood s past → q < s.nodes
+    → (turns_in s past q).low.0 ≤ 100
+low_few s past q valid good lt = grind (arith, turned_most)
+
+-- nor have more of them ended
+pub ended_most : (s : ScriptData) (past : List Entry) (phase : RestartPhase) → IsValid s → IsGood s past
+    → IsSteady s past phase → (restarting_in s past).ended ≤ advances_in s.rows
+ended_most s past phase valid good steady = grind (arith, turned_most)
+
+pub ended_few : (s : ScriptData) (past : List Entry) (phase : RestartPhase) → IsValid s → IsGood s past
+    → IsSteady s past phase → (restarting_in s past).ended ≤ 100
+ended_few s past phase valid good steady =
+    omega (arith, ended_most s past phase valid good steady, valid.limited.advances)
+
+-- The letter that is taken is as it should be.
+pub took_right : (s : ScriptData) (past : List Entry) (e : Entry) (body : Body) → IsGood s past → MayFollow s past e
+    → e.took.body ≡ body → IsRight s past e.took.from.0 e.took.to.0 body
+took_right s past e body good m is =
+    subst (IsRight s past e.took.from.0 e.took.to.0) is
+    (each_taken (IsLetterRight s past) s past e m good.letters)

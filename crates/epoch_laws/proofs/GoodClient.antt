@@ -1,6 +1,6 @@
 -- What the client knows after an entry of its own or of a node: it has asked for no fewer advancements, and of those that it
 -- has heard of each node has come to the end.
-use Rattle.std.proofs.Common.{◌≡◌, ◌⊎◌, inl, inr, ℕ, ◌+◌, ◌<◌, ◌≤◌, max, List, ◌∷◌, ◌++◌, take, drop, sym, ap, subst, arith}
+use Rattle.std.proofs.Common.{◌≡◌, ◌⊎◌, inl, inr, ℕ, ◌<◌, ◌≤◌, max, List, ◌∷◌, take, sym, ap, subst, arith}
 use Rattle.std.proofs.Math.Nat.{max-le}
 use Rattle.std.proofs.Math.Seq.{take-add}
 use Rattle.tv_base.specs.declared.numbers.Version.{Version}
@@ -10,15 +10,14 @@ use Rattle.letter_types.specs.declared.entries.Outgoing.{Outgoing}
 use Rattle.tx_trees.specs.Counts.{advances_in}
 use Rattle.tx_trees.specs.ScriptData.{ScriptData}
 use Rattle.tx_trees.proofs.Rebuilding.{advances_in-append}
-use Rattle.world_model.specs.Client.{Client, submit, submitted}
+use Rattle.world_model.specs.Client.{Client, submit}
 use Rattle.world_model.specs.Runs.{MayFollow, client_in}
 use Rattle.world_model.proofs.Flows.{client_kept}
 use Rattle.world_model.proofs.Nexts.{MadeByClient}
 use Rattle.phase_laws.specs.Advances.{asked_for}
-use Rattle.epoch_laws.proofs.Aside.{Aside, Counts, Heeds, IsTold, Submits, Tells, Works}
-use Rattle.epoch_laws.proofs.Good.{IsGood, turns_in}
+use Rattle.epoch_laws.proofs.Aside.{Aside, IsTold}
+use Rattle.epoch_laws.proofs.Good.{IsGood, took_right, turns_in}
 use Rattle.epoch_laws.proofs.GoodLetters.{Remains}
-use Rattle.epoch_laws.proofs.Rising.{took_right}
 
 -- what an entry leaves of the client's numbers
 record Knows (s : ScriptData) (past : List Entry) (e : Entry) : Type 0 where
@@ -28,12 +27,7 @@ record Knows (s : ScriptData) (past : List Entry) (e : Entry) : Type 0 where
 -- more rows ask for no fewer advancements
 submits_more : (s : ScriptData) (c : Client) (first : List Outgoing)
     → advances_in (take c.next s.rows) ≤ advances_in (take (submit s c first).state.next s.rows)
-submits_more s c first =
-    let n = submitted c (take c.next s.rows) (drop c.next s.rows) in
-    let rest = take n (drop c.next s.rows) in
-    let all : advances_in (take (c.next + n) s.rows) ≡ advances_in (take c.next s.rows ++ rest) =
-    ap advances_in (take-add c.next n s.rows) in
-    omega (arith, all, advances_in-append (take c.next s.rows) rest)
+submits_more s c first = grind (arith, advances_in-append, take-add)
 
 ended_by : (s : ScriptData) (past : List Entry) (e : Entry) (ended p : ℕ) → IsGood s past → MayFollow s past e → p < s.nodes
     → ((ended ≡ (client_in s past).ended)
@@ -43,13 +37,6 @@ ended_by s past e ended p good m lt (inl is) = omega (arith, is, good.heard p lt
 ended_by s past e ended p good m lt (inr (v, bd, is)) =
     let told : v.0 ≤ (turns_in s past p).low.0 = took_right s past e (Advanced v) good m bd p lt in
     subst (λ (n : ℕ). n ≤ (turns_in s past p).low.0) (sym is) (max-le (good.heard p lt) told)
-
-same_client : (s : ScriptData) (past : List Entry) (e : Entry) → IsGood s past → client_in s (e ∷ past) ≡ client_in s past
-    → Knows s past e
-same_client s past e good same = record {
-  asked = omega (arith, ap (λ (c : Client). advances_in (take c.next s.rows)) same);
-  heard = λ p lt. omega (arith, good.heard p lt, ap (λ (c : Client). c.ended) same);
-}
 
 told_client : (s : ScriptData) (past : List Entry) (e : Entry) (c : Client) (first : List Outgoing) → IsGood s past
     → MayFollow s past e
@@ -65,13 +52,7 @@ told_client s past e c first good m told made =
     }
 
 knows : (s : ScriptData) (past : List Entry) (e : Entry) → IsGood s past → MayFollow s past e → Aside s past e → Knows s past e
-knows s past e good m (Submits c first at told bare made) = told_client s past e c first good m told made
-knows s past e good m (Tells n at bd made) = same_client s past e good made.state
-knows s past e good m (Works p r work) =
-    same_client s past e good (client_kept s past e (λ is. omega (arith, is, work.brings.at, work.brings.below)))
-knows s past e good m (Counts p count) =
-    same_client s past e good (client_kept s past e (λ is. omega (arith, is, count.at, count.below)))
-knows s past e good m (Heeds p at lt heed) = same_client s past e good (client_kept s past e (λ is. omega (arith, is, at, lt)))
+knows s past e good m is = grind (arith, client_kept, told_client)
 
 -- the client asks for more and more
 pub asked_rises : (s : ScriptData) (past : List Entry) (e : Entry) → IsGood s past → MayFollow s past e → Aside s past e

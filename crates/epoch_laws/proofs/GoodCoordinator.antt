@@ -1,37 +1,30 @@
 -- Each entry of the coordinator leaves all as it should be.
 use Rattle.std.proofs.Common.{◌≡◌, ℕ, ◌+◌, ◌≤◌, ◌==◌, inl, inr, Bool, true, false, List, [], ◌∷◌, refl, sym, ap, subst, ◌∙◌, arith, Some}
-use Rattle.std.specs.Prelude.{if◌then◌else◌, max, nat_lt}
+use Rattle.std.specs.Prelude.{if◌then◌else◌, max}
 use Rattle.std.proofs.Math.Nat.{le-max_left, max-le}
 use Rattle.tv_base.specs.Outside.{one_more}
 use Rattle.tv_base.specs.declared.numbers.Version.{Version}
 use Rattle.phase_out.specs.Rounds.{verdict_of}
-use Rattle.letter_types.specs.declared.bodies.Body.{Body}
-use Rattle.letter_types.specs.declared.bodies.Body.TheVariants.{AdvanceNo, AskAsked, Obeyed, Wanted}
+use Rattle.letter_types.specs.declared.bodies.Body.TheVariants.{AdvanceNo, AskAsked, Obeyed}
 use Rattle.letter_types.specs.declared.bodies.What.{What}
 use Rattle.letter_types.specs.declared.bodies.What.TheVariants.{Turn as ToTurn, Show as ToShow, Sweep as ToSweep}
 use Rattle.letter_types.specs.declared.entries.Entry.{Entry}
-use Rattle.letter_types.specs.declared.entries.Letter.{Letter}
 use Rattle.letter_types.specs.Steps.{Out, still}
-use Rattle.script_parts.specs.Forms.{most_nodes}
-use Rattle.script_parts.specs.declared.parts.Form.{Form}
-use Rattle.script_parts.specs.declared.parts.Form.TheVariants.{One, Two}
 use Rattle.tx_trees.specs.ScriptData.{ScriptData}
 use Rattle.world_model.specs.AllApt.{AllApt}
 use Rattle.world_model.specs.Coordinator.{to_nodes, with_asked}
 use Rattle.script_parts.specs.Counts.{is_lossy}
 use Rattle.world_model.specs.Restarting.{Restarting, after_doing, begin_counting, end_counting, enter, forget, next_advance, recover, restarting_row, target, version_counted, with_wanted}
 use Rattle.world_model.specs.Runs.{IsStepRun, restarting_in}
-use Rattle.world_model.specs.declared.restarting.RestartPhase.{RestartPhase}
 use Rattle.world_model.specs.declared.restarting.RestartPhase.TheVariants.{Doing, Counting}
-use Rattle.world_model.proofs.Every.{each_taken}
 use Rattle.world_model.proofs.Orders.{to_nodes_each}
 use Rattle.phase_laws.specs.Quiet.{IsSilent}
 use Rattle.phase_laws.proofs.Lawful.{IsTreeLawful}
 use Rattle.phase_laws.proofs.Progress.{MadeByRestarting, TellsAnew}
 use Rattle.phase_laws.proofs.Rounds.{silent_agreed}
-use Rattle.epoch_laws.proofs.Few.{IsFew, TellsAsked, few}
-use Rattle.epoch_laws.proofs.Good.{AllGood, IsGood, IsInPhase, IsRight, token}
-use Rattle.epoch_laws.proofs.GoodOutcomes.{asks_begun, few_ended, last_answer, well_begins, well_ends, well_forgets, well_goes, well_shows, well_sweeps}
+use Rattle.epoch_laws.proofs.Few.{IsFew, few, took_asked}
+use Rattle.epoch_laws.proofs.Good.{AllGood, IsGood, ended_few, in_phase, token}
+use Rattle.epoch_laws.proofs.GoodOutcomes.{asks_begun, last_answer, well_begins, well_ends, well_forgets, well_goes, well_shows, well_sweeps}
 use Rattle.epoch_laws.proofs.GoodResumes.{heard_more, well_recovers}
 use Rattle.epoch_laws.proofs.GoodSteps.{AllAsk, IsAsk, IsCountOf, IsMove, asks_nothing, good_acks, good_counts, good_rests, good_same}
 use Rattle.epoch_laws.proofs.GoodTells.{IsWell, well_by}
@@ -56,10 +49,7 @@ few_before : (s : ScriptData) (past : List Entry) (e : Entry) → IsTold s past 
 few_before s past e h = few s past h.laws h.loses h.run.1 h.apt.1
 
 few_nodes : (s : ScriptData) → IsTreeLawful s → s.nodes ≤ 64
-few_nodes s laws = by s.form laws.valid.few_nodes where
-  by : (form : Form) → s.nodes ≤ most_nodes form → s.nodes ≤ 64
-  by One most = omega (arith, most)
-  by Two most = most
+few_nodes s laws = grind arith
 
 -- it comes to what its row says
 move : (s : ScriptData) (past : List Entry) (e : Entry) (out : Out Restarting) → IsTold s past e
@@ -77,15 +67,6 @@ move s past e out h is = record {
 sent_so : (s : ScriptData) (past : List Entry) (e : Entry) (out : Out Restarting) → IsTold s past e
     → restarting_row (restarting_in s past) e.took.from.0 e.took.body ≡ out → e.sent ≡ out.sent
 sent_so s past e out h is = h.made.sent ∙ ap (λ (o : Out Restarting). o.sent) is
-
--- the letter that is taken
-took_right : (s : ScriptData) (past : List Entry) (e : Entry) → IsTold s past e → IsRight s past e.took.from.0 e.took.to.0 e.took.body
-took_right s past e h =
-    each_taken (λ (l : Letter). IsRight s past l.from.0 l.to.0 l.body) s past e h.run.0 (good_before s past e h).letters
-
-took_asked : (s : ScriptData) (past : List Entry) (e : Entry) (body : Body) → IsTold s past e → e.took.body ≡ body → TellsAsked s past body
-took_asked s past e body h is =
-    subst (TellsAsked s past) is (each_taken (λ (l : Letter). TellsAsked s past l.body) s past e h.run.0 (few_before s past e h).letters)
 
 -- Counts.
 asks_by : (b : Bool) (n : ℕ) (v : Version) (k : ℕ) → AllAsk (if b then to_nodes n (AskAsked v k) else [])
@@ -120,12 +101,11 @@ agreed_silent s past e reads v k row n h takes verdict is new =
     (takes_row (restarting_in s past) e.took.from.0 e.took.body reads v k row takes)
     (h.all, subst (λ (m : ℕ). IsNotGiven reads m past) (sym version) new) verdict)
 
-counted_few : (s : ScriptData) (past : List Entry) (e : Entry) (reads : Bool) → IsTold s past e → (restarting_in s past).phase ≡ Counting reads
-    → (restarting_in s past).ended ≤ 100
+counted_few : (s : ScriptData) (past : List Entry) (e : Entry) (reads : Bool) → IsTold s past e
+    → (restarting_in s past).phase ≡ Counting reads → (restarting_in s past).ended ≤ 100
 counted_few s past e reads h at =
     let good = good_before s past e h in
-    few_ended s past (Counting reads) h.laws.valid.some_nodes good (few_before s past e h)
-    (subst (λ (phase : RestartPhase). IsInPhase s past phase) at good.phased)
+    ended_few s past (Counting reads) h.laws.valid good (in_phase s past (Counting reads) good at)
 
 agrees : (s : ScriptData) (past : List Entry) (e : Entry) (reads : Bool) (v : Version) (k : ℕ) (row : List ℕ) → IsTold s past e
     → TakesRequests (restarting_in s past) e.took.from.0 e.took.body reads v k row
@@ -166,7 +146,7 @@ ends s past e ToSweep h at bd last is =
     let c = restarting_in s past in
     let out = after_doing ToSweep c in
     let m = move s past e out h is in
-    well_ends s past e (nat_lt (one_more c.ended) c.wanted) refl m (last_answer s past e out.state ToSweep (few_nodes s h.laws) m at bd last)
+    well_ends s past e m (last_answer s past e out.state ToSweep (few_nodes s h.laws) m at bd last)
     (sent_so s past e out h is) at (few_before s past e h)
 
 -- each outcome
@@ -190,13 +170,12 @@ by_step s past e h (Goes i bd at is) =
     let c = restarting_in s past in
     let out = enter (next_advance (max c.wanted i) c.ended) (with_wanted i c) in
     let few = few_before s past e h in
-    well_goes s past e (max c.wanted i) (nat_lt c.ended (max c.wanted i)) refl (move s past e out h is) (sent_so s past e out h is) at
-    (le-max_left c.wanted i) (max-le few.wanted (took_asked s past e (AdvanceNo i) h bd)) few
+    well_goes s past e (max c.wanted i) (move s past e out h is) (sent_so s past e out h is) at
+    (le-max_left c.wanted i) (max-le few.wanted (took_asked s past e (AdvanceNo i) few h.run.0 bd)) few
 by_step s past e h (Recovers d at hears is) =
     let few = few_before s past e h in
     well_recovers s past e d (move s past e (recover d) h is)
-    (heard_more s past e.took.from.0 e.took.to.0 e.took.body d (good_before s past e h) few at (took_right s past e h)
-    (λ n k bd. took_asked s past e (Wanted n k) h bd) hears) few at (sent_so s past e (recover d) h is)
+    (heard_more s past e d (good_before s past e h) few h.run.0 at hears) few at (sent_so s past e (recover d) h is)
 by_step s past e h (Acks what at bd more is) =
     let c = restarting_in s past in
     let out = still (record c { acks = one_more c.acks }) in

@@ -3,30 +3,26 @@
 use Rattle.std.proofs.Common.{◌≡◌, ℕ, ◌<◌, ◌≤◌, List, ◌∷◌, sym, ap, subst, ◌∙◌, arith}
 use Rattle.tv_base.specs.declared.numbers.Version.{Version}
 use Rattle.letter_types.specs.declared.bodies.Body.{Body}
-use Rattle.letter_types.specs.declared.bodies.Body.TheVariants.{Root, Sub as SubLetter, Done, Reply, Nudge, Advance, DoneRow, AskedRow, Advanced, Decide, Decided, Release, Wake, Lose, AdvanceNo, Wanted, Ask, Order, Numbers, Obeyed}
+use Rattle.letter_types.specs.declared.bodies.Body.TheVariants.{Advanced, Wanted, Ask, Order, Numbers, Obeyed}
 use Rattle.letter_types.specs.declared.bodies.What.{What}
 use Rattle.letter_types.specs.declared.entries.Entry.{Entry}
-use Rattle.letter_types.specs.declared.entries.Letter.{Letter}
 use Rattle.letter_types.specs.declared.entries.LetterId.{LetterId}
 use Rattle.letter_types.specs.declared.entries.Outgoing.{Outgoing}
 use Rattle.tx_trees.specs.ScriptData.{ScriptData}
 use Rattle.tx_trees.specs.Valid.{IsValid}
 use Rattle.world_model.specs.Client.{advances_sent}
-use Rattle.world_model.specs.Core.{Core}
 use Rattle.world_model.specs.Counts.{Each}
-use Rattle.world_model.specs.Node.{Node}
 use Rattle.world_model.specs.Restarting.{Restarting}
-use Rattle.world_model.specs.Runs.{IsStepRun, client_in, in_flight, keeping_in, node_in, restarting_in}
+use Rattle.world_model.specs.Runs.{IsStepRun, client_in, in_flight, keeping_in, restarting_in}
 use Rattle.world_model.proofs.EachOutstanding.{each_waits}
 use Rattle.world_model.proofs.Every.{each_both, each_map, each_step}
 use Rattle.strict_laws.specs.Meant.{IsLetterMeant, IsMeant}
 use Rattle.strict_laws.proofs.Meant.{letters_are_meant}
 use Rattle.phase_laws.specs.Given.{greatest_given}
-use Rattle.phase_laws.specs.Phases.{Stage, TurnStage, ShowStage, SweepStage, stage_of}
-use Rattle.phase_laws.proofs.Working.{SentIn}
-use Rattle.epoch_laws.proofs.Aside.{Answered, Aside, Asks, Bare, IsBare, IsSentBy, Numbered, OfTree, sends_aside}
-use Rattle.epoch_laws.proofs.Good.{AreNumbers, AreWanted, IsAnswer, IsAsTold, IsCurrent, IsGood, IsLatest, IsOrder, IsRight, epoch_in, turns_in}
-use Rattle.epoch_laws.proofs.Rising.{Fares, Rises, took_right}
+use Rattle.phase_laws.specs.Phases.{Stage, TurnStage, SweepStage, stage_of}
+use Rattle.epoch_laws.proofs.Aside.{Aside, IsSentBy, sends_aside}
+use Rattle.epoch_laws.proofs.Good.{AreNumbers, AreRight, AreWanted, IsAnswer, IsAsTold, IsCurrent, IsGood, IsLatest, IsLetterRight, IsOrder, IsRight, took_right, turns_in}
+use Rattle.epoch_laws.proofs.Rising.{Fares}
 
 -- what such an entry leaves: the coordinator, what was given, and of each node what it has come to
 pub record Remains (s : ScriptData) (past : List Entry) (e : Entry) : Type 0 where
@@ -45,25 +41,12 @@ same_phase s past e left = ap (λ (c : Restarting). c.phase) left.same
 -- What was right stays so.
 pub told_stays : (s : ScriptData) (past : List Entry) (e : Entry) (q : ℕ) (u r l : Version) → Remains s past e → q < s.nodes
     → IsAsTold (turns_in s past q) u r l → IsAsTold (turns_in s (e ∷ past) q) u r l
-told_stays s past e q u r l left lt was =
-    let rises : Rises (keeping_in s past q).core (keeping_in s (e ∷ past) q).core = (left.fares q lt).rises in
-    record {
-      update = omega (arith, was.update, rises.update);
-      read = omega (arith, was.read, rises.read);
-      low = omega (arith, was.low, rises.low);
-    }
+told_stays s past e q u r l left lt was = omega (arith, was, (left.fares q lt).rises)
 
 pub latest_stays : (s : ScriptData) (past : List Entry) (e : Entry) (q l : ℕ) → Remains s past e → q < s.nodes
     → IsLatest s past q l
     → IsLatest s (e ∷ past) q l
-latest_stays s past e q l left lt was =
-    let rises : Rises (keeping_in s past q).core (keeping_in s (e ∷ past) q).core = (left.fares q lt).rises in
-    record {
-      epoch = omega (arith, was.epoch, rises.epoch, same_epoch s past e left);
-      turned = omega (arith, was.turned, left.given TurnStage);
-      showed = omega (arith, was.showed, left.given ShowStage);
-      swept = omega (arith, was.swept, left.given SweepStage);
-    }
+latest_stays s past e q l left lt was = grind arith
 
 current_stays : (s : ScriptData) (past : List Entry) (e : Entry) (n : ℕ) (what : What) (v : Version) → Remains s past e
     → (n ≡ (restarting_in s past).epoch → IsCurrent (restarting_in s past) what v)
@@ -125,28 +108,6 @@ right_stays s past e from to (Advanced v) left meant right = λ q lt. omega (ari
 right_stays s past e from to _ left meant right = tt
 
 -- What is sent is right.
-bare_right : (s : ScriptData) (past : List Entry) (from to : ℕ) (body : Body) → IsBare body → IsRight s past from to body
-bare_right s past from to (Root t) bare = tt
-bare_right s past from to Nudge bare = tt
-bare_right s past from to Advance bare = tt
-bare_right s past from to (AdvanceNo i) bare = tt
-bare_right s past from to Lose bare = tt
-bare_right s past from to (DoneRow v k row) bare = tt
-bare_right s past from to (AskedRow v k row) bare = tt
-bare_right s past from to (Wake t k) bare = tt
-bare_right s past from to _ bare = absurd bare
-
-tree_right : (s : ScriptData) (past : List Entry) (from to : ℕ) (st : Node) (does body : Body) → SentIn s st does body
-    → IsRight s past from to body
-tree_right s past from to st does (SubLetter t k v) sent = tt
-tree_right s past from to st does (Done t k v notice) sent = tt
-tree_right s past from to st does (Decide t v commit) sent = tt
-tree_right s past from to st does (Decided t v) sent = tt
-tree_right s past from to st does (Reply t v answer) sent = tt
-tree_right s past from to st does (Release t) sent = tt
-tree_right s past from to st does (Wake t k) sent = tt
-tree_right s past from to st does _ sent = absurd sent
-
 -- the client tells how many advancements it asked for, which is as many as nodes were told to turn, at least
 wanted_right : (s : ScriptData) (past : List Entry) (e : Entry) (n : ℕ) → IsGood s past → Remains s past e
     → IsStepRun s (e ∷ past)
@@ -158,29 +119,7 @@ wanted_right s past e n good left run bd =
       covers = λ is phase. omega (arith, good.asked, left.given TurnStage);
     }
 
--- a node tells its numbers, which are the latest
-numbers_right : (s : ScriptData) (past : List Entry) (e : Entry) (p n : ℕ) → IsGood s past → Remains s past e
-    → IsStepRun s (e ∷ past)
-    → p < s.nodes → e.took.body ≡ Ask n → (keeping_in s (e ∷ past) p).core ≡ record (keeping_in s past p).core { epoch = n }
-    → AreNumbers s (e ∷ past) p n (turns_in s past p).update (turns_in s past p).read (turns_in s past p).low
-numbers_right s past e p n good left run lt bd is =
-    let begun : n ≤ (restarting_in s past).epoch = took_right s past e (Ask n) good run.0 bd in
-    let epoch : epoch_in s (e ∷ past) p ≡ n = ap (λ (c : Core). c.epoch) is in
-    let within = good.within p lt in
-    let rises : Rises (keeping_in s past p).core (keeping_in s (e ∷ past) p).core = (left.fares p lt).rises in
-    record {
-      epoch = omega (arith, begun, same_epoch s past e left);
-      told = record { update = rises.update; read = rises.read; low = rises.low };
-      latest =
-          λ now phase.
-          record {
-            epoch = omega (arith, epoch, now);
-            turned = omega (arith, within.turned_low, left.given TurnStage);
-            showed = omega (arith, within.showed_low, left.given ShowStage);
-            swept = omega (arith, within.swept_low, left.given SweepStage);
-          };
-    }
-
+-- an order was obeyed
 answer_right : (s : ScriptData) (past : List Entry) (e : Entry) (n : ℕ) (what : What) (v : Version) → IsGood s past
     → Remains s past e
     → IsStepRun s (e ∷ past) → e.took.body ≡ Order n what v → IsAnswer s (e ∷ past) n what v
@@ -193,29 +132,18 @@ answer_right s past e n what v good left run bd =
 
 sent_right : (s : ScriptData) (past : List Entry) (e : Entry) (to : ℕ) (body : Body) → IsGood s past → Remains s past e
     → IsStepRun s (e ∷ past) → IsSentBy s past e body → IsRight s (e ∷ past) e.actor.0 to body
-sent_right s past e to body good left run (Bare bare) = bare_right s (e ∷ past) e.actor.0 to body bare
-sent_right s past e to body good left run (OfTree p r work sent) =
-    tree_right s (e ∷ past) e.actor.0 to (node_in s past p) r.body body sent
-sent_right s past e to body good left run (Asks n bd is) =
-    subst (IsRight s (e ∷ past) e.actor.0 to) (sym is) (wanted_right s past e n good left run bd)
-sent_right s past e to body good left run (Numbered p n at lt bd same is) =
-    subst (IsRight s (e ∷ past) e.actor.0 to) (sym is)
-    (subst
-    (λ (a : ℕ). AreNumbers s (e ∷ past) a n (turns_in s past p).update (turns_in s past p).read (turns_in s past p).low) (sym at)
-    (numbers_right s past e p n good left run lt bd same))
-sent_right s past e to body good left run (Answered n what v bd is) =
-    subst (IsRight s (e ∷ past) e.actor.0 to) (sym is) (answer_right s past e n what v good left run bd)
+sent_right s past e to body good left run is =
+    grind (arith, answer_right, wanted_right)
 
 -- so all are
 pub letters_right : (s : ScriptData) (past : List Entry) (e : Entry) → IsValid s → IsStepRun s (e ∷ past) → IsGood s past
-    → Remains s past e → Aside s past e
-    → Each (λ (l : Letter). IsRight s (e ∷ past) l.from.0 l.to.0 l.body) (in_flight s (e ∷ past))
+    → Remains s past e → Aside s past e → AreRight s (e ∷ past)
 letters_right s past e valid run good left aside =
     let meant : Each (IsLetterMeant s) (in_flight s past) = each_waits (IsLetterMeant s) s past (letters_are_meant s past valid run.1) in
-    let R : Letter → Type 0 = λ (l : Letter). IsRight s (e ∷ past) l.from.0 l.to.0 l.body in
+    let R = IsLetterRight s (e ∷ past) in
     each_step R s past e
     (each_map _ R (in_flight s past) (λ l both. right_stays s past e l.from.0 l.to.0 l.body left both.0 both.1)
-    (each_both (IsLetterMeant s) (λ (l : Letter). IsRight s past l.from.0 l.to.0 l.body) (in_flight s past) meant good.letters))
+    (each_both (IsLetterMeant s) (IsLetterRight s past) (in_flight s past) meant good.letters))
     (each_map (λ (o : Outgoing). IsSentBy s past e o.body)
     (λ (o : Outgoing). (i : LetterId) → R (record { id = i; from = record { 0 = e.actor.0 }; to = o.to; body = o.body })) e.sent
     (λ o sent i. sent_right s past e o.to.0 o.body good left run sent) (sends_aside s past e aside))

@@ -1,27 +1,23 @@
 -- Entries of the client and of nodes leave all as it should be.
-use Rattle.std.proofs.Common.{◌≡◌, ◌≢◌, ◌⊎◌, inl, inr, ℕ, ◌+◌, ◌<◌, ◌≤◌, true, List, ◌∷◌, length, refl, sym, ap, subst, ◌∙◌, arith}
+use Rattle.std.proofs.Common.{◌≡◌, ◌≢◌, ◌⊎◌, ℕ, ◌+◌, ◌<◌, ◌≤◌, true, List, ◌∷◌, length, refl, sym, ap, subst, ◌∙◌, arith}
 use Rattle.std.specs.Prelude.{slice_get}
 use Rattle.std.proofs.lemmas.Bool.{cases_eq}
 use Rattle.tv_base.specs.declared.numbers.Version.{Version}
 use Rattle.letter_types.specs.declared.bodies.Body.{Body}
-use Rattle.letter_types.specs.declared.bodies.Body.TheVariants.{Root, Nudge, Advance, AskedRow, DoneRow, Wake, Lose, AdvanceNo}
 use Rattle.letter_types.specs.declared.bodies.What.{What}
-use Rattle.letter_types.specs.declared.bodies.What.TheVariants.{Turn as ToTurn, Show as ToShow, Sweep as ToSweep}
 use Rattle.letter_types.specs.declared.entries.Entry.{Entry}
 use Rattle.letter_types.specs.declared.entries.Letter.{Letter}
 use Rattle.letter_types.specs.declared.entries.LetterId.{LetterId}
 use Rattle.letter_types.specs.declared.entries.Outgoing.{Outgoing}
-use Rattle.node_versions.specs.declared.turns.Turns.{Turns}
 use Rattle.tx_trees.specs.ScriptData.{ScriptData}
 use Rattle.tx_trees.specs.Valid.{IsValid}
-use Rattle.tx_trees.proofs.Rebuilding.{asked_most}
 use Rattle.world_model.specs.AllApt.{AllApt}
 use Rattle.world_model.specs.Core.{Core}
 use Rattle.world_model.specs.Counts.{Each}
 use Rattle.world_model.specs.Kept.{outstanding}
 use Rattle.script_parts.specs.Counts.{is_lossy}
-use Rattle.world_model.specs.Restarting.{Restarting, target}
-use Rattle.world_model.specs.Runs.{IsStepRun, MayFollow, client_in, keeping_in, node_in, restarting_in}
+use Rattle.world_model.specs.Restarting.{Restarting}
+use Rattle.world_model.specs.Runs.{IsStepRun, MayFollow, keeping_in, node_in, restarting_in}
 use Rattle.world_model.specs.declared.restarting.RestartPhase.{RestartPhase}
 use Rattle.world_model.specs.declared.restarting.RestartPhase.TheVariants.{Idle, Recovering, Doing, Counting, Paused}
 use Rattle.world_model.proofs.EachOutstanding.{each_outstanding}
@@ -40,33 +36,17 @@ use Rattle.phase_laws.proofs.Waves.{going}
 use Rattle.phase_laws.proofs.Working.{SentIn}
 use Rattle.epoch_laws.proofs.Aside.{Answered as AnsweredBy, Aside, Asks, Bare, IsBare, IsSentBy, Numbered, OfTree, aside, sends_aside}
 use Rattle.epoch_laws.proofs.Away.{given_kept, restarting_kept}
-use Rattle.epoch_laws.proofs.Good.{AreTokens, IsCurrent, IsGood, IsHeard, IsHeardOf, IsInPhase, IsSteady, IsUpTo, LevelOf, due, epoch_in, order_to, reached, token, turns_in}
+use Rattle.epoch_laws.proofs.Good.{AreTokens, IsCurrent, IsGood, IsHeard, IsHeardOf, IsInPhase, IsSteady, IsUpTo, LevelOf, due, ended_few, epoch_in, order_to, reached, read_turned, token, turns_in}
 use Rattle.epoch_laws.proofs.GoodClient.{asked_rises, heard_after}
 use Rattle.epoch_laws.proofs.GoodLetters.{Remains, latest_stays, letters_right, same_epoch, same_phase, told_stays}
 use Rattle.epoch_laws.proofs.Passing.{Answered, Passes, Stay, passes}
-use Rattle.epoch_laws.proofs.Rising.{Fares, Rises, fares}
+use Rattle.epoch_laws.proofs.Rising.{Rises, fares}
 use Rattle.epoch_laws.proofs.AfterCoordinator.{closed_below}
 
 -- What nodes come to stays within what was given.
 within_after : (s : ScriptData) (past : List Entry) (e : Entry) (p : ℕ) → IsGood s past → Remains s past e → p < s.nodes
     → IsWithin (e ∷ past) (turns_in s (e ∷ past) p)
-within_after s past e p good left lt =
-    let was : IsWithin past (turns_in s past p) = good.within p lt in
-    let fares : Fares s past (keeping_in s past p).core (keeping_in s (e ∷ past) p).core = left.fares p lt in
-    let rises : Rises (keeping_in s past p).core (keeping_in s (e ∷ past) p).core = fares.rises in
-    let turned = left.given TurnStage in
-    let showed = left.given ShowStage in
-    let swept = left.given SweepStage in
-    record {
-      turned_low = omega (arith, turned, was.turned_low, rises.low);
-      showed_low = omega (arith, showed, was.showed_low, rises.low);
-      swept_low = omega (arith, swept, was.swept_low, rises.low);
-      showed_update = omega (arith, showed, was.showed_update, rises.update);
-      swept_read = omega (arith, swept, was.swept_read, rises.read);
-      update_turned = omega (arith, turned, fares.turned);
-      read_showed = omega (arith, showed, fares.showed);
-      low_swept = omega (arith, swept, fares.swept);
-    }
+within_after s past e p good left lt = grind arith
 
 -- Below what was swept to no root is born, so all stays silent.
 silent_after : (s : ScriptData) (past : List Entry) (e : Entry) (v : ℕ) → IsTreeLawful s → IsStepRun s (e ∷ past)
@@ -78,15 +58,7 @@ silent_after s past e v laws run apt good left lt =
 
 -- Letters of trees.
 bare_version : (m : ℕ) (body : Body) → IsBare body → tree_version body ≤ m
-bare_version m (Root t) bare = omega arith
-bare_version m Nudge bare = omega arith
-bare_version m Advance bare = omega arith
-bare_version m (AdvanceNo i) bare = omega arith
-bare_version m Lose bare = omega arith
-bare_version m (DoneRow v k row) bare = omega arith
-bare_version m (AskedRow v k row) bare = omega arith
-bare_version m (Wake t k) bare = omega arith
-bare_version m _ bare = absurd bare
+bare_version m body bare = grind arith
 
 work_version : (s : ScriptData) (past : List Entry) (e : Entry) (p : ℕ) (r : Letter) (body : Body) → IsGood s past
     → MayFollow s past e
@@ -98,7 +70,7 @@ work_version s past e p r body good m work sent =
     each_of_brought (λ (l : Letter). tree_version l.body ≤ turned) s past e p r work.brings m good.trees in
     in_up_to turned s (node_in s past p) r.body body
     (done_up_to turned s (node_in s past p) r.body within.update_turned
-    (omega (arith, within.read_showed, within.showed_update, within.update_turned)) own) sent
+    (omega (arith, read_turned past (turns_in s past p) within)) own) sent
 
 sent_version : (s : ScriptData) (past : List Entry) (e : Entry) (body : Body) → IsGood s past → MayFollow s past e
     → IsSentBy s past e body → tree_version body ≤ greatest_given TurnStage past
@@ -120,64 +92,18 @@ trees_after s past e run good left aside =
 
 -- Levels.
 reached_rises : (phase : RestartPhase) (c d : Core) → Rises c d → reached phase c.node.turns ≤ reached phase d.node.turns
-reached_rises (Doing ToTurn) c d rises = rises.update
-reached_rises (Doing ToShow) c d rises = rises.read
-reached_rises (Doing ToSweep) c d rises = rises.low
-reached_rises Idle c d rises = omega arith
-reached_rises _ c d rises = omega arith
+reached_rises phase c d rises = grind arith
 
 level_up : (phase : RestartPhase) (f n : ℕ) (c d : Core) (orders more : ℕ) → Rises c d
     → LevelOf phase f n c.epoch c.node.turns orders
     → due phase f ≤ reached phase d.node.turns + more → LevelOf phase f n d.epoch d.node.turns more
-level_up phase f n c d orders more rises was comes = record {
-  since = omega (arith, was.since, rises.epoch);
-  low = omega (arith, was.low, rises.low);
-  read = omega (arith, was.read, rises.read);
-  update = omega (arith, was.update, rises.update);
-  comes = comes;
-}
+level_up phase f n c d orders more rises was comes = omega (arith, was, rises, comes)
 
 -- where as many orders are in flight to the node
 level_stays : (phase : RestartPhase) (f n : ℕ) (c d : Core) (orders more : ℕ) → Rises c d → more ≡ orders
     → LevelOf phase f n c.epoch c.node.turns orders → LevelOf phase f n d.epoch d.node.turns more
 level_stays phase f n c d orders more rises same was =
     level_up phase f n c d orders more rises was (omega (arith, was.comes, reached_rises phase c d rises, same))
-
--- where it has obeyed the order of the phase
-target_due : (what : What) (f : ℕ) → f ≤ 200 → (target what f).0 ≡ due (Doing what) f
-target_due ToTurn f few = omega (arith, few)
-target_due ToShow f few = omega (arith, few)
-target_due ToSweep f few = omega (arith, few)
-
-reached_by : (what : What) (t : Turns) → reached (Doing what) t ≡ version_of what t
-reached_by ToTurn t = refl
-reached_by ToShow t = refl
-reached_by ToSweep t = refl
-
-comes_by : (c : Restarting) (phase : RestartPhase) (what : What) (v : Version) (t : Turns) (more : ℕ) → c.phase ≡ phase
-    → IsCurrent c what v
-    → c.ended ≤ 200 → v.0 ≤ version_of what t → due phase c.ended ≤ reached phase t + more
-comes_by c phase what v t more at current few there =
-    subst (λ (ph : RestartPhase). due ph c.ended ≤ reached ph t + more) (sym current.phase ∙ at)
-    (omega (arith, target_due what c.ended few, reached_by what t, current.version, there))
-
--- so few advancements have ended
-ended_few : (s : ScriptData) (past : List Entry) (q : ℕ) (phase : RestartPhase) → IsValid s → IsGood s past → q < s.nodes
-    → IsSteady s past phase → (restarting_in s past).ended ≤ 200
-ended_few s past q phase valid good lt was =
-    let within : IsWithin past (turns_in s past q) = good.within q lt in
-    omega (
-      arith,
-      (was.level q lt).low,
-      within.low_swept,
-      within.swept_read,
-      within.read_showed,
-      within.showed_update,
-      within.update_turned,
-      good.asked,
-      asked_most (client_in s past).next s.rows,
-      valid.limited.advances,
-    )
 
 -- a phase in which the coordinator knows how many have ended, with that coordinator
 record SteadyBy (s : ScriptData) (past : List Entry) (phase : RestartPhase) (c : Restarting) : Type 0 where
@@ -188,19 +114,12 @@ record SteadyBy (s : ScriptData) (past : List Entry) (phase : RestartPhase) (c :
 
 with_same : (s : ScriptData) (past : List Entry) (e : Entry) (phase : RestartPhase) → Remains s past e
     → SteadyBy s (e ∷ past) phase (restarting_in s past) → IsSteady s (e ∷ past) phase
-with_same s past e phase left steady =
-    let now : SteadyBy s (e ∷ past) phase (restarting_in s (e ∷ past)) =
-    subst (λ (c : Restarting). SteadyBy s (e ∷ past) phase c) (sym left.same) steady in
-    record { level = now.level; tokens = now.tokens; up_to = now.up_to }
+with_same s past e phase left steady = grind arith
 
 up_to_after : (s : ScriptData) (past : List Entry) (e : Entry) (f wanted : ℕ) → Remains s past e → IsUpTo past f wanted
     → IsUpTo (e ∷ past) f wanted
-up_to_after s past e f wanted left was = record {
-  turned = omega (arith, was.turned, left.given TurnStage);
-  showed = omega (arith, was.showed, left.given ShowStage);
-  swept = omega (arith, was.swept, left.given SweepStage);
-  asked = omega (arith, was.asked, left.given TurnStage);
-}
+up_to_after s past e f wanted left was =
+    omega (arith, was, left.given TurnStage, left.given ShowStage, left.given SweepStage)
 
 level_after : (s : ScriptData) (past : List Entry) (e : Entry) (q p : ℕ) (phase : RestartPhase) (what : What) (v : Version)
     → IsValid s
@@ -211,17 +130,8 @@ level_after : (s : ScriptData) (past : List Entry) (e : Entry) (q p : ℕ) (phas
     → IsSteady s past phase → (q ≡ p) ⊎ (q ≢ p)
     → LevelOf phase (restarting_in s past).ended (restarting_in s past).epoch (epoch_in s (e ∷ past) q) (turns_in s (e ∷ past) q)
     (going (order_to (restarting_in s past).epoch q) s (e ∷ past))
-level_after s past e q p phase what v valid good left at lt current there others was (inl is) =
-    let c = restarting_in s past in
-    let more = going (order_to c.epoch q) s (e ∷ past) in
-    level_up phase c.ended c.epoch (keeping_in s past q).core (keeping_in s (e ∷ past) q).core (going (order_to c.epoch q) s past) more
-    (left.fares q lt).rises (was.level q lt)
-    (comes_by c phase what v (turns_in s (e ∷ past) q) more at current (ended_few s past q phase valid good lt was)
-    (subst (λ (n : ℕ). v.0 ≤ version_of what (turns_in s (e ∷ past) n)) (sym is) there))
-level_after s past e q p phase what v valid good left at lt current there others was (inr ne) =
-    let c = restarting_in s past in
-    level_stays phase c.ended c.epoch (keeping_in s past q).core (keeping_in s (e ∷ past) q).core (going (order_to c.epoch q) s past)
-    (going (order_to c.epoch q) s (e ∷ past)) (left.fares q lt).rises (others ne) (was.level q lt)
+level_after s past e q p phase what v valid good left at lt current there others was is =
+    grind (arith, ended_few)
 
 steady_after : (s : ScriptData) (past : List Entry) (e : Entry) (phase : RestartPhase) → IsValid s → IsGood s past
     → Remains s past e

@@ -1,6 +1,5 @@
 -- Entries of the coordinator, outcome by outcome: it forgets, an advancement is asked for or goes on, or the count does.
-use Rattle.std.proofs.Common.{◌≡◌, ◌⊎◌, inl, inr, ℕ, ◌+◌, ◌<◌, ◌≤◌, ◌-◌, ◌==◌, Bool, true, false, List, [], ◌∷◌, length, refl, sym, ap, subst, ◌∙◌, arith, Some, None}
-use Rattle.std.specs.Prelude.{if◌then◌else◌, nat_lt}
+use Rattle.std.proofs.Common.{◌≡◌, ◌⊎◌, ℕ, ◌+◌, ◌<◌, ◌≤◌, ◌-◌, ◌==◌, Bool, true, false, List, [], ◌∷◌, refl, sym, ap, subst, ◌∙◌, arith}
 use Rattle.std.proofs.lemmas.Bool.Decides.{nat_tests}
 use Rattle.std.proofs.lemmas.List.{length-replicate}
 use Rattle.tv_base.specs.Outside.{one_more}
@@ -16,7 +15,7 @@ use Rattle.node_versions.specs.declared.turns.Turns.{Turns}
 use Rattle.tx_trees.specs.ScriptData.{ScriptData}
 use Rattle.world_model.specs.Coordinator.{to_nodes, version}
 use Rattle.world_model.specs.Counts.{Each, tally}
-use Rattle.world_model.specs.Restarting.{Restarting, begin_counting, enter, forget, in_restart_phase, next_epoch, orders, target, to_client, version_counted}
+use Rattle.world_model.specs.Restarting.{Restarting, after_doing, begin_counting, enter, forget, in_restart_phase, next_advance, next_epoch, orders, target, to_client, version_counted}
 use Rattle.world_model.specs.Runs.{in_flight, restarting_in}
 use Rattle.world_model.specs.declared.restarting.RestartPhase.{RestartPhase}
 use Rattle.world_model.specs.declared.restarting.RestartPhase.TheVariants.{Idle, Doing, Counting}
@@ -24,39 +23,23 @@ use Rattle.world_model.proofs.Bags.{tally-drop}
 use Rattle.world_model.proofs.Every.{each_append}
 use Rattle.world_model.proofs.Orders.{to_nodes_each}
 use Rattle.world_model.proofs.Restarts.{restarting_nodes}
-use Rattle.world_model.proofs.Gone.{under_or}
 use Rattle.phase_laws.specs.Advances.{asked_for}
 use Rattle.phase_laws.specs.Given.{IsShownAnew, IsSweptAnew, greatest_given}
 use Rattle.phase_laws.specs.Phases.{TurnStage, ShowStage, SweepStage}
 use Rattle.phase_laws.specs.Quiet.{IsSilent}
 use Rattle.phase_laws.proofs.Waves.{going}
-use Rattle.epoch_laws.proofs.AfterCoordinator.{IsLast, IsOfCoordinator, OrderNothing, OrdersNothing, fits_still, given_still, good_now, letters_forgotten}
+use Rattle.epoch_laws.proofs.AfterCoordinator.{IsLast, OrderNothing, OrdersNothing, fits_still, given_still, good_now, letters_forgotten}
 use Rattle.epoch_laws.proofs.AtCoordinator.{calm_none, left_of, none_left, order_most}
 use Rattle.epoch_laws.proofs.Few.{IsFew}
-use Rattle.epoch_laws.proofs.Good.{IsCurrent, IsGood, IsHeard, IsInPhase, IsRight, IsSteady, IsUpTo, LevelOf, epoch_in, order_to, token, turns_in}
-use Rattle.epoch_laws.proofs.GoodSteps.{AllAsk, IsAsk, IsMove, answer_token, asks_nothing, asks_own, asks_right, steady_at, steady_doing, told_order, up_still}
-use Rattle.epoch_laws.proofs.GoodTells.{AllEnd, IsBegun, IsWell, ends_nothing, ends_own, ends_right, good_calm, good_tells, well_by}
-use Rattle.epoch_laws.proofs.ToldLists.{HasTold, none_told}
+use Rattle.epoch_laws.proofs.Good.{IsCurrent, IsHeard, IsInPhase, IsRight, IsUpTo, LevelOf, ended_few, epoch_in, in_phase, order_to, token, turns_in}
+use Rattle.epoch_laws.proofs.GoodSteps.{AllAsk, IsAsk, IsMove, answer_token, asks_nothing, asks_right, steady_at, told_order, up_still}
+use Rattle.epoch_laws.proofs.GoodTells.{AllEnd, IsBegun, IsWell, ends_nothing, ends_right, good_calm, good_tells, well_by}
+use Rattle.epoch_laws.proofs.RecoverSteps.{next_each}
+use Rattle.epoch_laws.proofs.ToldLists.{none_told}
 
--- How many advancements may have ended.
-pub few_low : (s : ScriptData) (past : List Entry) (q : ℕ) → IsGood s past → IsFew s past → q < s.nodes → (turns_in s past q).low.0 ≤ 100
-few_low s past q good few lt =
-    let w = good.within q lt in
-    omega (arith, w.low_swept, w.swept_read, w.read_showed, w.showed_update, w.update_turned, good.asked, few.asked)
-
-pub few_ended : (s : ScriptData) (past : List Entry) (phase : RestartPhase) → 1 ≤ s.nodes → IsGood s past → IsFew s past → IsSteady s past phase
-    → (restarting_in s past).ended ≤ 100
-few_ended s past phase some good few was = omega (arith, (was.level 0 (omega (arith, some))).low, few_low s past 0 good few (omega (arith, some)))
-
--- 1. It forgets: what it has told nobody, nothing, and every node is asked.
+-- 1. It forgets: it gives nothing, and each node and the client are asked.
 nothing_heard : (s : ScriptData) (past : List Entry) (e : Entry) → IsMove s past e (next_epoch (restarting_in s past)) → IsHeard s (e ∷ past)
-nothing_heard s past e m =
-    let c = restarting_in s past in
-    record {
-      places = ap (λ (d : Restarting). length d.told) m.state ∙ length-replicate c.nodes None ∙ restarting_nodes s past;
-      nodes = λ q t lt has. absurd (none_told c.nodes q t (subst (λ (d : Restarting). HasTold d.told q t) m.state has));
-      client = λ k has. let none : None ≡ Some k = sym (ap (λ (d : Restarting). d.heard) m.state) ∙ has in absurd (cc none);
-    }
+nothing_heard s past e m = grind (arith, length-replicate, none_told, restarting_nodes)
 
 forget_sends : (P : Outgoing → Type 0) (c : Restarting) → ((to : ℕ) → P (record { to = record { 0 = to }; body = Ask (one_more c.epoch) }))
     → Each P (forget c).sent
@@ -77,7 +60,7 @@ well_forgets s past e m is few =
     let now : (restarting_in s (e ∷ past)).epoch ≡ one_more c.epoch = ap (λ (d : Restarting). d.epoch) m.state in
     let later : c.epoch < (restarting_in s (e ∷ past)).epoch = omega (arith, now, few.epoch) in
     well_by s past e nothing
-    (good_now s past e m.laws m.run m.apt m.at m.good (omega (arith, later)) (own (λ (o : Outgoing). IsOfCoordinator o.body) (λ to. tt))
+    (good_now s past e m.laws m.run m.apt m.at m.good (omega (arith, later))
     (letters_forgotten s past e m.laws.valid m.run.1 m.good (record { at = m.at; given = still; epoch = later })
     (own (λ (o : Outgoing). (i : LetterId) → IsRight s (e ∷ past) e.actor.0 o.to.0 o.body) (λ to i. omega (arith, now))))
     (λ q lt. fits_still past e (turns_in s past q) still (m.good.within q lt))
@@ -94,9 +77,6 @@ took_none s past e x m calm =
     omega (arith, none, tally-drop (λ (l : Letter). token d l.from.0 l.to.0 l.body) e.took.id (in_flight s past) e.took m.run.0.waits)
 
 -- 3. No advancement is in progress: one more is wanted.
-steady_idle : (s : ScriptData) (past : List Entry) → IsGood s past → (restarting_in s past).phase ≡ Idle → IsSteady s past Idle
-steady_idle s past good at = subst (λ (phase : RestartPhase). IsInPhase s past phase) at good.phased
-
 idle_calm : (s : ScriptData) (past : List Entry) → (restarting_in s past).phase ≡ Idle → (what : What) (v : Version)
     → IsCurrent (restarting_in s past) what v → ⊥
 idle_calm s past at what v is = cc (sym at ∙ is.phase)
@@ -107,7 +87,7 @@ goes_turn : (s : ScriptData) (past : List Entry) (e : Entry) (w : ℕ)
     → (restarting_in s past).ended < w → (restarting_in s past).wanted ≤ w → w ≤ asked_for s past → IsFew s past → IsWell s past e
 goes_turn s past e w m sent at lt more asked few =
     let c = restarting_in s past in
-    let was = steady_idle s past m.good at in
+    let was = in_phase s past Idle m.good at in
     good_tells s past e (in_restart_phase (Doing ToTurn) (record c { wanted = w })) ToTurn c.ended w m (took_none s past e _ m (idle_calm s past at))
     (record { phase = refl; epoch = refl; ended = refl; wanted = refl; acks = refl }) (record {
       before = [];
@@ -115,12 +95,7 @@ goes_turn s past e w m sent at lt more asked few =
       ends = tt;
       few = omega (arith, lt, asked, few.asked);
       level = λ q k lq some. omega (arith, was.level q lq, some);
-      up_to = record {
-        turned = was.up_to.turned;
-        showed = was.up_to.showed;
-        swept = was.up_to.swept;
-        asked = omega (arith, was.up_to.asked, more);
-      };
+      up_to = omega (arith, was.up_to, more);
       may = λ q lq. (was.level q lq).low;
       wanted = λ is. omega (arith, lt);
       asked = asked;
@@ -135,22 +110,24 @@ goes_idle : (s : ScriptData) (past : List Entry) (e : Entry) (w : ℕ)
 goes_idle s past e w m none at more =
     let c = restarting_in s past in
     let x = in_restart_phase Idle (record c { wanted = w }) in
-    let was = steady_idle s past m.good at in
+    let was = in_phase s past Idle m.good at in
     let asks : AllAsk e.sent = subst AllAsk (sym none) tt in
     let nothing = asks_nothing e.sent asks in
     well_by s past e nothing
     (good_calm s past e x m
     (record { epoch = refl; heard = λ q lt. (was.level q lt).since; knows = λ is. cc is; last = took_none s past e x m (idle_calm s past at) })
-    nothing (asks_own e.sent asks) (asks_right s (e ∷ past) e.actor.0 e.sent asks)
+    nothing (asks_right s (e ∷ past) e.actor.0 e.sent asks)
     (steady_at s past e x Idle m (λ q lt. omega (arith, was.level q lt)) tt (up_still past e c.ended c.wanted w (given_still past e nothing) more was.up_to)))
 
-pub well_goes : (s : ScriptData) (past : List Entry) (e : Entry) (w : ℕ) (test : Bool) → nat_lt (restarting_in s past).ended w ≡ test
-    → IsMove s past e (enter (if test then Doing ToTurn else Idle) (record (restarting_in s past) { wanted = w })).state
-    → e.sent ≡ (enter (if test then Doing ToTurn else Idle) (record (restarting_in s past) { wanted = w })).sent
-    → (restarting_in s past).phase ≡ Idle → (restarting_in s past).wanted ≤ w → w ≤ asked_for s past → IsFew s past → IsWell s past e
-well_goes s past e w true is m sent at more asked few =
-    let lt : (restarting_in s past).ended < w = grind (arith, nat_tests) in goes_turn s past e w m sent at lt more asked few
-well_goes s past e w false is m sent at more asked few = goes_idle s past e w m sent at more
+pub well_goes : (s : ScriptData) (past : List Entry) (e : Entry) (w : ℕ)
+    → IsMove s past e (enter (next_advance w (restarting_in s past).ended) (record (restarting_in s past) { wanted = w })).state
+    → e.sent ≡ (enter (next_advance w (restarting_in s past).ended) (record (restarting_in s past) { wanted = w })).sent
+    → (restarting_in s past).phase ≡ Idle → (restarting_in s past).wanted ≤ w → w ≤ asked_for s past → IsFew s past
+    → IsWell s past e
+well_goes s past e w m sent at more asked few =
+    let c = record (restarting_in s past) { wanted = w } in
+    next_each (λ (p : RestartPhase). IsMove s past e (enter p c).state → e.sent ≡ (enter p c).sent → IsWell s past e) w c.ended
+    (λ lt n is. goes_turn s past e w n is at lt more asked few) (λ le n is. goes_idle s past e w n is at more) m sent
 
 -- 4. The last node has obeyed.
 left_none : (ls : List Letter) (d q : ℕ) → Each (λ (l : Letter). token d l.from.0 l.to.0 l.body ≡ 0) ls
@@ -178,7 +155,7 @@ pub last_answer : (s : ScriptData) (past : List Entry) (e : Entry) (x : Restarti
     → (one_more (restarting_in s past).acks == (restarting_in s past).nodes) ≡ true → IsLast s past e
 last_answer s past e x what few m at bd is =
     let c = restarting_in s past in
-    let was = (steady_doing s past what m.good at).tokens in
+    let was = (in_phase s past (Doing what) m.good at).tokens in
     let all : one_more c.acks ≡ c.nodes = grind (arith, nat_tests) in
     let one : one_more c.acks ≡ c.acks + 1 = omega (arith, was, few) in
     omega (arith, was, all, one, restarting_nodes s past, answer_token c e.took.from.0 e.took.to.0 e.took.body what bd)
@@ -190,19 +167,12 @@ obeyed_level : (s : ScriptData) (past : List Entry) (e : Entry) (x : Restarting)
 obeyed_level s past e x what q m last at lt =
     let c = restarting_in s past in
     subst (λ (k : ℕ). LevelOf (Doing what) c.ended c.epoch (epoch_in s past q) (turns_in s past q) k) (no_orders s past e x q m last)
-    ((steady_doing s past what m.good at).level q lt)
+    ((in_phase s past (Doing what) m.good at).level q lt)
 
 -- a round begins
 begins_level : (what : What) (reads : Bool) (f e epoch : ℕ) (turns : Turns) (k : ℕ) → (what ≡ ToTurn) × (reads ≡ false) ⊎ (what ≡ ToShow) × (reads ≡ true)
     → LevelOf (Doing what) f e epoch turns 0 → LevelOf (Counting reads) f e epoch turns k
-begins_level ToTurn false f e epoch turns k is was = omega (arith, was)
-begins_level ToShow true f e epoch turns k is was = omega (arith, was)
-begins_level ToTurn true f e epoch turns k (inl is) was = absurd (cc is.1)
-begins_level ToTurn true f e epoch turns k (inr is) was = absurd (cc is.0)
-begins_level ToShow false f e epoch turns k (inl is) was = absurd (cc is.0)
-begins_level ToShow false f e epoch turns k (inr is) was = absurd (cc is.1)
-begins_level ToSweep reads f e epoch turns k (inl is) was = absurd (cc is.0)
-begins_level ToSweep reads f e epoch turns k (inr is) was = absurd (cc is.0)
+begins_level what reads f e epoch turns k is was = grind arith
 
 pub asks_begun : (reads : Bool) (c : Restarting) → AllAsk (begin_counting reads c).sent
 asks_begun reads c = to_nodes_each (λ to body. IsAsk body) c.nodes (AskDone (version_counted reads c) (one_more c.count.number)) (λ to lt. tt)
@@ -214,12 +184,12 @@ pub well_begins : (s : ScriptData) (past : List Entry) (e : Entry) (what : What)
 well_begins s past e what reads m last is at of =
     let c = restarting_in s past in
     let x = (begin_counting reads c).state in
-    let was = steady_doing s past what m.good at in
+    let was = in_phase s past (Doing what) m.good at in
     let asks : AllAsk e.sent = subst AllAsk (sym is) (asks_begun reads c) in
     let nothing = asks_nothing e.sent asks in
     well_by s past e nothing
     (good_calm s past e x m (record { epoch = refl; heard = λ q lt. (was.level q lt).since; knows = λ is. cc is; last = last }) nothing
-    (asks_own e.sent asks) (asks_right s (e ∷ past) e.actor.0 e.sent asks)
+    (asks_right s (e ∷ past) e.actor.0 e.sent asks)
     (steady_at s past e x (Counting reads) m
     (λ q lt.
     begins_level what reads c.ended c.epoch (epoch_in s past q) (turns_in s past q) (going (order_to c.epoch q) s (e ∷ past)) of
@@ -247,8 +217,8 @@ ends_turn s past e m last is at lt few =
     let c = restarting_in s past in
     let f = one_more c.ended in
     let x = in_restart_phase (Doing ToTurn) (record c { ended = f }) in
-    let was = steady_doing s past ToSweep m.good at in
-    let next : f ≡ c.ended + 1 = omega (arith, few_ended s past (Doing ToSweep) m.laws.valid.some_nodes m.good few was) in
+    let was = in_phase s past (Doing ToSweep) m.good at in
+    let next : f ≡ c.ended + 1 = omega (arith, ended_few s past (Doing ToSweep) m.laws.valid m.good was) in
     let level = λ (q k : ℕ) (lq : q < s.nodes) (some : 1 ≤ k).
     swept_level c.ended f c.epoch (epoch_in s past q) (turns_in s past q) k next some (obeyed_level s past e x ToSweep q m last at lq) in
     good_tells s past e x ToTurn f c.wanted m last (record { phase = refl; epoch = refl; ended = refl; wanted = refl; acks = refl }) (record {
@@ -270,13 +240,13 @@ ends_idle : (s : ScriptData) (past : List Entry) (e : Entry)
     → IsMove s past e (in_restart_phase Idle (record (restarting_in s past) { ended = one_more (restarting_in s past).ended }))
     → IsLast s past e
     → e.sent ≡ to_client (Advanced (version (one_more (restarting_in s past).ended))) (restarting_in s past) ∷ []
-    → (restarting_in s past).phase ≡ Doing ToSweep → IsFew s past → IsWell s past e
-ends_idle s past e m last is at few =
+    → (restarting_in s past).phase ≡ Doing ToSweep → IsWell s past e
+ends_idle s past e m last is at =
     let c = restarting_in s past in
     let f = one_more c.ended in
     let x = in_restart_phase Idle (record c { ended = f }) in
-    let was = steady_doing s past ToSweep m.good at in
-    let next : f ≡ c.ended + 1 = omega (arith, few_ended s past (Doing ToSweep) m.laws.valid.some_nodes m.good few was) in
+    let was = in_phase s past (Doing ToSweep) m.good at in
+    let next : f ≡ c.ended + 1 = omega (arith, ended_few s past (Doing ToSweep) m.laws.valid m.good was) in
     let level = λ (q k : ℕ) (lq : q < s.nodes).
     idle_level c.ended f c.epoch (epoch_in s past q) (turns_in s past q) k next (obeyed_level s past e x ToSweep q m last at lq) in
     let ends : AllEnd f e.sent = subst (AllEnd f) (sym is) (refl, tt) in
@@ -284,29 +254,27 @@ ends_idle s past e m last is at few =
     let still = given_still past e nothing in
     well_by s past e nothing
     (good_calm s past e x m (record { epoch = refl; heard = λ q lq. (level q 0 lq).since; knows = λ same. cc same; last = last }) nothing
-    (ends_own f e.sent ends) (ends_right s past e x f e.sent m (λ q lq. (level q 0 lq).low) ends)
+    (ends_right s past e x f e.sent m (λ q lq. (level q 0 lq).low) ends)
     (steady_at s past e x Idle m (λ q lq. level q (going (order_to c.epoch q) s (e ∷ past)) lq) tt
     (up_still past e f c.wanted c.wanted still (omega arith) (subst (λ (n : ℕ). IsUpTo past n c.wanted) (sym next) (up_next past c.ended c.wanted was.up_to)))))
 
-pub well_ends : (s : ScriptData) (past : List Entry) (e : Entry) (test : Bool)
-    → nat_lt (one_more (restarting_in s past).ended) (restarting_in s past).wanted ≡ test
-    → IsMove s past e (in_restart_phase (if test then Doing ToTurn else Idle) (record (restarting_in s past) { ended = one_more (restarting_in s past).ended }))
-    → IsLast s past e
-    → e.sent ≡ to_client (Advanced (version (one_more (restarting_in s past).ended))) (restarting_in s past)
-    ∷ orders (if test then Doing ToTurn else Idle) (record (restarting_in s past) { ended = one_more (restarting_in s past).ended })
+pub well_ends : (s : ScriptData) (past : List Entry) (e : Entry)
+    → IsMove s past e (after_doing ToSweep (restarting_in s past)).state → IsLast s past e
+    → e.sent ≡ (after_doing ToSweep (restarting_in s past)).sent
     → (restarting_in s past).phase ≡ Doing ToSweep → IsFew s past → IsWell s past e
-well_ends s past e true test m last is at few =
-    let lt : one_more (restarting_in s past).ended < (restarting_in s past).wanted = grind (arith, nat_tests) in ends_turn s past e m last is at lt few
-well_ends s past e false test m last is at few = ends_idle s past e m last is at few
+well_ends s past e m last is at few =
+    let c = restarting_in s past in
+    let f = one_more c.ended in
+    let x = record c { ended = f } in
+    next_each
+    (λ (p : RestartPhase). IsMove s past e (in_restart_phase p x)
+    → e.sent ≡ to_client (Advanced (version f)) c ∷ orders p x → IsWell s past e) c.wanted f
+    (λ lt n sent. ends_turn s past e n last sent at lt few) (λ le n sent. ends_idle s past e n last sent at) m is
 
 -- 5. A count agrees: the version is shown, or swept to.
 counting_calm : (s : ScriptData) (past : List Entry) (reads : Bool) → (restarting_in s past).phase ≡ Counting reads → (what : What) (v : Version)
     → IsCurrent (restarting_in s past) what v → ⊥
 counting_calm s past reads at what v is = cc (sym at ∙ is.phase)
-
-pub steady_counting : (s : ScriptData) (past : List Entry) (reads : Bool) → IsGood s past → (restarting_in s past).phase ≡ Counting reads
-    → IsSteady s past (Counting reads)
-steady_counting s past reads good at = subst (λ (phase : RestartPhase). IsInPhase s past phase) at good.phased
 
 before : (f : ℕ) → f ≡ f + 1 - 1
 before f = omega arith
@@ -315,21 +283,12 @@ before f = omega arith
 shown_anew : (s : ScriptData) (past : List Entry) (f : ℕ) (v : Version) → v.0 ≡ f + 1 → f ≤ greatest_given ShowStage past
     → (greatest_given ShowStage past < f + 1 → IsSilent s past (f + 1)) → ((q : ℕ) → q < s.nodes → f + 1 < (turns_in s past q).update.0)
     → IsShownAnew s past v.0
-shown_anew s past f v is from silent above = subst (IsShownAnew s past) (sym is) (by (under_or (f + 1) (greatest_given ShowStage past))) where
-  by : (f + 1 ≤ greatest_given ShowStage past) ⊎ (greatest_given ShowStage past < f + 1) → IsShownAnew s past (f + 1)
-  by (inl old) = inl old
-  by (inr new) = inr (omega (arith, new, from), record { silent = silent new; above = above })
+shown_anew s past f v is from silent above = grind arith
 
 swept_anew : (s : ScriptData) (past : List Entry) (f : ℕ) (v : Version) → v.0 ≡ f + 1 → f ≤ greatest_given SweepStage past
     → (greatest_given SweepStage past ≤ f → IsSilent s past f) → ((q : ℕ) → q < s.nodes → f + 1 ≤ (turns_in s past q).read.0)
     → IsSweptAnew s past v.0
-swept_anew s past f v is from silent above = subst (IsSweptAnew s past) (sym is) (by (under_or (f + 1) (greatest_given SweepStage past))) where
-  by : (f + 1 ≤ greatest_given SweepStage past) ⊎ (greatest_given SweepStage past < f + 1) → IsSweptAnew s past (f + 1)
-  by (inl old) = inl old
-  by (inr new) = inr (
-    omega (arith, new, from),
-    record { silent = subst (IsSilent s past) (before f) (silent (omega (arith, new))); above = above },
-  )
+swept_anew s past f v is from silent above = grind arith
 
 pub well_shows : (s : ScriptData) (past : List Entry) (e : Entry) (x : Restarting) → IsMove s past e x
     → IsBegun (restarting_in s past) x ToShow (restarting_in s past).ended (restarting_in s past).wanted
@@ -338,8 +297,8 @@ pub well_shows : (s : ScriptData) (past : List Entry) (e : Entry) (x : Restartin
     → (greatest_given ShowStage past < (restarting_in s past).ended + 1 → IsSilent s past ((restarting_in s past).ended + 1)) → IsWell s past e
 well_shows s past e x m begun is at few silent =
     let c = restarting_in s past in
-    let was = steady_counting s past false m.good at in
-    let most = few_ended s past (Counting false) m.laws.valid.some_nodes m.good few was in
+    let was = in_phase s past (Counting false) m.good at in
+    let most = ended_few s past (Counting false) m.laws.valid m.good was in
     let next : (target ToShow c.ended).0 ≡ c.ended + 1 = omega (arith, most) in
     good_tells s past e x ToShow c.ended c.wanted m (took_none s past e x m (counting_calm s past false at)) begun (record {
       before = [];
@@ -366,8 +325,8 @@ pub well_sweeps : (s : ScriptData) (past : List Entry) (e : Entry) (x : Restarti
     → (greatest_given SweepStage past ≤ (restarting_in s past).ended → IsSilent s past (restarting_in s past).ended) → IsWell s past e
 well_sweeps s past e x m begun is at few silent =
     let c = restarting_in s past in
-    let was = steady_counting s past true m.good at in
-    let most = few_ended s past (Counting true) m.laws.valid.some_nodes m.good few was in
+    let was = in_phase s past (Counting true) m.good at in
+    let most = ended_few s past (Counting true) m.laws.valid m.good was in
     let next : (target ToSweep c.ended).0 ≡ c.ended + 1 = omega (arith, most) in
     let some = was.level 0 m.laws.valid.some_nodes in
     let from : c.ended ≤ greatest_given SweepStage past = omega (arith, some.low, (m.good.within 0 m.laws.valid.some_nodes).low_swept) in

@@ -1,20 +1,20 @@
 -- The coordinator recovers: it hears more, and once it has heard all it goes on from what it was told.
-use Rattle.std.proofs.Common.{◌≡◌, ◌≢◌, ◌⊎◌, inl, inr, ℕ, zero, suc, ◌+◌, ◌<◌, ◌≤◌, Bool, true, false, List, [], ◌∷◌, length, refl, sym, ap, subst, ◌∙◌, arith, Option, Some, None}
-use Rattle.std.specs.Prelude.{if◌then◌else◌, is_some, max, nat_lt, slice_get, slice_set}
+use Rattle.std.proofs.Common.{◌≡◌, ◌≢◌, ℕ, ◌+◌, ◌<◌, ◌≤◌, Bool, true, false, List, [], ◌∷◌, length, refl, sym, ap, subst, ◌∙◌, arith, Option, Some, None}
+use Rattle.std.specs.Prelude.{is_some, max, slice_set}
 use Rattle.std.specs.List.{list_all, list_any}
 use Rattle.std.proofs.Math.Nat.{le-max_right, max-le}
-use Rattle.std.proofs.lemmas.Bool.Decides.{nat_tests}
 use Rattle.std.proofs.lemmas.List.{length-set}
+use Rattle.std.proofs.lemmas.Option.{slice_get_within}
 use Rattle.tv_base.specs.Outside.{one_more}
-use Rattle.letter_types.specs.declared.bodies.Body.{Body}
-use Rattle.letter_types.specs.declared.bodies.Body.TheVariants.{Advanced, Order, Wanted}
+use Rattle.letter_types.specs.declared.bodies.Body.TheVariants.{Advanced, Numbers, Order, Wanted}
 use Rattle.letter_types.specs.declared.bodies.What.{What}
 use Rattle.letter_types.specs.declared.bodies.What.TheVariants.{Turn as ToTurn, Show as ToShow, Sweep as ToSweep}
 use Rattle.letter_types.specs.declared.entries.Entry.{Entry}
 use Rattle.tx_trees.specs.ScriptData.{ScriptData}
+use Rattle.tx_trees.specs.Valid.{IsValid}
 use Rattle.world_model.specs.Coordinator.{to_nodes, version}
-use Rattle.world_model.specs.Restarting.{AllTold, Restarting, in_restart_phase, least_low, low_differs, orders, read_is, recover, resume_if, target, to_client, update_is, with_advances}
-use Rattle.world_model.specs.Runs.{restarting_in}
+use Rattle.world_model.specs.Restarting.{AllTold, Restarting, in_restart_phase, least_low, low_differs, next_advance, orders, phase_by, read_is, recover, resume_if, target, to_client, update_is, with_advances}
+use Rattle.world_model.specs.Runs.{MayFollow, restarting_in}
 use Rattle.world_model.specs.declared.restarting.RestartPhase.{RestartPhase}
 use Rattle.world_model.specs.declared.restarting.RestartPhase.TheVariants.{Idle, Recovering, Doing}
 use Rattle.world_model.specs.declared.restarting.Told.{Told}
@@ -24,11 +24,12 @@ use Rattle.phase_laws.specs.Given.{IsGivenAnew, greatest_given}
 use Rattle.phase_laws.specs.Phases.{TurnStage, ShowStage, SweepStage}
 use Rattle.phase_laws.proofs.Waves.{going, set_get}
 use Rattle.epoch_laws.proofs.AfterCoordinator.{given_still}
-use Rattle.epoch_laws.proofs.Few.{IsFew}
-use Rattle.epoch_laws.proofs.Good.{AreNumbers, AreWanted, IsGood, IsHeardOf, IsInPhase, IsRight, IsUpTo, LevelOf, epoch_in, order_to, turns_in, heard_now}
-use Rattle.epoch_laws.proofs.GoodOutcomes.{few_low, took_none}
+use Rattle.epoch_laws.proofs.Few.{IsFew, took_asked}
+use Rattle.epoch_laws.proofs.Good.{AreNumbers, AreWanted, IsGood, IsHeardOf, IsInPhase, IsUpTo, LevelOf, epoch_in, in_phase, low_few, order_to, took_right, turns_in}
+use Rattle.epoch_laws.proofs.GoodOutcomes.{took_none}
 use Rattle.epoch_laws.proofs.GoodSteps.{AllAsk, IsMove, asks_nothing, good_stays, heard_at, steady_at, up_still}
-use Rattle.epoch_laws.proofs.GoodTells.{AllEnd, IsWell, MayBeTold, ends_nothing, ends_own, ends_right, good_calm, good_tells, well_by}
+use Rattle.epoch_laws.proofs.GoodTells.{AllEnd, IsWell, MayBeTold, ends_nothing, ends_right, good_calm, good_tells, well_by}
+use Rattle.epoch_laws.proofs.RecoverSteps.{next_each, phase_each}
 use Rattle.epoch_laws.proofs.RestartSteps.{HearsMore, OfClient, OfNode}
 use Rattle.epoch_laws.proofs.ToldLists.{AreSmall, HasTold, SomeTold, all_told, least_most, least_told, some_low, some_read, some_update}
 
@@ -42,40 +43,34 @@ pub record HasHeard (s : ScriptData) (past : List Entry) (d : Restarting) : Type
   pub nodes : (q : ℕ) (t : Told) → q < s.nodes → HasTold d.told q t → IsHeardOf s past q t
   pub client : (k : ℕ) → d.heard ≡ Some k → (greatest_given TurnStage past ≤ k + 1) × (k ≤ asked_for s past)
 
-some_same : (t u : Told) → Some t ≡ Some u → t ≡ u
-some_same t u is = cc is
-
 more_told : (s : ScriptData) (past : List Entry) (ts : AllTold) (from : ℕ) (new : Told) → IsHeardOf s past from new
     → ((q : ℕ) (t : Told) → q < s.nodes → HasTold ts q t → IsHeardOf s past q t)
     → (q : ℕ) (t : Told) → q < s.nodes → HasTold (slice_set ts from (Some new)) q t → IsHeardOf s past q t
-more_told s past ts from new here old q t lt has = by (set_get ts from q (Some new) (Some t) has) where
-  by : ((from ≡ q) × (Some new ≡ Some t)) ⊎ (slice_get ts q ≡ Some (Some t)) → IsHeardOf s past q t
-  by (inl both) = subst (λ (u : Told). IsHeardOf s past q u) (some_same new t both.1) (subst (λ (n : ℕ). IsHeardOf s past n new) both.0 here)
-  by (inr was) = old q t lt was
+more_told s past ts from new here old q t lt has = grind (arith, set_get)
 
-some_number : (a b : ℕ) → Some a ≡ Some b → a ≡ b
-some_number a b is = cc is
-
-pub heard_more : (s : ScriptData) (past : List Entry) (from to : ℕ) (body : Body) (d : Restarting) → IsGood s past → IsFew s past
-    → (restarting_in s past).phase ≡ Recovering → IsRight s past from to body → ((e k : ℕ) → body ≡ Wanted e k → k ≤ asked_for s past)
-    → HearsMore (restarting_in s past) from body d → HasHeard s past d
-heard_more s past from to body d good few at right asked (OfNode u r l bd lt is) =
+pub heard_more : (s : ScriptData) (past : List Entry) (e : Entry) (d : Restarting) → IsGood s past → IsFew s past
+    → MayFollow s past e → (restarting_in s past).phase ≡ Recovering
+    → HearsMore (restarting_in s past) e.took.from.0 e.took.body d → HasHeard s past d
+heard_more s past e d good few m at (OfNode u r l bd lt is) =
     let c = restarting_in s past in
-    let was = heard_now s past good at in
-    let now : AreNumbers s past from c.epoch u r l = subst (IsRight s past from to) bd right in
+    let from = e.took.from.0 in
+    let t : Told = record { update = u; read = r; low = l } in
+    let was = in_phase s past Recovering good at in
+    let now : AreNumbers s past from c.epoch u r l = took_right s past e (Numbers c.epoch u r l) good m bd in
     subst (HasHeard s past) (sym is) (record {
       epoch = refl;
       phase = at;
       nodes_are = restarting_nodes s past;
       wanted = few.wanted;
-      places = length-set c.told from (Some (record { update = u; read = r; low = l })) ∙ was.places;
-      nodes = more_told s past c.told from (record { update = u; read = r; low = l }) (record { told = now.told; latest = now.latest refl at }) was.nodes;
+      places = length-set c.told from (Some t) ∙ was.places;
+      nodes = more_told s past c.told from t (record { told = now.told; latest = now.latest refl at }) was.nodes;
       client = λ k has. (was.client k has, few.heard k has);
     })
-heard_more s past from to body d good few at right asked (OfClient k bd who is) =
+heard_more s past e d good few m at (OfClient k bd who is) =
     let c = restarting_in s past in
-    let was = heard_now s past good at in
-    let now : AreWanted s past c.epoch k = subst (IsRight s past from to) bd right in
+    let was = in_phase s past Recovering good at in
+    let now : AreWanted s past c.epoch k = took_right s past e (Wanted c.epoch k) good m bd in
+    let asked : k ≤ asked_for s past = took_asked s past e (Wanted c.epoch k) few m bd in
     subst (HasHeard s past) (sym is) (record {
       epoch = refl;
       phase = at;
@@ -84,12 +79,12 @@ heard_more s past from to body d good few at right asked (OfClient k bd who is) 
       places = was.places;
       nodes = was.nodes;
       client = λ j has.
-          let same : k ≡ j = some_number k j has in
-          (omega (arith, same, now.covers refl at), omega (arith, same, asked c.epoch k bd));
+          let same : k ≡ j = cc has in
+          (omega (arith, same, now.covers refl at), omega (arith, same, asked));
     })
 
 -- 1. It hasn't heard all.
-pub still_recovers : (s : ScriptData) (past : List Entry) (e : Entry) (d : Restarting) → IsMove s past e d → HasHeard s past d
+still_recovers : (s : ScriptData) (past : List Entry) (e : Entry) (d : Restarting) → IsMove s past e d → HasHeard s past d
     → (restarting_in s past).phase ≡ Recovering → e.sent ≡ [] → IsWell s past e
 still_recovers s past e d m heard at none =
     let asks : AllAsk e.sent = subst AllAsk (sym none) tt in
@@ -107,18 +102,13 @@ pub record IsFound (s : ScriptData) (past : List Entry) (d : Restarting) (f w : 
   pub up_to : IsUpTo past f w
   pub wanted : w ≤ asked_for s past
 
-has_below : (ts : AllTold) (q : ℕ) (t : Told) → HasTold ts q t → q < length ts
-has_below [] q t has = absurd (cc has)
-has_below (o ∷ ts) zero t has = omega arith
-has_below (o ∷ ts) (suc q) t has = omega (arith, has_below ts q t has)
-
-found : (s : ScriptData) (past : List Entry) (d : Restarting) (k : ℕ) → 1 ≤ s.nodes → IsGood s past → IsFew s past → HasHeard s past d
+found : (s : ScriptData) (past : List Entry) (d : Restarting) (k : ℕ) → IsValid s → IsGood s past → HasHeard s past d
     → list_all is_some d.told ≡ true → d.heard ≡ Some k → IsFound s past d (least_low d.told) (max d.wanted k)
-found s past d k some good few heard all has =
+found s past d k valid good heard all has =
     let small : AreSmall d.told = λ q t told.
-    let lt : q < s.nodes = omega (arith, has_below d.told q t told, heard.places) in
-    omega (arith, (heard.nodes q t lt told).told.low, few_low s past q good few lt) in
-    let least = least_told d.told all (omega (arith, some, heard.places)) small in
+    let lt : q < s.nodes = omega (arith, slice_get_within d.told q (Some t) told, heard.places) in
+    omega (arith, (heard.nodes q t lt told).told.low, low_few s past q valid good lt) in
+    let least = least_told d.told all (omega (arith, valid.some_nodes, heard.places)) small in
     let there : least.node < s.nodes = omega (arith, least.below, heard.places) in
     let latest = (heard.nodes least.node least.told there least.has).latest in
     let client = heard.client k has in
@@ -127,12 +117,7 @@ found s past d k some good few heard all has =
       few = omega (arith, least.fits, small least.node least.told least.has);
       epoch = λ q lt. let (t, told) = at q lt in (heard.nodes q t lt told).latest.epoch;
       low = λ q lt. let (t, told) = at q lt in omega (arith, least_most d.told q t told, (heard.nodes q t lt told).told.low);
-      up_to = record {
-        turned = omega (arith, latest.turned, least.fits);
-        showed = omega (arith, latest.showed, least.fits);
-        swept = omega (arith, latest.swept, least.fits);
-        asked = omega (arith, client.0, le-max_right d.wanted k);
-      };
+      up_to = omega (arith, latest, least.fits, client.0, le-max_right d.wanted k);
       wanted = max-le heard.wanted client.1;
     }
 
@@ -145,23 +130,15 @@ record IsNext (s : ScriptData) (past : List Entry) (what : What) (f w : ℕ) : T
 next_level : (s : ScriptData) (past : List Entry) (what : What) (f w q k : ℕ) → IsGood s past → IsNext s past what f w → q < s.nodes → 1 ≤ k
     → (restarting_in s past).epoch ≤ epoch_in s past q → f ≤ (turns_in s past q).low.0
     → LevelOf (Doing what) f (restarting_in s past).epoch (epoch_in s past q) (turns_in s past q) k
-next_level s past ToTurn f w q k good next lq some since low = let was = good.within q lq in omega (arith, was, some, since, low)
-next_level s past ToShow f w q k good next lq some since low =
-    let was = good.within q lq in omega (arith, was, some, since, low, next.show refl)
-next_level s past ToSweep f w q k good next lq some since low =
-    let was = good.within q lq in omega (arith, was, some, since, low, next.sweep refl)
+next_level s past what f w q k good next lq some since low = grind arith
 
 next_may : (s : ScriptData) (past : List Entry) (what : What) (f w q : ℕ) → IsGood s past → IsNext s past what f w → q < s.nodes
     → f ≤ (turns_in s past q).low.0 → MayBeTold what f (turns_in s past q)
-next_may s past ToTurn f w q good next lq low = low
-next_may s past ToShow f w q good next lq low = (low, omega (arith, next.show refl, (good.within q lq).showed_update))
-next_may s past ToSweep f w q good next lq low = (low, omega (arith, next.sweep refl, (good.within q lq).swept_read))
+next_may s past what f w q good next lq low = grind arith
 
 next_anew : (s : ScriptData) (past : List Entry) (what : What) (d f w : ℕ) → f ≤ 100 → IsNext s past what f w
     → IsGivenAnew s past (Order d what (target what f))
-next_anew s past ToTurn d f w few next = tt
-next_anew s past ToShow d f w few next = inl (omega (arith, few, next.show refl))
-next_anew s past ToSweep d f w few next = inl (omega (arith, few, next.sweep refl))
+next_anew s past what d f w few next = grind arith
 
 resumes_by : (s : ScriptData) (past : List Entry) (e : Entry) (d : Restarting) (what : What) (f w : ℕ)
     → IsMove s past e (in_restart_phase (Doing what) (with_advances w f d)) → HasHeard s past d → IsFound s past d f w
@@ -210,23 +187,26 @@ rests_by s past e d f w m heard found at is =
       heard = found.epoch;
       knows = λ same. cc same;
       last = took_none s past e x m (λ a v now. cc (sym at ∙ now.phase));
-    }) nothing (ends_own f e.sent ends) (ends_right s past e x f e.sent m found.low ends)
+    }) nothing (ends_right s past e x f e.sent m found.low ends)
     (steady_at s past e x Idle m
     (λ q lq.
     subst (λ (n : ℕ). LevelOf Idle f n (epoch_in s past q) (turns_in s past q) (going (order_to n q) s (e ∷ past))) (sym heard.epoch)
     (idle_found s past f q (going (order_to c.epoch q) s (e ∷ past)) m.good lq (found.epoch q lq) (found.low q lq)))
     tt (up_still past e f w w still (omega arith) found.up_to)))
 
--- whichever comes
-goes_on : (s : ScriptData) (past : List Entry) (e : Entry) (d : Restarting) (f w : ℕ) (test : Bool) → nat_lt f w ≡ test
-    → IsMove s past e (in_restart_phase (if test then Doing ToTurn else Idle) (with_advances w f d)) → HasHeard s past d → IsFound s past d f w
-    → (restarting_in s past).phase ≡ Recovering
-    → e.sent ≡ to_client (Advanced (version f)) d ∷ orders (if test then Doing ToTurn else Idle) (with_advances w f d) → IsWell s past e
-goes_on s past e d f w true test m heard found at is =
-    let lt : f < w = grind (arith, nat_tests) in
+-- it goes on in this phase, whichever comes
+abbrev GoesOnIn : ScriptData → List Entry → Entry → Restarting → ℕ → ℕ → RestartPhase → Type 0
+GoesOnIn s past e d f w phase = IsMove s past e (in_restart_phase phase (with_advances w f d))
+    → e.sent ≡ to_client (Advanced (version f)) d ∷ orders phase (with_advances w f d) → IsWell s past e
+
+goes_on : (s : ScriptData) (past : List Entry) (e : Entry) (d : Restarting) (f w : ℕ) → HasHeard s past d
+    → IsFound s past d f w → (restarting_in s past).phase ≡ Recovering → GoesOnIn s past e d f w (next_advance w f)
+goes_on s past e d f w heard found at =
+    next_each (GoesOnIn s past e d f w) w f
+    (λ lt m is.
     resumes_by s past e d ToTurn f w m heard found at
-    (record { turn = λ same. omega (arith, lt); show = λ same. absurd (cc same); sweep = λ same. absurd (cc same) }) is
-goes_on s past e d f w false test m heard found at is = rests_by s past e d f w m heard found at is
+    (record { turn = λ same. omega (arith, lt); show = λ same. absurd (cc same); sweep = λ same. absurd (cc same) }) is)
+    (λ le m is. rests_by s past e d f w m heard found at is)
 
 above_by : (a f : ℕ) → f ≤ a → a ≢ f → f + 1 ≤ a
 above_by a f le ne = grind arith
@@ -236,14 +216,14 @@ below_told : (s : ScriptData) (past : List Entry) (d : Restarting) (P : Told →
 below_told s past d P some heard = omega (arith, some.below, heard.places)
 
 -- some node has swept, or shown, or turned
-swept_next : (s : ScriptData) (past : List Entry) (d : Restarting) (w : ℕ) → IsGood s past → HasHeard s past d
-    → list_any (low_differs (least_low d.told)) d.told ≡ true → IsNext s past ToSweep (least_low d.told) w
-swept_next s past d w good heard any =
-    let f = least_low d.told in
+swept_next : (s : ScriptData) (past : List Entry) (d : Restarting) (f w : ℕ) → f ≡ least_low d.told → IsGood s past
+    → HasHeard s past d → list_any (low_differs f) d.told ≡ true → IsNext s past ToSweep f w
+swept_next s past d f w least good heard any =
     let some = some_low d.told f any in
     let lt = below_told s past d (λ (t : Told). t.low.0 ≢ f) some heard in
     let told = (heard.nodes some.node some.told lt some.has).told in
-    let top = above_by some.told.low.0 f (least_most d.told some.node some.told some.has) some.fits in
+    let from : f ≤ some.told.low.0 = omega (arith, least, least_most d.told some.node some.told some.has) in
+    let top = above_by some.told.low.0 f from some.fits in
     record {
       turn = λ same. absurd (cc same);
       show = λ same. absurd (cc same);
@@ -274,34 +254,25 @@ turned_next s past d f w few good heard up any =
       sweep = λ same. absurd (cc same);
     }
 
--- the phase by these tests
-abbrev phase_of : Bool → Bool → Bool → Bool → RestartPhase
-phase_of swept shown turned goes =
-    if swept then Doing ToSweep else if shown then Doing ToShow else if turned then Doing ToTurn else if goes then Doing ToTurn else Idle
-
-resumes : (s : ScriptData) (past : List Entry) (e : Entry) (d : Restarting) (w : ℕ) (swept shown turned goes : Bool)
-    → list_any (low_differs (least_low d.told)) d.told ≡ swept → list_any (read_is (one_more (least_low d.told))) d.told ≡ shown
-    → list_any (update_is (one_more (one_more (least_low d.told)))) d.told ≡ turned → nat_lt (least_low d.told) w ≡ goes
-    → IsMove s past e (in_restart_phase (phase_of swept shown turned goes) (with_advances w (least_low d.told) d)) → HasHeard s past d
-    → IsFound s past d (least_low d.told) w → (restarting_in s past).phase ≡ Recovering
-    → e.sent ≡ to_client (Advanced (version (least_low d.told))) d ∷ orders (phase_of swept shown turned goes) (with_advances w (least_low d.told) d)
-    → IsWell s past e
-resumes s past e d w true shown turned goes a b c g m heard found at is =
-    resumes_by s past e d ToSweep (least_low d.told) w m heard found at (swept_next s past d w m.good heard a) is
-resumes s past e d w false true turned goes a b c g m heard found at is =
-    resumes_by s past e d ToShow (least_low d.told) w m heard found at (shown_next s past d (least_low d.told) w found.few m.good heard b) is
-resumes s past e d w false false true goes a b c g m heard found at is =
-    resumes_by s past e d ToTurn (least_low d.told) w m heard found at
-    (turned_next s past d (least_low d.told) w found.few m.good heard found.up_to c) is
-resumes s past e d w false false false goes a b c g m heard found at is = goes_on s past e d (least_low d.told) w goes g m heard found at is
+resumes : (s : ScriptData) (past : List Entry) (e : Entry) (d : Restarting) (f w : ℕ) → f ≡ least_low d.told
+    → HasHeard s past d → IsFound s past d f w → (restarting_in s past).phase ≡ Recovering
+    → GoesOnIn s past e d f w (phase_by d.told w f)
+resumes s past e d f w least heard found at =
+    phase_each (GoesOnIn s past e d f w) d.told w f
+    (λ a m is. resumes_by s past e d ToSweep f w m heard found at (swept_next s past d f w least m.good heard a) is)
+    (λ a b m is.
+    resumes_by s past e d ToShow f w m heard found at (shown_next s past d f w found.few m.good heard b) is)
+    (λ a b c m is.
+    resumes_by s past e d ToTurn f w m heard found at (turned_next s past d f w found.few m.good heard found.up_to c) is)
+    (λ a b. goes_on s past e d f w heard found at)
 
 -- So the coordinator recovers.
 well_recovers_by : (s : ScriptData) (past : List Entry) (e : Entry) (d : Restarting) (all : Bool) (k : Option ℕ) → list_all is_some d.told ≡ all
     → d.heard ≡ k → IsMove s past e (resume_if all k d).state → HasHeard s past d → IsFew s past → (restarting_in s past).phase ≡ Recovering
     → e.sent ≡ (resume_if all k d).sent → IsWell s past e
 well_recovers_by s past e d true (Some k) all has m heard few at is =
-    resumes s past e d (max d.wanted k) _ _ _ _ refl refl refl refl m heard
-    (found s past d k m.laws.valid.some_nodes m.good few heard all has) at is
+    resumes s past e d (least_low d.told) (max d.wanted k) refl heard
+    (found s past d k m.laws.valid m.good heard all has) at m is
 well_recovers_by s past e d true None all has m heard few at is = still_recovers s past e d m heard at is
 well_recovers_by s past e d false k all has m heard few at is = still_recovers s past e d m heard at is
 

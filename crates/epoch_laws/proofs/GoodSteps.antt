@@ -1,12 +1,10 @@
 -- Entries of the coordinator that ask at most: nothing new is given.
-use Rattle.std.proofs.Common.{◌≡◌, ◌≢◌, ◌⊎◌, inl, inr, ℕ, ◌+◌, ◌<◌, ◌≤◌, ◌==◌, Bool, true, false, List, [], ◌∷◌, length, refl, sym, ap, subst, ◌∙◌, arith, Some}
-use Rattle.std.proofs.lemmas.Bool.Decides.{nat_tests}
+use Rattle.std.proofs.Common.{◌≡◌, ◌⊎◌, inl, inr, ℕ, ◌+◌, ◌<◌, ◌≤◌, Bool, true, false, List, [], ◌∷◌, length, refl, sym, ap, subst, ◌∙◌, arith, Some}
 use Rattle.tv_base.specs.Outside.{one_more}
 use Rattle.tv_base.specs.declared.numbers.Version.{Version}
 use Rattle.letter_types.specs.declared.bodies.Body.{Body}
-use Rattle.letter_types.specs.declared.bodies.Body.TheVariants.{Go, AskAsked, AskDone, Obeyed, Order}
+use Rattle.letter_types.specs.declared.bodies.Body.TheVariants.{Go, AskAsked, AskDone, Obeyed}
 use Rattle.letter_types.specs.declared.bodies.What.{What}
-use Rattle.letter_types.specs.declared.bodies.What.TheVariants.{Turn as ToTurn, Show as ToShow, Sweep as ToSweep}
 use Rattle.letter_types.specs.declared.entries.Entry.{Entry}
 use Rattle.letter_types.specs.declared.entries.LetterId.{LetterId}
 use Rattle.letter_types.specs.declared.entries.Outgoing.{Outgoing}
@@ -15,23 +13,23 @@ use Rattle.tx_trees.specs.ScriptData.{ScriptData}
 use Rattle.world_model.specs.AllApt.{AllApt}
 use Rattle.world_model.specs.Counts.{Each}
 use Rattle.world_model.specs.Keeping.{KeepingNode}
-use Rattle.world_model.specs.Restarting.{Restarting, is_answer, same_what, target}
+use Rattle.world_model.specs.Restarting.{Restarting, target}
 use Rattle.world_model.specs.Runs.{IsStepRun, MayFollow, restarting_in}
 use Rattle.world_model.specs.declared.restarting.RestartPhase.{RestartPhase}
 use Rattle.world_model.specs.declared.restarting.RestartPhase.TheVariants.{Idle, Recovering, Doing, Counting, Paused}
 use Rattle.world_model.specs.declared.restarting.Told.{Told}
-use Rattle.world_model.proofs.Every.{each_map, each_taken}
-use Rattle.world_model.proofs.Bags.{one_if_other, one_if_same}
+use Rattle.world_model.proofs.Every.{each_map}
+use Rattle.world_model.proofs.Bags.{one_if_same}
 use Rattle.phase_laws.specs.Given.{greatest_given}
 use Rattle.phase_laws.specs.Phases.{TurnStage, ShowStage, SweepStage}
 use Rattle.phase_laws.proofs.Lawful.{IsTreeLawful}
 use Rattle.phase_laws.proofs.Progress.{TellsAnew}
 use Rattle.phase_laws.proofs.Waves.{flow_of, going}
-use Rattle.epoch_laws.proofs.AfterCoordinator.{IsOfCoordinator, OrderNothing, OrdersNothing, fits_still, given_still, good_now, letters_kept, orders_none, tokens_none}
+use Rattle.epoch_laws.proofs.AfterCoordinator.{OrderNothing, OrdersNothing, fits_still, given_still, good_now, letters_kept, orders_none, tokens_none}
 use Rattle.epoch_laws.proofs.AtCoordinator.{held_at}
-use Rattle.epoch_laws.proofs.Good.{AreTokens, IsCurrent, IsGood, IsHeard, IsHeardOf, IsInPhase, IsRight, IsSteady, IsUpTo, LevelOf, epoch_in, order_to, token, turns_in}
+use Rattle.epoch_laws.proofs.Good.{AreTokens, IsCurrent, IsGood, IsHeard, IsHeardOf, IsInPhase, IsRight, IsSteady, IsUpTo, Knows, LevelOf, epoch_in, in_phase, order_to, token, took_right, turns_in}
 use Rattle.epoch_laws.proofs.RestartSteps.{IsLeft}
-use Rattle.epoch_laws.proofs.RightAfter.{IsGivenStill, latest_after, told_after}
+use Rattle.epoch_laws.proofs.RightAfter.{IsGivenStill}
 use Rattle.epoch_laws.proofs.ToldLists.{HasTold}
 
 -- A question of a round.
@@ -45,28 +43,13 @@ abbrev pub AllAsk : List Outgoing → Type 0
 AllAsk os = Each (λ (o : Outgoing). IsAsk o.body) os
 
 ask_nothing : (body : Body) → IsAsk body → OrdersNothing body
-ask_nothing (AskDone v k) is = tt
-ask_nothing (AskAsked v k) is = tt
-ask_nothing Go is = absurd is
-ask_nothing _ is = absurd is
-
-ask_own : (body : Body) → IsAsk body → IsOfCoordinator body
-ask_own (AskDone v k) is = tt
-ask_own (AskAsked v k) is = tt
-ask_own Go is = absurd is
-ask_own _ is = absurd is
+ask_nothing body is = grind arith
 
 ask_right : (s : ScriptData) (past : List Entry) (from to : ℕ) (body : Body) → IsAsk body → IsRight s past from to body
-ask_right s past from to (AskDone v k) is = tt
-ask_right s past from to (AskAsked v k) is = tt
-ask_right s past from to Go is = absurd is
-ask_right s past from to _ is = absurd is
+ask_right s past from to body is = grind arith
 
 pub asks_nothing : (os : List Outgoing) → AllAsk os → OrderNothing os
 asks_nothing os all = each_map (λ (o : Outgoing). IsAsk o.body) (λ (o : Outgoing). OrdersNothing o.body) os (λ o is. ask_nothing o.body is) all
-
-pub asks_own : (os : List Outgoing) → AllAsk os → Each (λ (o : Outgoing). IsOfCoordinator o.body) os
-asks_own os all = each_map (λ (o : Outgoing). IsAsk o.body) (λ (o : Outgoing). IsOfCoordinator o.body) os (λ o is. ask_own o.body is) all
 
 pub asks_right : (s : ScriptData) (past : List Entry) (from : ℕ) (os : List Outgoing) → AllAsk os
     → Each (λ (o : Outgoing). (i : LetterId) → IsRight s past from o.to.0 o.body) os
@@ -104,28 +87,10 @@ pub heard_at : (s : ScriptData) (past : List Entry) (e : Entry) (x : Restarting)
     → x.epoch ≡ (restarting_in s past).epoch → length x.told ≡ s.nodes
     → ((q : ℕ) (t : Told) → q < s.nodes → HasTold x.told q t → IsHeardOf s past q t)
     → ((k : ℕ) → x.heard ≡ Some k → greatest_given TurnStage past ≤ k + 1) → IsHeard s (e ∷ past)
-heard_at s past e x m still epoch places nodes client =
-    let same : (restarting_in s (e ∷ past)).epoch ≡ (restarting_in s past).epoch = ap (λ (c : Restarting). c.epoch) m.state ∙ epoch in
-    record {
-      places = ap (λ (c : Restarting). length c.told) m.state ∙ places;
-      nodes = λ q t lt has.
-          let was = nodes q t lt (subst (λ (c : Restarting). HasTold c.told q t) m.state has) in
-          record {
-            told = told_after s past e q t.update t.read t.low m.at lt was.told;
-            latest = latest_after s past e q t.low.0 m.at lt still same was.latest;
-          };
-      client = λ k has.
-          let was = client k (sym (ap (λ (c : Restarting). c.heard) m.state) ∙ has) in
-          omega (arith, was, still TurnStage);
-    }
+heard_at s past e x m still epoch places nodes client = grind arith
 
 pub up_still : (past : List Entry) (e : Entry) (f w v : ℕ) → IsGivenStill past e → w ≤ v → IsUpTo past f w → IsUpTo (e ∷ past) f v
-up_still past e f w v still le was = record {
-  turned = omega (arith, still TurnStage, was.turned);
-  showed = omega (arith, still ShowStage, was.showed);
-  swept = omega (arith, still SweepStage, was.swept);
-  asked = omega (arith, still TurnStage, was.asked, le);
-}
+up_still past e f w v still le was = omega (arith, was, le, still TurnStage, still ShowStage, still SweepStage)
 
 -- 1. It asks at most, in the same epoch, and waits for what it waited for.
 pub good_stays : (s : ScriptData) (past : List Entry) (e : Entry) (x : Restarting) → IsMove s past e x
@@ -136,7 +101,7 @@ good_stays s past e x m epoch asks current recovers phased =
     let c = restarting_in s past in
     let still = given_still past e (asks_nothing e.sent asks) in
     let same : (restarting_in s (e ∷ past)).epoch ≡ c.epoch = ap (λ (d : Restarting). d.epoch) m.state ∙ epoch in
-    good_now s past e m.laws m.run m.apt m.at m.good (omega (arith, same)) (asks_own e.sent asks)
+    good_now s past e m.laws m.run m.apt m.at m.good (omega (arith, same))
     (letters_kept s past e m.laws.valid m.run.1 m.good (record {
       at = m.at;
       given = still;
@@ -151,54 +116,23 @@ good_stays s past e x m epoch asks current recovers phased =
 
 -- Orders and answers in flight then: of what is told the coordinator nothing is an order.
 pub told_order : (d q from to : ℕ) (body : Body) → TellsAnew body → order_to d q from to body ≡ 0
-told_order d q from to (Order n what v) tells = absurd tells
-told_order d q from to Go tells = absurd tells
-told_order d q from to _ tells = refl
+told_order d q from to body tells = grind arith
 
-pub orders_same : (s : ScriptData) (past : List Entry) (e : Entry) (d q : ℕ) → MayFollow s past e → TellsAnew e.took.body → AllAsk e.sent
+orders_same : (s : ScriptData) (past : List Entry) (e : Entry) (d q : ℕ) → MayFollow s past e → TellsAnew e.took.body → AllAsk e.sent
     → going (order_to d q) s (e ∷ past) ≡ going (order_to d q) s past
-orders_same s past e d q m tells asks =
-    omega (
-      arith,
-      flow_of (order_to d q) s past e m,
-      told_order d q e.took.from.0 e.actor.0 e.took.body tells,
-      orders_none d q e.actor.0 e.sent (asks_nothing e.sent asks),
-    )
+orders_same s past e d q m tells asks = grind (arith, asks_nothing, flow_of, orders_none)
 
-pub tokens_same : (s : ScriptData) (past : List Entry) (e : Entry) (d : ℕ) → MayFollow s past e → AllAsk e.sent
+tokens_same : (s : ScriptData) (past : List Entry) (e : Entry) (d : ℕ) → MayFollow s past e → AllAsk e.sent
     → going (token d) s (e ∷ past) + token d e.took.from.0 e.actor.0 e.took.body ≡ going (token d) s past
 tokens_same s past e d m asks =
     omega (arith, flow_of (token d) s past e m, tokens_none d e.actor.0 e.sent (asks_nothing e.sent asks))
 
 -- 2. The phase stays, and more advancements may be wanted.
-same_order : (what : What) → same_what what what ≡ true
-same_order ToTurn = refl
-same_order ToShow = refl
-same_order ToSweep = refl
-
-answer_now : (d : ℕ) (what : What) (v : Version) (c : Restarting) → d ≡ c.epoch → v.0 ≡ (target what c.ended).0 → is_answer d what v what c ≡ true
-answer_now d what v c epoch version =
-    let one : (d == c.epoch) ≡ true = grind (arith, nat_tests) in
-    let two : (v.0 == (target what c.ended).0) ≡ true = grind (arith, nat_tests) in
-    rw (one, same_order what, two) refl
-
-doing_is : (a b : What) → Doing a ≡ Doing b → a ≡ b
-doing_is a b is = cc is
-
 -- a letter that changes nothing is no answer to the present order
 left_token : (s : ScriptData) (past : List Entry) (from to : ℕ) (body : Body) (doing : What) → (restarting_in s past).phase ≡ Doing doing
     → IsLeft body (Doing doing) from (restarting_in s past) → TellsAnew body → IsRight s past from to body
     → token (restarting_in s past).epoch from to body ≡ 0
-left_token s past from to (Obeyed d what v) doing at left tells right =
-    one_if_other d (restarting_in s past).epoch (λ is.
-    let now = right.current is in
-    let same : what ≡ doing = doing_is what doing (sym now.phase ∙ at) in
-    let answers : is_answer d what v doing (restarting_in s past) ≡ true =
-    subst (λ (w : What). is_answer d what v w (restarting_in s past) ≡ true) same (answer_now d what v (restarting_in s past) is now.version) in
-    cc (answers, left))
-left_token s past from to (Order d what v) doing at left tells right = absurd tells
-left_token s past from to Go doing at left tells right = refl
-left_token s past from to _ doing at left tells right = refl
+left_token s past from to body doing at left tells right = grind arith
 
 steady_same : (s : ScriptData) (past : List Entry) (e : Entry) (w : ℕ) (phase : RestartPhase)
     → IsMove s past e (record (restarting_in s past) { wanted = w }) → (restarting_in s past).wanted ≤ w → AllAsk e.sent
@@ -236,12 +170,6 @@ good_same s past e w m more asks none =
     (λ what v is. record { phase = is.phase; version = is.version }) (λ is. is)
     (phased_same s past e w (restarting_in s past).phase m more asks none m.good.phased)
 
-took_right : (s : ScriptData) (past : List Entry) (e : Entry) → MayFollow s past e → IsGood s past
-    → IsRight s past e.took.from.0 e.actor.0 e.took.body
-took_right s past e m good =
-    subst (λ (n : ℕ). IsRight s past e.took.from.0 n e.took.body) m.addressee
-    (each_taken (λ l. IsRight s past l.from.0 l.to.0 l.body) s past e m good.letters)
-
 pub good_rests : (s : ScriptData) (past : List Entry) (e : Entry) → IsMove s past e (restarting_in s past) → e.sent ≡ []
     → IsLeft e.took.body (restarting_in s past).phase e.took.from.0 (restarting_in s past) → IsGood s (e ∷ past)
 good_rests s past e m none left =
@@ -249,15 +177,14 @@ good_rests s past e m none left =
     good_same s past e c.wanted m (omega arith) (subst AllAsk (sym none) tt)
     (λ what at.
     left_token s past e.took.from.0 e.actor.0 e.took.body what at
-    (subst (λ (phase : RestartPhase). IsLeft e.took.body phase e.took.from.0 c) at left) m.tells (took_right s past e m.run.0 m.good))
+    (subst (λ (phase : RestartPhase). IsLeft e.took.body phase e.took.from.0 c) at left) m.tells
+    (subst (λ (n : ℕ). IsRight s past e.took.from.0 n e.took.body) m.run.0.addressee
+    (took_right s past e e.took.body m.good m.run.0 refl)))
 
 -- 3. One node more has obeyed.
 pub answer_token : (c : Restarting) (from to : ℕ) (body : Body) (what : What) → body ≡ Obeyed c.epoch what (target what c.ended)
     → token c.epoch from to body ≡ 1
 answer_token c from to body what is = ap (token c.epoch from to) is ∙ one_if_same c.epoch
-
-pub steady_doing : (s : ScriptData) (past : List Entry) (what : What) → IsGood s past → (restarting_in s past).phase ≡ Doing what → IsSteady s past (Doing what)
-steady_doing s past what good at = subst (λ (phase : RestartPhase). IsInPhase s past phase) at good.phased
 
 few_acks : (acks nodes tokens : ℕ) → tokens + acks ≡ nodes → nodes ≤ 64 → one_more acks ≡ acks + 1
 few_acks acks nodes tokens is few = omega (arith, is, few)
@@ -270,7 +197,7 @@ good_acks s past e what few m none at bd =
     let c = restarting_in s past in
     let x = record c { acks = one_more c.acks } in
     let asks : AllAsk e.sent = subst AllAsk (sym none) tt in
-    let was = steady_doing s past what m.good at in
+    let was = in_phase s past (Doing what) m.good at in
     let next = few_acks c.acks s.nodes (going (token c.epoch) s past) was.tokens few in
     good_stays s past e x m refl asks (λ w v is. record { phase = is.phase; version = is.version }) (λ is. is)
     (subst (λ (phase : RestartPhase). IsInPhase s (e ∷ past) phase) (sym at)
@@ -296,33 +223,21 @@ IsCountOf reads _ = ⊥
 
 -- whose bounds are the same in both phases
 counts_by : (phase : RestartPhase) (reads : Bool) → IsCountOf reads phase → (phase ≡ Counting reads) ⊎ (phase ≡ Paused reads)
-counts_by (Counting r) reads is = inl (ap Counting is)
-counts_by (Paused r) reads is = inr (ap Paused is)
-counts_by Idle reads is = absurd is
-counts_by Recovering reads is = absurd is
-counts_by (Doing what) reads is = absurd is
+counts_by phase reads is = grind arith
 
 steady_count : (s : ScriptData) (past : List Entry) (phase : RestartPhase) (reads : Bool) → (phase ≡ Counting reads) ⊎ (phase ≡ Paused reads)
     → IsInPhase s past phase → IsSteady s past (Counting reads)
-steady_count s past phase reads (inl is) was = subst (λ (p : RestartPhase). IsInPhase s past p) is was
-steady_count s past phase reads (inr is) was = paused reads (subst (λ (p : RestartPhase). IsInPhase s past p) is was) where
-  paused : (r : Bool) → IsSteady s past (Paused r) → IsSteady s past (Counting r)
-  paused true old = record { level = λ q lt. omega (arith, old.level q lt); tokens = tt; up_to = old.up_to }
-  paused false old = record { level = λ q lt. omega (arith, old.level q lt); tokens = tt; up_to = old.up_to }
+steady_count s past phase reads is was = grind arith
 
 back_count : (s : ScriptData) (past : List Entry) (phase : RestartPhase) (reads : Bool) → (phase ≡ Counting reads) ⊎ (phase ≡ Paused reads)
     → IsSteady s past (Counting reads) → IsInPhase s past phase
-back_count s past phase reads (inl is) was = subst (λ (p : RestartPhase). IsInPhase s past p) (sym is) was
-back_count s past phase reads (inr is) was = subst (λ (p : RestartPhase). IsInPhase s past p) (sym is) (paused reads was) where
-  paused : (r : Bool) → IsSteady s past (Counting r) → IsSteady s past (Paused r)
-  paused true old = record { level = λ q lt. omega (arith, old.level q lt); tokens = tt; up_to = old.up_to }
-  paused false old = record { level = λ q lt. omega (arith, old.level q lt); tokens = tt; up_to = old.up_to }
+back_count s past phase reads is was = grind arith
 
 not_doing : (phase : RestartPhase) (reads : Bool) (what : What) → (phase ≡ Counting reads) ⊎ (phase ≡ Paused reads) → phase ≡ Doing what → ⊥
 not_doing phase reads what (inl is) doing = cc (is, doing)
 not_doing phase reads what (inr is) doing = cc (is, doing)
 
-not_recovering : (phase : RestartPhase) (reads : Bool) → (phase ≡ Counting reads) ⊎ (phase ≡ Paused reads) → phase ≡ Recovering → ⊥
+not_recovering : (phase : RestartPhase) (reads : Bool) → (phase ≡ Counting reads) ⊎ (phase ≡ Paused reads) → Knows phase
 not_recovering phase reads (inl is) recovers = cc (is, recovers)
 not_recovering phase reads (inr is) recovers = cc (is, recovers)
 

@@ -1,9 +1,9 @@
--- Entries of the coordinator by which nodes are told something, or by which it begins to count: no letter of its epoch is left then.
+-- Entries of the coordinator by which nodes are told something, or by which it begins to count: no letter of its epoch
+-- is left then.
 use Rattle.std.proofs.Common.{◌≡◌, ℕ, zero, suc, ◌+◌, ◌<◌, ◌≤◌, List, [], ◌∷◌, ◌++◌, refl, sym, ap, subst, ◌∙◌, arith}
-use Rattle.std.proofs.Math.Nat.{max-le}
 use Rattle.tv_base.specs.declared.numbers.Version.{Version}
 use Rattle.letter_types.specs.declared.bodies.Body.{Body}
-use Rattle.letter_types.specs.declared.bodies.Body.TheVariants.{Go, Advanced, Order, Show, Sweep}
+use Rattle.letter_types.specs.declared.bodies.Body.TheVariants.{Go, Advanced, Order}
 use Rattle.letter_types.specs.declared.bodies.What.{What}
 use Rattle.letter_types.specs.declared.bodies.What.TheVariants.{Turn as ToTurn, Show as ToShow, Sweep as ToSweep}
 use Rattle.letter_types.specs.declared.entries.Entry.{Entry}
@@ -12,12 +12,12 @@ use Rattle.letter_types.specs.declared.entries.Outgoing.{Outgoing}
 use Rattle.node_versions.specs.declared.turns.Turns.{Turns}
 use Rattle.tx_trees.specs.ScriptData.{ScriptData}
 use Rattle.world_model.specs.Coordinator.{to_nodes}
-use Rattle.world_model.specs.Counts.{Each, tally}
+use Rattle.world_model.specs.Counts.{Each}
 use Rattle.world_model.specs.Keeping.{KeepingNode}
 use Rattle.world_model.specs.Restarting.{Restarting, target}
 use Rattle.world_model.specs.Runs.{restarting_in}
 use Rattle.world_model.specs.declared.restarting.RestartPhase.{RestartPhase}
-use Rattle.world_model.specs.declared.restarting.RestartPhase.TheVariants.{Recovering, Doing}
+use Rattle.world_model.specs.declared.restarting.RestartPhase.TheVariants.{Doing}
 use Rattle.world_model.proofs.Bags.{tally-append}
 use Rattle.world_model.proofs.Every.{each_append, each_map}
 use Rattle.world_model.proofs.Orders.{to_nodes_each}
@@ -25,11 +25,11 @@ use Rattle.phase_laws.specs.Advances.{asked_for}
 use Rattle.phase_laws.specs.Given.{IsGivenAnew, greatest_given, greatest_told, version_told}
 use Rattle.phase_laws.specs.Phases.{Stage, TurnStage, ShowStage, SweepStage, stage_of}
 use Rattle.phase_laws.proofs.Advancing.{greatest_least, sent_given}
-use Rattle.phase_laws.proofs.Waves.{flow_of, going, leaving}
-use Rattle.epoch_laws.proofs.AfterCoordinator.{IsFit, IsLast, IsNewlySilent, IsOfCoordinator, OrderNothing, OrdersNothing, fits_still, given_still, good_now, letters_told, tokens_none}
+use Rattle.phase_laws.proofs.Waves.{flow_of, going}
+use Rattle.epoch_laws.proofs.AfterCoordinator.{IsFit, IsLast, IsNewlySilent, OrderNothing, OrdersNothing, fits_still, given_still, good_now, letters_told, tokens_none}
 use Rattle.epoch_laws.proofs.AtCoordinator.{held_at, order_sent, orders_tokens}
-use Rattle.epoch_laws.proofs.Good.{IsGood, IsInPhase, IsRight, IsSteady, IsUpTo, LevelOf, epoch_in, order_to, token, turns_in}
-use Rattle.epoch_laws.proofs.GoodSteps.{IsMove, steady_at, told_order}
+use Rattle.epoch_laws.proofs.Good.{IsGood, IsInPhase, IsRight, IsSteady, IsUpTo, Knows, LevelOf, epoch_in, order_to, token, turns_in}
+use Rattle.epoch_laws.proofs.GoodSteps.{IsMove, steady_at}
 use Rattle.epoch_laws.proofs.RightAfter.{IsTelling}
 
 -- Where nodes are told nothing new.
@@ -37,7 +37,7 @@ use Rattle.epoch_laws.proofs.RightAfter.{IsTelling}
 pub record IsCalm (s : ScriptData) (past : List Entry) (e : Entry) (x : Restarting) : Type 0 where
   pub epoch : x.epoch ≡ (restarting_in s past).epoch
   pub heard : (q : ℕ) → q < s.nodes → (restarting_in s past).epoch ≤ epoch_in s past q
-  pub knows : x.phase ≡ Recovering → ⊥
+  pub knows : Knows x.phase
   pub last : IsLast s past e
 
 telling : (s : ScriptData) (past : List Entry) (e : Entry) (x : Restarting) → IsMove s past e x → IsCalm s past e x → IsTelling s past e
@@ -49,13 +49,12 @@ telling s past e x m calm = record {
 }
 
 pub good_calm : (s : ScriptData) (past : List Entry) (e : Entry) (x : Restarting) → IsMove s past e x → IsCalm s past e x
-    → OrderNothing e.sent → Each (λ (o : Outgoing). IsOfCoordinator o.body) e.sent
-    → Each (λ (o : Outgoing). (i : LetterId) → IsRight s (e ∷ past) e.actor.0 o.to.0 o.body) e.sent
+    → OrderNothing e.sent → Each (λ (o : Outgoing). (i : LetterId) → IsRight s (e ∷ past) e.actor.0 o.to.0 o.body) e.sent
     → IsInPhase s (e ∷ past) x.phase → IsGood s (e ∷ past)
-good_calm s past e x m calm nothing own sent phased =
+good_calm s past e x m calm nothing sent phased =
     let still = given_still past e nothing in
     let tells = telling s past e x m calm in
-    good_now s past e m.laws m.run m.apt m.at m.good (omega (arith, tells.epoch)) own
+    good_now s past e m.laws m.run m.apt m.at m.good (omega (arith, tells.epoch))
     (letters_told s past e m.laws.valid m.run.1 m.run.0 m.good tells calm.last sent)
     (λ q lt. fits_still past e (turns_in s past q) still (m.good.within q lt))
     (λ v from lt. absurd (omega (arith, from, lt, still SweepStage)))
@@ -72,23 +71,14 @@ abbrev pub AllEnd : ℕ → List Outgoing → Type 0
 AllEnd f os = Each (λ (o : Outgoing). IsEnd f o.body) os
 
 end_nothing : (f : ℕ) (body : Body) → IsEnd f body → OrdersNothing body
-end_nothing f (Advanced v) is = tt
-end_nothing f Go is = absurd is
-end_nothing f _ is = absurd is
-
-end_own : (f : ℕ) (body : Body) → IsEnd f body → IsOfCoordinator body
-end_own f (Advanced v) is = tt
-end_own f Go is = absurd is
-end_own f _ is = absurd is
+end_nothing f body is = grind arith
 
 -- it has ended at each node
 abbrev HasEndedAt : ScriptData → List Entry → ℕ → Type 0
 HasEndedAt s past f = (q : ℕ) → q < s.nodes → f ≤ (turns_in s past q).low.0
 
 end_right : (s : ScriptData) (past : List Entry) (f from to : ℕ) (body : Body) → HasEndedAt s past f → IsEnd f body → IsRight s past from to body
-end_right s past f from to (Advanced v) ended is = λ q lt. omega (arith, is, ended q lt)
-end_right s past f from to Go ended is = absurd is
-end_right s past f from to _ ended is = absurd is
+end_right s past f from to body ended is = grind arith
 
 ended_now : (s : ScriptData) (past : List Entry) (e : Entry) (x : Restarting) (f : ℕ) → IsMove s past e x → HasEndedAt s past f
     → HasEndedAt s (e ∷ past) f
@@ -96,9 +86,6 @@ ended_now s past e x f m was = λ q lt. held_at (λ (n : KeepingNode). f ≤ n.c
 
 pub ends_nothing : (f : ℕ) (os : List Outgoing) → AllEnd f os → OrderNothing os
 ends_nothing f os all = each_map (λ (o : Outgoing). IsEnd f o.body) (λ (o : Outgoing). OrdersNothing o.body) os (λ o is. end_nothing f o.body is) all
-
-pub ends_own : (f : ℕ) (os : List Outgoing) → AllEnd f os → Each (λ (o : Outgoing). IsOfCoordinator o.body) os
-ends_own f os all = each_map (λ (o : Outgoing). IsEnd f o.body) (λ (o : Outgoing). IsOfCoordinator o.body) os (λ o is. end_own f o.body is) all
 
 pub ends_right : (s : ScriptData) (past : List Entry) (e : Entry) (x : Restarting) (f : ℕ) (os : List Outgoing) → IsMove s past e x
     → HasEndedAt s past f → AllEnd f os
@@ -109,10 +96,8 @@ ends_right s past e x f os m ended all =
 
 -- Where nodes are told something.
 -- the numbers of an order
-pub target_is : (what : What) (f : ℕ) → f ≤ 101 → (f + 1 ≤ (target what f).0) × ((target what f).0 ≤ f + 2)
-target_is ToTurn f few = (omega (arith, few), omega (arith, few))
-target_is ToShow f few = (omega (arith, few), omega (arith, few))
-target_is ToSweep f few = (omega (arith, few), omega (arith, few))
+target_is : (what : What) (f : ℕ) → f ≤ 101 → (f + 1 ≤ (target what f).0) × ((target what f).0 ≤ f + 2)
+target_is what f few = grind arith
 
 -- a node to which it may be told
 abbrev pub MayBeTold : What → ℕ → Turns → Type 0
@@ -145,11 +130,7 @@ pub record IsBegun (c x : Restarting) (what : What) (f w : ℕ) : Type 0 where
 
 -- what is given then
 end_told : (g : Stage) (f m : ℕ) (body : Body) → IsEnd f body → version_told g body ≤ m
-end_told TurnStage f m (Advanced v) is = omega arith
-end_told ShowStage f m (Advanced v) is = omega arith
-end_told SweepStage f m (Advanced v) is = omega arith
-end_told g f m Go is = absurd is
-end_told g f m _ is = absurd is
+end_told g f m body is = grind arith
 
 order_told : (g : Stage) (n d : ℕ) (what : What) (v : Version) (f m : ℕ) (before : List Outgoing) → AllEnd f before
     → version_told g (Order d what v) ≤ m → greatest_told g (before ++ to_nodes n (Order d what v)) ≤ m
@@ -162,10 +143,7 @@ order_told g n d what v f m before ends le =
 
 given_most : (s : ScriptData) (past : List Entry) (e : Entry) (what : What) (f w : ℕ) (g : Stage) (m : ℕ) → Tells s past e what f w
     → version_told g (Order (restarting_in s past).epoch what (target what f)) ≤ m → greatest_given g past ≤ m → greatest_given g (e ∷ past) ≤ m
-given_most s past e what f w g m t told old =
-    max-le
-    (subst (λ (os : List Outgoing). greatest_told g os ≤ m) (sym t.sent)
-    (order_told g s.nodes (restarting_in s past).epoch what (target what f) f m t.before t.ends told)) old
+given_most s past e what f w g m t told old = grind (arith, order_told)
 
 behind : (P : Outgoing → Type 0) (xs : List Outgoing) (o : Outgoing) → Each P (xs ++ o ∷ []) → P o
 behind P [] o all = all.0
@@ -178,9 +156,7 @@ last_of P [] (suc n) body some all = (n, behind P (to_nodes n body) (record { to
 last_of P (x ∷ xs) n body some all = last_of P xs n body some all.1
 
 version_is : (d : ℕ) (what : What) (v : Version) → version_told (stage_of what) (Order d what v) ≡ v.0
-version_is d ToTurn v = refl
-version_is d ToShow v = refl
-version_is d ToSweep v = refl
+version_is d what v = grind arith
 
 given_least : (s : ScriptData) (past : List Entry) (e : Entry) (what : What) (f w : ℕ) → 1 ≤ s.nodes → Tells s past e what f w
     → (target what f).0 ≤ greatest_given (stage_of what) (e ∷ past)
@@ -205,73 +181,40 @@ given_so s past e ToTurn f w good t =
     let most = given_most s past e ToTurn f w in
     let two = target_is ToTurn f t.few in
     let turned : greatest_given TurnStage (e ∷ past) ≤ f + 2 = most TurnStage (f + 2) t two.1 t.up_to.turned in
-    let showed : greatest_given ShowStage (e ∷ past) ≤ greatest_given ShowStage past = most ShowStage (greatest_given ShowStage past) t (omega arith) (omega arith) in
-    let swept : greatest_given SweepStage (e ∷ past) ≤ greatest_given SweepStage past = most SweepStage (greatest_given SweepStage past) t (omega arith) (omega arith) in
+    let asked = most TurnStage (w + 1) t (omega (arith, two.1, t.wanted refl)) t.up_to.asked in
+    let showed = most ShowStage (greatest_given ShowStage past) t (omega arith) (omega arith) in
+    let swept = most SweepStage (greatest_given SweepStage past) t (omega arith) (omega arith) in
     record {
-      up_to = record {
-        turned = turned;
-        showed = omega (arith, showed, t.up_to.showed);
-        swept = omega (arith, swept, t.up_to.swept);
-        asked = most TurnStage (w + 1) t (omega (arith, two.1, t.wanted refl)) t.up_to.asked;
-      };
+      up_to = omega (arith, t.up_to, turned, showed, swept, asked);
       fit = λ q lt.
-          let was = good.within q lt in
           let may : f ≤ (turns_in s past q).low.0 = t.may q lt in
-          record {
-            turned = omega (arith, turned, may);
-            showed = omega (arith, showed, was.showed_low);
-            swept = omega (arith, swept, was.swept_low);
-            above = omega (arith, showed, was.showed_update);
-            reached = omega (arith, swept, was.swept_read);
-          };
+          omega (arith, good.within q lt, turned, showed, swept, may);
       silent = λ v from lt. absurd (omega (arith, from, lt, swept));
     }
 given_so s past e ToShow f w good t =
     let most = given_most s past e ToShow f w in
-    let turned : greatest_given TurnStage (e ∷ past) ≤ greatest_given TurnStage past = most TurnStage (greatest_given TurnStage past) t (omega arith) (omega arith) in
-    let showed : greatest_given ShowStage (e ∷ past) ≤ f + 1 = most ShowStage (f + 1) t (omega (arith, t.few)) t.up_to.showed in
-    let swept : greatest_given SweepStage (e ∷ past) ≤ greatest_given SweepStage past = most SweepStage (greatest_given SweepStage past) t (omega arith) (omega arith) in
+    let turned = most TurnStage (greatest_given TurnStage past) t (omega arith) (omega arith) in
+    let showed : greatest_given ShowStage (e ∷ past) ≤ f + 1 =
+    most ShowStage (f + 1) t (omega (arith, t.few)) t.up_to.showed in
+    let swept = most SweepStage (greatest_given SweepStage past) t (omega arith) (omega arith) in
     record {
-      up_to = record {
-        turned = omega (arith, turned, t.up_to.turned);
-        showed = showed;
-        swept = omega (arith, swept, t.up_to.swept);
-        asked = omega (arith, turned, t.up_to.asked);
-      };
+      up_to = omega (arith, t.up_to, turned, showed, swept);
       fit = λ q lt.
-          let was = good.within q lt in
           let may : (f ≤ (turns_in s past q).low.0) × (f + 1 < (turns_in s past q).update.0) = t.may q lt in
-          record {
-            turned = omega (arith, turned, was.turned_low);
-            showed = omega (arith, showed, may.0);
-            swept = omega (arith, swept, was.swept_low);
-            above = omega (arith, showed, may.1);
-            reached = omega (arith, swept, was.swept_read);
-          };
+          omega (arith, good.within q lt, turned, showed, swept, may);
       silent = λ v from lt. absurd (omega (arith, from, lt, swept));
     }
 given_so s past e ToSweep f w good t =
     let most = given_most s past e ToSweep f w in
-    let turned : greatest_given TurnStage (e ∷ past) ≤ greatest_given TurnStage past = most TurnStage (greatest_given TurnStage past) t (omega arith) (omega arith) in
-    let showed : greatest_given ShowStage (e ∷ past) ≤ greatest_given ShowStage past = most ShowStage (greatest_given ShowStage past) t (omega arith) (omega arith) in
-    let swept : greatest_given SweepStage (e ∷ past) ≤ f + 1 = most SweepStage (f + 1) t (omega (arith, t.few)) t.up_to.swept in
+    let turned = most TurnStage (greatest_given TurnStage past) t (omega arith) (omega arith) in
+    let showed = most ShowStage (greatest_given ShowStage past) t (omega arith) (omega arith) in
+    let swept : greatest_given SweepStage (e ∷ past) ≤ f + 1 =
+    most SweepStage (f + 1) t (omega (arith, t.few)) t.up_to.swept in
     record {
-      up_to = record {
-        turned = omega (arith, turned, t.up_to.turned);
-        showed = omega (arith, showed, t.up_to.showed);
-        swept = swept;
-        asked = omega (arith, turned, t.up_to.asked);
-      };
+      up_to = omega (arith, t.up_to, turned, showed, swept);
       fit = λ q lt.
-          let was = good.within q lt in
           let may : (f ≤ (turns_in s past q).low.0) × (f + 1 ≤ (turns_in s past q).read.0) = t.may q lt in
-          record {
-            turned = omega (arith, turned, was.turned_low);
-            showed = omega (arith, showed, was.showed_low);
-            swept = omega (arith, swept, may.0);
-            above = omega (arith, showed, was.showed_update);
-            reached = omega (arith, swept, may.1);
-          };
+          omega (arith, good.within q lt, turned, showed, swept, may);
       silent = λ v from lt.
           same_at s past v f (omega (arith, from, lt, swept, t.from refl)) (t.silent refl (omega (arith, from, lt, swept)));
     }
@@ -294,34 +237,11 @@ order_right s past e x what f w to m begun t so = record {
 tokens_sent : (s : ScriptData) (past : List Entry) (e : Entry) (x : Restarting) (what : What) (f w : ℕ) → IsMove s past e x → IsLast s past e
     → Tells s past e what f w → going (token (restarting_in s past).epoch) s (e ∷ past) ≡ s.nodes
 tokens_sent s past e x what f w m last t =
-    let d = (restarting_in s past).epoch in
-    let os = to_nodes s.nodes (Order d what (target what f)) in
-    let at : token d e.took.from.0 e.took.to.0 e.took.body ≡ token d e.took.from.0 e.actor.0 e.took.body =
-    ap (λ (n : ℕ). token d e.took.from.0 n e.took.body) m.run.0.addressee in
-    omega (
-      arith,
-      last,
-      at,
-      flow_of (token d) s past e m.run.0,
-      ap (λ (all : List Outgoing). tally (leaving (token d) e.actor.0) all) t.sent,
-      tally-append (leaving (token d) e.actor.0) t.before os,
-      tokens_none d e.actor.0 t.before (ends_nothing f t.before t.ends),
-      orders_tokens s.nodes d e.actor.0 what (target what f),
-    )
+    grind (arith, ends_nothing, flow_of, orders_tokens, tally-append, tokens_none)
 
 orders_sent : (s : ScriptData) (past : List Entry) (e : Entry) (x : Restarting) (what : What) (f w q : ℕ) → IsMove s past e x
     → Tells s past e what f w → q < s.nodes → 1 ≤ going (order_to (restarting_in s past).epoch q) s (e ∷ past)
-orders_sent s past e x what f w q m t lt =
-    let d = (restarting_in s past).epoch in
-    let os = to_nodes s.nodes (Order d what (target what f)) in
-    omega (
-      arith,
-      flow_of (order_to d q) s past e m.run.0,
-      told_order d q e.took.from.0 e.actor.0 e.took.body m.tells,
-      ap (λ (all : List Outgoing). tally (leaving (order_to d q) e.actor.0) all) t.sent,
-      tally-append (leaving (order_to d q) e.actor.0) t.before os,
-      order_sent s.nodes d e.actor.0 what (target what f) q lt,
-    )
+orders_sent s past e x what f w q m t lt = grind (arith, flow_of, order_sent, tally-append)
 
 -- so it is in its phase
 tells_steadily : (s : ScriptData) (past : List Entry) (e : Entry) (x : Restarting) (what : What) (f w : ℕ) → IsMove s past e x → IsLast s past e
@@ -344,13 +264,9 @@ pub record IsWell (s : ScriptData) (past : List Entry) (e : Entry) : Type 0 wher
   pub anew : Each (λ (o : Outgoing). IsGivenAnew s past o.body) e.sent
 
 nothing_anew : (s : ScriptData) (past : List Entry) (body : Body) → OrdersNothing body → IsGivenAnew s past body
-nothing_anew s past (Show v) none = absurd none
-nothing_anew s past (Sweep v) none = absurd none
-nothing_anew s past (Order d what v) none = absurd none
-nothing_anew s past Go none = tt
-nothing_anew s past _ none = tt
+nothing_anew s past body none = grind arith
 
-pub all_anew : (s : ScriptData) (past : List Entry) (os : List Outgoing) → OrderNothing os → Each (λ (o : Outgoing). IsGivenAnew s past o.body) os
+all_anew : (s : ScriptData) (past : List Entry) (os : List Outgoing) → OrderNothing os → Each (λ (o : Outgoing). IsGivenAnew s past o.body) os
 all_anew s past os none =
     each_map (λ (o : Outgoing). OrdersNothing o.body) (λ (o : Outgoing). IsGivenAnew s past o.body) os (λ o is. nothing_anew s past o.body is) none
 
@@ -370,15 +286,11 @@ good_tells s past e x what f w m last begun t =
     (each_append right t.before os (ends_right s past e x f t.before m ended t.ends)
     (to_nodes_each (λ to body. (i : LetterId) → IsRight s (e ∷ past) e.actor.0 to body) s.nodes (Order c.epoch what (target what f))
     (λ to lt i. order_right s past e x what f w to m begun t so))) in
-    let own : Each (λ (o : Outgoing). IsOfCoordinator o.body) e.sent =
-    subst (λ (all : List Outgoing). Each (λ (o : Outgoing). IsOfCoordinator o.body) all) (sym t.sent)
-    (each_append (λ (o : Outgoing). IsOfCoordinator o.body) t.before os (ends_own f t.before t.ends)
-    (to_nodes_each (λ to body. IsOfCoordinator body) s.nodes (Order c.epoch what (target what f)) (λ to lt. tt))) in
     let calm : IsCalm s past e x =
     record { epoch = begun.epoch; heard = λ q lt. (t.level q 1 lt (omega arith)).since; knows = λ is. cc (sym begun.phase ∙ is); last = last } in
     let tells = telling s past e x m calm in
     record {
-      good = good_now s past e m.laws m.run m.apt m.at m.good (omega (arith, tells.epoch)) own
+      good = good_now s past e m.laws m.run m.apt m.at m.good (omega (arith, tells.epoch))
           (letters_told s past e m.laws.valid m.run.1 m.run.0 m.good tells last sent) so.fit so.silent
           (omega (arith, so.up_to.asked, t.asked))
           (subst (λ (d : Restarting). IsInPhase s (e ∷ past) d.phase) (sym m.state)

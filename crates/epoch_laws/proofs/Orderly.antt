@@ -1,25 +1,23 @@
 -- A coordinator that forgets is idle only where it wants no more advancements than have ended, and misses an acknowledgement at
 -- any time.
-use Rattle.std.proofs.Common.{◌≡◌, ℕ, ◌+◌, ◌<◌, ◌≤◌, ◌==◌, Bool, true, false, List, [], ◌∷◌, refl, sym, ap, subst, ◌∙◌, arith}
-use Rattle.std.specs.Prelude.{if◌then◌else◌, max, nat_lt}
-use Rattle.std.specs.List.{list_any}
+use Rattle.std.proofs.Common.{◌≡◌, ℕ, ◌+◌, ◌<◌, ◌≤◌, ◌==◌, Bool, true, false, List, [], ◌∷◌, sym, ap, subst, ◌∙◌, arith}
+use Rattle.std.specs.Prelude.{if◌then◌else◌, max}
 use Rattle.std.proofs.lemmas.Bool.Decides.{nat_tests}
 use Rattle.tv_base.specs.Outside.{one_more}
 use Rattle.phase_out.specs.Counts.{nudged}
 use Rattle.letter_types.specs.declared.bodies.Body.{Body}
 use Rattle.letter_types.specs.declared.bodies.What.{What}
-use Rattle.letter_types.specs.declared.bodies.What.TheVariants.{Turn as ToTurn, Show as ToShow, Sweep as ToSweep}
 use Rattle.letter_types.specs.declared.entries.Entry.{Entry}
 use Rattle.letter_types.specs.declared.entries.Letter.{Letter}
 use Rattle.letter_types.specs.Steps.{Out, still}
 use Rattle.tx_trees.specs.ScriptData.{ScriptData}
-use Rattle.world_model.specs.Restarting.{AllTold, Restarting, after_doing, begin_counting, end_counting, enter, forget, in_restart_phase, least_low, low_differs, next_advance, phase_by, read_is, resume, update_is, with_wanted}
+use Rattle.world_model.specs.Restarting.{Restarting, after_doing, begin_counting, end_counting, enter, forget, in_restart_phase, next_advance, with_wanted}
 use Rattle.world_model.specs.Runs.{restarting_in}
 use Rattle.world_model.specs.Tables.{restarting_table}
 use Rattle.world_model.specs.declared.restarting.RestartPhase.{RestartPhase}
 use Rattle.world_model.specs.declared.restarting.RestartPhase.TheVariants.{Idle, Recovering, Doing, Counting, Paused}
 use Rattle.world_model.proofs.Restarts.{restarting_nodes}
-use Rattle.epoch_laws.proofs.RecoverSteps.{HasHeard, Misses, Recovery, recovery}
+use Rattle.epoch_laws.proofs.RecoverSteps.{Recovery, next_each, recovery}
 use Rattle.epoch_laws.proofs.WantSteps.{more_waits}
 use Rattle.epoch_laws.proofs.RestartSteps.{HearsMore, OfClient, OfNode, RestartStep, asked_kept, asks_with, done_kept, restart_step}
 use Rattle.epoch_laws.proofs.RestartSteps.{Acks, Agrees, Ends, Flags, Forgets, Goes, KeepsAsked, KeepsDone, Pauses, Recounts, Recovers, Rests, Resumes, Wants}
@@ -30,27 +28,9 @@ pub record IsOrderly (n : ℕ) (c : Restarting) : Type 0 where
   pub idle : c.phase ≡ Idle → c.wanted ≤ c.ended
 
 -- Phases.
-none_wanted : (wanted f : ℕ) (test : Bool) → nat_lt f wanted ≡ test → (if test then Doing ToTurn else Idle) ≡ Idle → wanted ≤ f
-none_wanted wanted f true at is = absurd (cc is)
-none_wanted wanted f false at is = grind (arith, nat_tests)
-
 next_idle : (wanted f : ℕ) → next_advance wanted f ≡ Idle → wanted ≤ f
-next_idle wanted f is = none_wanted wanted f (nat_lt f wanted) refl is
-
-told_idle : (sweeps shows turns : Bool) (wanted f : ℕ)
-    → (if sweeps then Doing ToSweep else if shows then Doing ToShow else if turns then Doing ToTurn else next_advance wanted f)
-    ≡ Idle
-    → wanted ≤ f
-told_idle true shows turns wanted f is = absurd (cc is)
-told_idle false true turns wanted f is = absurd (cc is)
-told_idle false false true wanted f is = absurd (cc is)
-told_idle false false false wanted f is = next_idle wanted f is
-
-by_idle : (ts : AllTold) (wanted f : ℕ) → phase_by ts wanted f ≡ Idle → wanted ≤ f
-by_idle ts wanted f is =
-    told_idle (list_any (low_differs f) ts) (list_any (read_is (one_more f)) ts)
-    (list_any (update_is (one_more (one_more f))) ts)
-    wanted f is
+next_idle wanted f =
+    next_each (λ (p : RestartPhase). p ≡ Idle → wanted ≤ f) wanted f (λ lt is. absurd (cc is)) (λ le is. le)
 
 -- Steps.
 goes_to : (n : ℕ) (out next : Out Restarting) → out ≡ next → IsOrderly n next.state → IsOrderly n out.state
@@ -61,9 +41,7 @@ busy_in : (n : ℕ) (d : Restarting) (phase : RestartPhase) → d.phase ≡ phas
 busy_in n d phase is few busy = record { acks = few; idle = λ idle. absurd (busy (sym is ∙ idle)) }
 
 done_orderly : (n : ℕ) (what : What) (c : Restarting) → 1 ≤ n → IsOrderly n (after_doing what c).state
-done_orderly n ToTurn c some = record { acks = omega (arith, some); idle = λ is. absurd (cc is) }
-done_orderly n ToShow c some = record { acks = omega (arith, some); idle = λ is. absurd (cc is) }
-done_orderly n ToSweep c some = record { acks = omega (arith, some); idle = λ is. next_idle c.wanted (one_more c.ended) is }
+done_orderly n what c some = grind arith
 
 ends_orderly : (n : ℕ) (reads : Bool) (c : Restarting) → 1 ≤ n → IsOrderly n (end_counting reads c).state
 ends_orderly n true c some = record { acks = omega (arith, some); idle = λ is. absurd (cc is) }
@@ -71,13 +49,7 @@ ends_orderly n false c some = record { acks = omega (arith, some); idle = λ is.
 
 recovers_orderly : (n : ℕ) (d : Restarting) (out : Out Restarting) → 1 ≤ n → d.phase ≡ Recovering → d.acks < n → Recovery d out
     → IsOrderly n out.state
-recovers_orderly n d out some waits few (Misses misses is) =
-    goes_to n out (still d) is (busy_in n d Recovering waits few (λ is. cc is))
-recovers_orderly n d out some waits few (HasHeard k told heard is) =
-    goes_to n out (resume k d) is (record {
-      acks = omega (arith, some);
-      idle = λ at. by_idle d.told (max d.wanted k) (least_low d.told) at;
-    })
+recovers_orderly n d out some waits few is = grind arith
 
 more_acks : (c d : Restarting) (from : ℕ) (body : Body) → HearsMore c from body d → d.acks ≡ c.acks
 more_acks c d from body (OfNode u r l bd lt is) = ap (λ (x : Restarting). x.acks) is

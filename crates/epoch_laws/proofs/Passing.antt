@@ -5,9 +5,8 @@ use Rattle.std.proofs.lemmas.Bool.{cases_eq}
 use Rattle.std.proofs.lemmas.Bool.Decides.{nat_tests}
 use Rattle.tv_base.specs.declared.numbers.Version.{Version}
 use Rattle.letter_types.specs.declared.bodies.Body.{Body}
-use Rattle.letter_types.specs.declared.bodies.Body.TheVariants.{Wake, Ask, Order, Obeyed}
+use Rattle.letter_types.specs.declared.bodies.Body.TheVariants.{Wake, Order, Obeyed}
 use Rattle.letter_types.specs.declared.bodies.What.{What}
-use Rattle.letter_types.specs.declared.bodies.What.TheVariants.{Turn as ToTurn, Show as ToShow, Sweep as ToSweep}
 use Rattle.letter_types.specs.declared.entries.Entry.{Entry}
 use Rattle.letter_types.specs.declared.entries.Outgoing.{Outgoing}
 use Rattle.node_versions.specs.declared.turns.Turns.{Turns}
@@ -18,14 +17,13 @@ use Rattle.world_model.specs.Core.{Core}
 use Rattle.world_model.specs.Counts.{Each, one_if, tally}
 use Rattle.world_model.specs.Node.{Node}
 use Rattle.world_model.specs.Runs.{MayFollow, keeping_in, node_in, restarting_in}
-use Rattle.world_model.proofs.Bags.{tally-append, one_if_other}
+use Rattle.world_model.proofs.Bags.{one_if_other}
 use Rattle.world_model.proofs.Every.{each_map, each_none}
 use Rattle.phase_laws.proofs.Heeds.{Answers, AreWakes, Heed, IsOfEpoch, IsWake, Leaves, Obeys, Repeats, turned_to, version_of}
 use Rattle.phase_laws.proofs.Waves.{flow_of, going, leaving}
 use Rattle.phase_laws.proofs.Working.{IsOfTrees, SentIn}
 use Rattle.epoch_laws.proofs.Aside.{AreBare, Aside, Counts, Heeds, IsBare, IsEpochless, Submits, Tells, Works, submit_bare}
-use Rattle.epoch_laws.proofs.Good.{IsCurrent, IsGood, IsOrder, order_to, token, turns_in}
-use Rattle.epoch_laws.proofs.Rising.{took_right}
+use Rattle.epoch_laws.proofs.Good.{IsCurrent, IsGood, IsOrder, order_to, token, took_right, turns_in}
 
 -- neither an order nor an answer
 abbrev pub IsNoToken : Body → Type 0
@@ -34,28 +32,20 @@ IsNoToken (Obeyed n what v) = ⊥
 IsNoToken _ = Unit {0}
 
 epochless_none : (body : Body) → IsEpochless body → IsNoToken body
-epochless_none (Order n what v) none = absurd none
-epochless_none (Obeyed n what v) none = absurd none
-epochless_none _ none = tt
+epochless_none body none = grind arith
 
 bare_none : (body : Body) → IsBare body → IsNoToken body
-bare_none (Order n what v) bare = absurd bare
-bare_none (Obeyed n what v) bare = absurd bare
-bare_none _ bare = tt
+bare_none body bare = grind arith
 
 wake_none : (body : Body) → IsWake body → IsNoToken body
 wake_none (Wake t k) wake = tt
 wake_none _ wake = absurd wake
 
 tree_none : (body : Body) → IsOfTrees body → IsNoToken body
-tree_none (Order n what v) of = absurd of
-tree_none (Obeyed n what v) of = absurd of
-tree_none _ of = tt
+tree_none body of = grind arith
 
 sent_none : (s : ScriptData) (st : Node) (does body : Body) → SentIn s st does body → IsNoToken body
-sent_none s st does (Order n what v) sent = absurd sent
-sent_none s st does (Obeyed n what v) sent = absurd sent
-sent_none s st does _ sent = tt
+sent_none s st does body sent = grind arith
 
 -- A number of letters of the present epoch.
 -- it counts neither a letter that is no token, nor one of an epoch before
@@ -68,9 +58,7 @@ apart_and : (m n : ℕ) (test : Bool) → m ≢ n → one_if ((m == n) && test) 
 apart_and m n test ne = let no : (m == n) ≡ false = grind (arith, nat_tests) in rw no refl
 
 no_token : (n from to : ℕ) (body : Body) → IsNoToken body → token n from to body ≡ 0
-no_token n from to (Order m what v) none = absurd none
-no_token n from to (Obeyed m what v) none = absurd none
-no_token n from to _ none = refl
+no_token n from to body none = grind arith
 
 no_order : (n q from to : ℕ) (body : Body) → IsNoToken body → order_to n q from to body ≡ 0
 no_order n q from to (Order m what v) none = absurd none
@@ -109,14 +97,7 @@ answer_flows : (s : ScriptData) (past : List Entry) (e : Entry) (n k : ℕ) (wha
     → AreWakes more
     → going f s (e ∷ past) + f e.took.from.0 e.actor.0 (Order k what v) ≡ going f s past + f e.actor.0 s.nodes (Obeyed k what v)
 answer_flows s past e n k what v more f m weighs bd sent woken =
-    let took : f e.took.from.0 e.actor.0 e.took.body ≡ f e.took.from.0 e.actor.0 (Order k what v) =
-    ap (λ (b : Body). f e.took.from.0 e.actor.0 b) bd in
-    let all : tally (leaving f e.actor.0) e.sent ≡ tally (leaving f e.actor.0) (to_coordinator s (Obeyed k what v) ++ more) =
-    ap (λ (os : List Outgoing). tally (leaving f e.actor.0) os) sent in
-    let rest : tally (leaving f e.actor.0) more ≡ 0 =
-    sum_none n e.actor.0 f more weighs
-    (each_map (λ (o : Outgoing). IsWake o.body) (λ (o : Outgoing). IsNoToken o.body) more (λ o wake. wake_none o.body wake) woken) in
-    omega (arith, flow_of f s past e m, took, all, tally-append (leaving f e.actor.0) (to_coordinator s (Obeyed k what v)) more, rest)
+    grind (arith, each_map, flow_of, sum_none, wake_none)
 
 -- What becomes of those of the present epoch.
 pub data Passes (s : ScriptData) (past : List Entry) (e : Entry) : Type 0 where
@@ -143,9 +124,7 @@ took_none s past e m none sent = stay s past e m (λ f weighs. weighs.none e.too
 
 -- a letter of an epoch before the node's isn't of the present one
 late_none : (m n from to : ℕ) (body : Body) (f : ℕ → ℕ → Body → ℕ) → Weighs n f → IsOfEpoch m body → m < n → f from to body ≡ 0
-late_none m n from to (Order k what v) f weighs of less = weighs.order from to k what v (λ same. omega (arith, of, less, same))
-late_none m n from to (Ask k) f weighs of less = weighs.none from to (Ask k) tt
-late_none m n from to _ f weighs of less = absurd of
+late_none m n from to body f weighs of less = grind arith
 
 -- an order of another epoch is answered
 old_passes : (s : ScriptData) (past : List Entry) (e : Entry) (k : ℕ) (what : What) (v : Version) (more : List Outgoing)
@@ -164,7 +143,7 @@ old_passes s past e k what v more m bd sent woken ne =
     Stay (same (token n) (token_weighs n)) (λ q. same (order_to n q) (order_weighs n q))
 
 other_node : (m n p q : ℕ) → q ≢ p → one_if ((m == n) && (p == q)) ≡ 0
-other_node m n p q ne = grind (arith, nat_tests)
+other_node m n p q ne = grind arith
 
 -- one of the present epoch, by a node that has come to its version
 now_passes : (s : ScriptData) (past : List Entry) (e : Entry) (p k : ℕ) (what : What) (v : Version) (more : List Outgoing)
@@ -197,9 +176,7 @@ answered s past e p k what v more good m at lt bd sent woken there (inr ne) =
     old_passes s past e k what v more m bd sent woken ne
 
 turned_version : (what : What) (v : Version) (t : Turns) → version_of what (turned_to what v t) ≡ v.0
-turned_version ToTurn v t = refl
-turned_version ToShow v t = refl
-turned_version ToSweep v t = refl
+turned_version what v t = grind arith
 
 heed_passes : (s : ScriptData) (past : List Entry) (e : Entry) (p : ℕ) → IsGood s past → MayFollow s past e → e.actor.0 ≡ p
     → p < s.nodes

@@ -1,12 +1,11 @@
 -- What the steps of a coordinator that forgets cost, in entries.
-use Rattle.std.proofs.Common.{if◌then◌else◌, ◌≡◌, ◌⊎◌, inl, inr, ℕ, zero, suc, ◌+◌, ◌*◌, ◌<◌, ◌≤◌, ◌&&◌, not, Bool, true, false, List, [], ◌∷◌, length, replicate, set, refl, sym, ap, subst, ◌∙◌, arith, Option, Some, None}
-use Rattle.std.specs.Prelude.{max, nat_lt, is_some, slice_set}
+use Rattle.std.proofs.Common.{if◌then◌else◌, ◌≡◌, ◌⊎◌, inl, inr, ℕ, zero, suc, ◌+◌, ◌*◌, ◌<◌, ◌≤◌, ◌&&◌, not, Bool, true, false, List, [], ◌∷◌, length, set, refl, sym, ap, subst, ◌∙◌, arith, Option, Some, None}
+use Rattle.std.specs.Prelude.{max, is_some, slice_set}
 use Rattle.std.specs.List.{list_all}
 use Rattle.tv_base.specs.Outside.{one_more}
 use Rattle.tv_base.specs.declared.numbers.Version.{Version}
 use Rattle.phase_out.specs.Counts.{nudged}
 use Rattle.phase_out.specs.Rounds.{NodeRows, all_in}
-use Rattle.phase_out.proofs.With.{none_in}
 use Rattle.letter_types.specs.declared.bodies.Body.{Body}
 use Rattle.letter_types.specs.declared.bodies.Body.TheVariants.{Go, Advance, Advanced, AdvanceNo, Ask, AskAsked, AskDone, AskedRow, DoneRow, Lose, Numbers, Obeyed, Order, Show, Shown, Sweep, Swept, Turn, Turned, Wanted}
 use Rattle.letter_types.specs.declared.bodies.What.{What}
@@ -14,13 +13,15 @@ use Rattle.letter_types.specs.declared.bodies.What.TheVariants.{Turn as ToTurn, 
 use Rattle.letter_types.specs.Steps.{Out, still}
 use Rattle.world_model.specs.Coordinator.{to_nodes}
 use Rattle.world_model.specs.Counts.{tally}
-use Rattle.world_model.specs.Restarting.{Restarting, AllTold, after_doing, begin_counting, version_counted, with_advances, end_counting, enter, forget, in_restart_phase, next_advance, orders, resume, resume_if, target, with_wanted}
+use Rattle.world_model.specs.Restarting.{Restarting, AllTold, after_doing, begin_counting, with_advances, end_counting, enter, forget, in_restart_phase, next_advance, orders, resume, resume_if, with_wanted}
 use Rattle.world_model.specs.declared.restarting.RestartPhase.{RestartPhase}
 use Rattle.world_model.specs.declared.restarting.RestartPhase.TheVariants.{Idle, Recovering, Doing, Counting, Paused}
 use Rattle.world_model.proofs.Bags.{tally-append}
 use Rattle.world_model.proofs.Lawful.{is_nudge}
 use Rattle.world_model.proofs.Sends.{on}
 use Rattle.phase_laws.proofs.Outcomes.{one_more_is}
+use Rattle.epoch_laws.proofs.Good.{Knows}
+use Rattle.epoch_laws.proofs.RecoverSteps.{next_each}
 use Rattle.epoch_laws.proofs.RestartSteps.{HearsMore, OfClient, OfNode, RestartStep, asked_kept, asks_with, done_kept}
 use Rattle.epoch_laws.proofs.RestartSteps.{Acks, Agrees, Ends, Flags, Forgets as StepForgets, Goes, KeepsAsked, KeepsDone, Pauses, Recounts, Recovers, Rests, Resumes as StepResumes, Wants}
 
@@ -91,7 +92,7 @@ pub data TellsMore (c : Restarting) (from : ℕ) (body : Body) (told : AllTold) 
 
 -- it pays for what it sends; it forgets; it waits for what it hasn't heard; or it resumes
 pub data StepCosts (n : ℕ) (c : Restarting) (from : ℕ) (body : Body) (out : Out Restarting) : Type 0 where
-  Spends : (c.phase ≡ Recovering → ⊥) → (out.state.phase ≡ Recovering → ⊥) → out.state.epoch ≡ c.epoch → Pays n c body out
+  Spends : Knows c.phase → Knows out.state.phase → out.state.epoch ≡ c.epoch → Pays n c body out
       → StepCosts n c from body out
   Forgets : body ≡ Lose → out ≡ forget c → StepCosts n c from body out
   Waits : c.phase ≡ Recovering → out.state.phase ≡ Recovering → out.state.epoch ≡ c.epoch → TellsMore c from body out.state.told
@@ -111,7 +112,7 @@ to_nodes_price (suc n) body two =
       tally-append (on price) (to_nodes n body) (record { to = record { 0 = n }; body = body } ∷ []),
     )
 
-pub all_price : (m n : ℕ) (body : Body) → m ≡ n → price body ≡ 2 → tally (on price) (to_nodes m body) ≡ 2 * n
+all_price : (m n : ℕ) (body : Body) → m ≡ n → price body ≡ 2 → tally (on price) (to_nodes m body) ≡ 2 * n
 all_price m n body nodes two = to_nodes_price m body two ∙ ap (λ (k : ℕ). 2 * k) nodes
 
 -- orders as a phase begins
@@ -122,63 +123,40 @@ ordered n _ = 0
 
 pub orders_price : (n : ℕ) (phase : RestartPhase) (c : Restarting) → c.nodes ≡ n
     → tally (on price) (orders phase c) ≡ ordered n phase
-orders_price n (Doing what) c nodes = all_price c.nodes n (Order c.epoch what (target what c.ended)) nodes refl
-orders_price n Idle c nodes = refl
-orders_price n Recovering c nodes = refl
-orders_price n (Counting reads) c nodes = refl
-orders_price n (Paused reads) c nodes = refl
+orders_price n phase c nodes = grind (arith, all_price)
 
 -- Phases.
 begun_at : (n : ℕ) (c : Restarting) (phase : RestartPhase) → c.phase ≡ phase → begun n c.phase ≡ begun n phase
 begun_at n c phase at = ap (λ (p : RestartPhase). begun n p) at
 
-owed_at : (n : ℕ) (c : Restarting) (phase : RestartPhase) → c.phase ≡ phase
-    → owed n c ≡ unasked n phase c.count.current.dones + promised n phase c.count.flag
-owed_at n c phase at = ap (λ (p : RestartPhase). unasked n p c.count.current.dones + promised n p c.count.flag) at
-
 -- a phase that begins with its orders, and in which nothing is owed
 pub record IsEntered (n : ℕ) (phase : RestartPhase) : Type 0 where
-  pub known : phase ≡ Recovering → ⊥
+  pub known : Knows phase
   pub unasked : (dones : NodeRows) → unasked n phase dones ≡ 0
   pub promised : (flag : Bool) → promised n phase flag ≡ 0
-
-pub next_entered : (n wanted f : ℕ) → IsEntered n (next_advance wanted f)
-next_entered n wanted f = by (nat_lt f wanted) where
-  by : (b : Bool) → IsEntered n (if b then Doing ToTurn else Idle)
-  by true = record { known = λ is. cc is; unasked = λ dones. refl; promised = λ flag. refl }
-  by false = record { known = λ is. cc is; unasked = λ dones. refl; promised = λ flag. refl }
-
-pub next_orders : (n wanted f : ℕ) → ordered n (next_advance wanted f) ≡ begun n (next_advance wanted f)
-next_orders n wanted f = by (nat_lt f wanted) where
-  by : (b : Bool) → ordered n (if b then Doing ToTurn else Idle) ≡ begun n (if b then Doing ToTurn else Idle)
-  by true = refl
-  by false = refl
 
 pub doing_entered : (n : ℕ) (what : What) → IsEntered n (Doing what)
 doing_entered n what = record { known = λ is. cc is; unasked = λ dones. refl; promised = λ flag. refl }
 
-unasked_all : (n : ℕ) (phase : RestartPhase) (dones : NodeRows) → all_in dones ≡ true → unasked n phase dones ≡ 0
-unasked_all n (Counting reads) dones all = rw all refl
-unasked_all n Idle dones all = refl
-unasked_all n Recovering dones all = refl
-unasked_all n (Doing what) dones all = refl
-unasked_all n (Paused reads) dones all = refl
+pub next_entered : (n wanted f : ℕ) → IsEntered n (next_advance wanted f)
+next_entered n wanted f =
+    next_each (IsEntered n) wanted f (λ lt. doing_entered n ToTurn)
+    (λ le. record { known = λ is. cc is; unasked = λ dones. refl; promised = λ flag. refl })
+
+pub next_orders : (n wanted f : ℕ) → ordered n (next_advance wanted f) ≡ begun n (next_advance wanted f)
+next_orders n wanted f = next_each (λ (p : RestartPhase). ordered n p ≡ begun n p) wanted f (λ lt. refl) (λ le. refl)
 
 -- Steps.
-pub recovers_or : (phase : RestartPhase) → (phase ≡ Recovering) ⊎ (phase ≡ Recovering → ⊥)
-recovers_or Recovering = inl refl
-recovers_or Idle = inr (λ is. cc is)
-recovers_or (Doing what) = inr (λ is. cc is)
-recovers_or (Counting reads) = inr (λ is. cc is)
-recovers_or (Paused reads) = inr (λ is. cc is)
+pub recovers_or : (phase : RestartPhase) → (phase ≡ Recovering) ⊎ Knows phase
+recovers_or phase = grind arith
 
-spends : (n : ℕ) (c : Restarting) (from : ℕ) (body : Body) (out next : Out Restarting) → out ≡ next → (c.phase ≡ Recovering → ⊥)
-    → (next.state.phase ≡ Recovering → ⊥) → next.state.epoch ≡ c.epoch → Pays n c body next → StepCosts n c from body out
+spends : (n : ℕ) (c : Restarting) (from : ℕ) (body : Body) (out next : Out Restarting) → out ≡ next → Knows c.phase
+    → Knows next.state.phase → next.state.epoch ≡ c.epoch → Pays n c body next → StepCosts n c from body out
 spends n c from body out next is was now epoch pays =
     subst (λ (o : Out Restarting). StepCosts n c from body o) (sym is) (Spends was now epoch pays)
 
 -- a step that leaves all but what is wanted
-stays_as : (n : ℕ) (c : Restarting) (from : ℕ) (body : Body) (w : ℕ) → (c.phase ≡ Recovering) ⊎ (c.phase ≡ Recovering → ⊥)
+stays_as : (n : ℕ) (c : Restarting) (from : ℕ) (body : Body) (w : ℕ) → (c.phase ≡ Recovering) ⊎ Knows c.phase
     → StepCosts n c from body (still (record c { wanted = w }))
 stays_as n c from body w (inl at) = Waits at at refl (Same refl) refl
 stays_as n c from body w (inr known) = Spends known known refl (omega arith)
@@ -188,34 +166,17 @@ stays n c from body w = stays_as n c from body w (recovers_or c.phase)
 
 -- a phase begins with its orders
 enters : (n : ℕ) (c d : Restarting) (from : ℕ) (body : Body) (out : Out Restarting) (phase : RestartPhase) → d.nodes ≡ n
-    → d.epoch ≡ c.epoch → d.ended ≡ c.ended → (c.phase ≡ Recovering → ⊥)
+    → d.epoch ≡ c.epoch → d.ended ≡ c.ended → Knows c.phase
     → ordered n phase + begun n c.phase ≤ begun n phase + owed n c → IsEntered n phase
     → out ≡ enter phase d → StepCosts n c from body out
-enters n c d from body out phase nodes epoch ended was few e is =
-    let same : d.ended * (14 * n + 1) ≡ c.ended * (14 * n + 1) = ap (λ (f : ℕ). f * (14 * n + 1)) ended in
-    spends n c from body out (enter phase d) is was e.known epoch (omega (
-      arith,
-      orders_price n phase d nodes,
-      e.unasked d.count.current.dones,
-      e.promised d.count.flag,
-      same,
-      few,
-    ))
+enters n c d from body out phase nodes epoch ended was few e is = grind (arith, orders_price)
 
 -- a round begins
 counts : (n : ℕ) (reads : Bool) (c d : Restarting) (from : ℕ) (body : Body) (out : Out Restarting) → 1 ≤ n → d.nodes ≡ n
-    → d.epoch ≡ c.epoch → d.ended ≡ c.ended → (c.phase ≡ Recovering → ⊥)
+    → d.epoch ≡ c.epoch → d.ended ≡ c.ended → Knows c.phase
     → begun n c.phase + 4 * n ≤ begun n (Counting reads) + owed n c + 4 * n * is_nudge body
     → out ≡ begin_counting reads d → StepCosts n c from body out
-counts n reads c d from body out some nodes epoch ended was few is =
-    let same : d.ended * (14 * n + 1) ≡ c.ended * (14 * n + 1) = ap (λ (f : ℕ). f * (14 * n + 1)) ended in
-    spends n c from body out (begin_counting reads d) is was (λ at. cc at) epoch (omega (
-      arith,
-      all_price d.nodes n (AskDone (version_counted reads d) (one_more d.count.number)) nodes refl,
-      ap (λ (b : Bool). if b then 0 else 2 * n) (none_in d.nodes (omega (arith, some, nodes))),
-      same,
-      few,
-    ))
+counts n reads c d from body out some nodes epoch ended was few is = grind (arith, all_price)
 
 -- every node has obeyed
 ends : (n : ℕ) (c : Restarting) (from : ℕ) (body : Body) (out : Out Restarting) (what : What) → 1 ≤ n → c.nodes ≡ n
@@ -258,10 +219,7 @@ agrees n true c d from body out nodes epoch ended at is =
 pub done_pays : (n m : ℕ) (new old : Bool) (body : Body) → m ≡ n → price body ≡ 2 → (old ≡ true → new ≡ true)
     → tally (on price) (if new && not old then to_nodes m body else []) + (if new then 0 else 2 * n)
     ≡ (if old then 0 else 2 * n)
-done_pays n m true true body nodes two grows = refl
-done_pays n m true false body nodes two grows = omega (arith, all_price m n body nodes two)
-done_pays n m false true body nodes two grows = let clash : false ≡ true = grows refl in absurd (cc clash)
-done_pays n m false false body nodes two grows = omega arith
+done_pays n m new old body nodes two grows = grind (arith, all_price)
 
 pub put_all : (ks : NodeRows) (f : ℕ) (row : List ℕ) → all_in ks ≡ true → all_in (set ks f (Some row)) ≡ true
 put_all [] f row all = refl
@@ -273,16 +231,7 @@ keeps_done : (n : ℕ) (reads : Bool) (c : Restarting) (from : ℕ) (row : List 
     → c.nodes ≡ n → c.phase ≡ Counting reads
     → out ≡ record { state = done_kept from row c; sent = asks_with from row c; acts = [] }
     → StepCosts n c from body out
-keeps_done n reads c from row body out nodes at is =
-    let dones = set c.count.current.dones from (Some row) in
-    let new = all_in dones in
-    let old = all_in c.count.current.dones in
-    let now : unasked n c.phase dones ≡ (if new then 0 else 2 * n) = ap (λ (p : RestartPhase). unasked n p dones) at in
-    let was : unasked n c.phase c.count.current.dones ≡ (if old then 0 else 2 * n) =
-    ap (λ (p : RestartPhase). unasked n p c.count.current.dones) at in
-    let pays = done_pays n c.nodes new old (AskAsked c.count.current.version c.count.current.number) nodes refl
-    (λ all. put_all c.count.current.dones from row all) in
-    spends n c from body out _ is (λ no. cc (sym at ∙ no)) (λ no. cc (sym at ∙ no)) refl (omega (arith, now, was, pays))
+keeps_done n reads c from row body out nodes at is = grind (arith, done_pays, put_all)
 
 -- What it hears while it recovers.
 pub tells_more : (c d : Restarting) (from : ℕ) (body : Body) → HearsMore c from body d → TellsMore c from body d.told
@@ -306,7 +255,7 @@ resumes_if n c d from body false heard at hears all = waits n c d from body at h
 
 -- each step, where numbers are small
 pub step_costs : (n : ℕ) (c : Restarting) (from : ℕ) (body : Body) (out : Out Restarting) → 1 ≤ n → c.nodes ≡ n
-    → ((c.phase ≡ Recovering → ⊥) → c.ended ≤ 200) → RestartStep c from body out → StepCosts n c from body out
+    → (Knows c.phase → c.ended ≤ 100) → RestartStep c from body out → StepCosts n c from body out
 step_costs n c from body out some nodes few (Rests left is) =
     subst (λ (o : Out Restarting). StepCosts n c from body o) (sym is) (stays n c from body c.wanted)
 step_costs n c from body out some nodes few (StepForgets bd is) = Forgets bd is

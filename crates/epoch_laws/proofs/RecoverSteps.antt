@@ -1,8 +1,9 @@
 -- A coordinator that recovers: it goes on once it has heard all that it asked for; and a step after which it still waits for
 -- some.
-use Rattle.std.proofs.Common.{◌≡◌, ℕ, ◌&&◌, Bool, true, false, refl, sym, ap, subst, ◌∙◌, Option, Some, None}
+use Rattle.std.proofs.Common.{◌≡◌, ℕ, ◌<◌, ◌≤◌, ◌&&◌, Bool, true, false, refl, sym, ap, subst, ◌∙◌, Option, Some, None, arith}
 use Rattle.std.specs.Prelude.{if◌then◌else◌, is_some, max, nat_lt}
 use Rattle.std.specs.List.{list_all, list_any}
+use Rattle.std.proofs.lemmas.Bool.Decides.{nat_tests}
 use Rattle.tv_base.specs.Outside.{one_more}
 use Rattle.letter_types.specs.declared.bodies.Body.{Body}
 use Rattle.letter_types.specs.declared.bodies.Body.TheVariants.{AdvanceNo}
@@ -12,6 +13,7 @@ use Rattle.letter_types.specs.Steps.{Out, still}
 use Rattle.world_model.specs.Restarting.{AllTold, Restarting, after_doing, begin_counting, end_counting, forget, in_restart_phase, low_differs, next_advance, phase_by, read_is, recover, resume, resume_if, update_is, with_wanted}
 use Rattle.world_model.specs.declared.restarting.RestartPhase.{RestartPhase}
 use Rattle.world_model.specs.declared.restarting.RestartPhase.TheVariants.{Idle, Recovering, Doing, Counting, Paused}
+use Rattle.epoch_laws.proofs.Good.{Knows}
 use Rattle.epoch_laws.proofs.RestartSteps.{HearsMore, IsLeft, RestartStep, asked_kept}
 use Rattle.epoch_laws.proofs.RestartSteps.{Acks, Agrees, Ends, Flags, Forgets, Goes, KeepsAsked, KeepsDone, Pauses, Recounts, Recovers, Rests, Resumes, Wants}
 
@@ -33,33 +35,42 @@ recovery_by d false heard told at = Misses (rw told refl) refl
 pub recovery : (d : Restarting) (out : Out Restarting) → out ≡ recover d → Recovery d out
 recovery d out is = subst (Recovery d) (sym is) (recovery_by d (list_all is_some d.told) d.heard refl refl)
 
--- The phases in which it goes on aren't that in which it waits.
-abbrev pub Knows : RestartPhase → Type 0
-Knows phase = phase ≡ Recovering → ⊥
+-- The phases in which it goes on. What holds of each that it may come to, by these tests, holds of the one that it
+-- comes to.
+pub next_each : (P : RestartPhase → Type 0) (wanted f : ℕ) → (f < wanted → P (Doing ToTurn)) → (wanted ≤ f → P Idle)
+    → P (next_advance wanted f)
+next_each P wanted f turns rests = by (nat_lt f wanted) refl where
+  by : (goes : Bool) → nat_lt f wanted ≡ goes → P (if goes then Doing ToTurn else Idle)
+  by true is = turns (grind (arith, nat_tests))
+  by false is = rests (grind (arith, nat_tests))
 
-pub next_knows : (wanted f : ℕ) → Knows (next_advance wanted f)
-next_knows wanted f = by (nat_lt f wanted) where
-  by : (b : Bool) → Knows (if b then Doing ToTurn else Idle)
-  by true = λ is. cc is
-  by false = λ is. cc is
+pub phase_each : (P : RestartPhase → Type 0) (ts : AllTold) (wanted f : ℕ)
+    → (list_any (low_differs f) ts ≡ true → P (Doing ToSweep))
+    → (list_any (low_differs f) ts ≡ false → list_any (read_is (one_more f)) ts ≡ true → P (Doing ToShow))
+    → (list_any (low_differs f) ts ≡ false → list_any (read_is (one_more f)) ts ≡ false
+    → list_any (update_is (one_more (one_more f))) ts ≡ true → P (Doing ToTurn))
+    → (list_any (low_differs f) ts ≡ false → list_any (read_is (one_more f)) ts ≡ false → P (next_advance wanted f))
+    → P (phase_by ts wanted f)
+phase_each P ts wanted f sweeps shows turns goes = by _ _ _ refl refl refl where
+  by : (low read update : Bool) → list_any (low_differs f) ts ≡ low → list_any (read_is (one_more f)) ts ≡ read
+      → list_any (update_is (one_more (one_more f))) ts ≡ update
+      → P (if low then Doing ToSweep else if read then Doing ToShow else if update then Doing ToTurn
+      else next_advance wanted f)
+  by true read update a b c = sweeps a
+  by false true update a b c = shows a b
+  by false false true a b c = turns a b c
+  by false false false a b c = goes a b
 
-told_knows : (sweeps shows turns : Bool) (wanted f : ℕ)
-    → Knows
-    (if sweeps then Doing ToSweep else if shows then Doing ToShow else if turns then Doing ToTurn else next_advance wanted f)
-told_knows true shows turns wanted f = λ is. cc is
-told_knows false true turns wanted f = λ is. cc is
-told_knows false false true wanted f = λ is. cc is
-told_knows false false false wanted f = next_knows wanted f
+-- it doesn't wait in them
+next_knows : (wanted f : ℕ) → Knows (next_advance wanted f)
+next_knows wanted f = next_each Knows wanted f (λ lt is. cc is) (λ le is. cc is)
 
 pub by_knows : (ts : AllTold) (wanted f : ℕ) → Knows (phase_by ts wanted f)
 by_knows ts wanted f =
-    told_knows (list_any (low_differs f) ts) (list_any (read_is (one_more f)) ts)
-    (list_any (update_is (one_more (one_more f))) ts) wanted f
+    phase_each Knows ts wanted f (λ a is. cc is) (λ a b is. cc is) (λ a b c is. cc is) (λ a b. next_knows wanted f)
 
 done_knows : (what : What) (c : Restarting) → Knows (after_doing what c).state.phase
-done_knows ToTurn c = λ is. cc is
-done_knows ToShow c = λ is. cc is
-done_knows ToSweep c = next_knows c.wanted (one_more c.ended)
+done_knows what c = grind arith
 
 ends_know : (reads : Bool) (c : Restarting) → Knows (end_counting reads c).state.phase
 ends_know true c = λ is. cc is

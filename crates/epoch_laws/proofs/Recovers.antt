@@ -1,16 +1,14 @@
 -- While a coordinator that forgets recovers, each node and the client is asked by a letter in flight, or answers by one, or its
 -- answer is kept; and not all are. So some letter is in flight.
 use Rattle.std.proofs.Common.{◌≡◌, ◌≢◌, ◌⊎◌, inl, inr, ℕ, zero, suc, ◌+◌, ◌<◌, ◌≤◌, ◌==◌, ◌&&◌, not, Bool, true, false, List, [], ◌∷◌, length, replicate, refl, sym, ap, subst, ◌∙◌, arith, Option, Some, None}
-use Rattle.std.specs.Prelude.{is_some, nat_lt, slice_get, slice_set}
+use Rattle.std.specs.Prelude.{is_some, slice_get, slice_set}
 use Rattle.std.specs.List.{list_all}
 use Rattle.std.proofs.lemmas.Bool.{and_from, cases_eq}
-use Rattle.std.proofs.lemmas.Bool.Decides.{nat_tests}
 use Rattle.std.proofs.Math.Bool.{and-false}
 use Rattle.tv_base.specs.Outside.{one_more}
 use Rattle.tv_base.specs.declared.numbers.Version.{Version}
-use Rattle.letter_types.specs.Letters.{letters_of}
 use Rattle.letter_types.specs.declared.bodies.Body.{Body}
-use Rattle.letter_types.specs.declared.bodies.Body.TheVariants.{Go, Ask, Numbers, Order, Wanted}
+use Rattle.letter_types.specs.declared.bodies.Body.TheVariants.{Go, Ask, Numbers, Wanted}
 use Rattle.letter_types.specs.declared.entries.Entry.{Entry}
 use Rattle.letter_types.specs.declared.entries.Letter.{Letter}
 use Rattle.letter_types.specs.declared.entries.Outgoing.{Outgoing}
@@ -25,7 +23,7 @@ use Rattle.world_model.specs.Restarting.{AllTold, Restarting, forget, restarting
 use Rattle.world_model.specs.Runs.{IsStepRun, MayFollow, client_in, in_flight, keeping_in, restarting_in}
 use Rattle.world_model.specs.declared.restarting.RestartPhase.TheVariants.{Recovering}
 use Rattle.world_model.specs.declared.restarting.Told.{Told}
-use Rattle.world_model.proofs.Bags.{one_if_most, sealed_tally, tally-append, one_if_both}
+use Rattle.world_model.proofs.Bags.{sealed_tally, tally-append, one_if_both}
 use Rattle.world_model.proofs.Restarts.{restarting_nodes}
 use Rattle.phase_laws.proofs.Heeds.{Answers, Heed, IsOfEpoch, Leaves, Obeys, Repeats}
 use Rattle.phase_laws.proofs.Lawful.{IsTreeLawful}
@@ -33,12 +31,12 @@ use Rattle.phase_laws.proofs.Progress.{MadeByRestarting, TellsAnew, course, rest
 use Rattle.phase_laws.proofs.Waves.{flow_of, going, leaving}
 use Rattle.phase_laws.proofs.Working.{IsOfTrees}
 use Rattle.epoch_laws.proofs.Aside.{Aside, Counts, Heeds, IsEpochless, Submits, Tells, Works, aside}
-use Rattle.epoch_laws.proofs.AtCoordinator.{left_of, nodes_sent}
+use Rattle.epoch_laws.proofs.AtCoordinator.{nodes_sent}
 use Rattle.epoch_laws.proofs.Away.{restarting_kept}
 use Rattle.epoch_laws.proofs.Forgetting.{good_run}
-use Rattle.epoch_laws.proofs.Good.{IsGood, heard_now}
+use Rattle.epoch_laws.proofs.Good.{IsGood, Knows, in_phase}
 use Rattle.epoch_laws.proofs.RecoverSteps.{Forgot, HasMore, IsWanted, Stays, Waiting, has_all, waiting}
-use Rattle.epoch_laws.proofs.RestartSteps.{HearsMore, IsLeft, OfClient, OfNode, restart_step}
+use Rattle.epoch_laws.proofs.RestartSteps.{HearsMore, IsLeft, restart_step}
 
 -- a letter that asks actor q in epoch e, or answers: the client, or a node
 abbrev pub asking : Bool → ℕ → ℕ → ℕ → ℕ → Body → ℕ
@@ -66,55 +64,31 @@ abbrev pub has_told : Bool → Restarting → ℕ → ℕ
 has_told true d q = is_heard d.heard
 has_told false d q = is_told (slice_get d.told q)
 
-pub record IsAwaited (s : ScriptData) (past : List Entry) (d : Restarting) : Type 0 where
-  pub each : (client : Bool) (q : ℕ) → IsAsked s client q → 1 ≤ going (asking client d.epoch q) s past + has_told client d q
-  pub misses : has_all d ≡ false
+record IsAwaited (s : ScriptData) (past : List Entry) (d : Restarting) : Type 0 where
+  each : (client : Bool) (q : ℕ) → IsAsked s client q → 1 ≤ going (asking client d.epoch q) s past + has_told client d q
+  misses : has_all d ≡ false
 
-abbrev pub Awaits : ScriptData → List Entry → Restarting → Type 0
+abbrev Awaits : ScriptData → List Entry → Restarting → Type 0
 Awaits s past d = d.phase ≡ Recovering → IsAwaited s past d
 
 -- Letters that aren't such.
 asks_other : (d e a q : ℕ) → a ≢ q → one_if ((d == e) && (a == q)) ≡ 0
-asks_other d e a q ne = grind (arith, nat_tests)
-
-old_none : (d e a q : ℕ) → d ≢ e → one_if ((d == e) && (a == q)) ≡ 0
-old_none d e a q ne = grind (arith, nat_tests)
+asks_other d e a q ne = grind arith
 
 epochless_none : (client : Bool) (e q from to : ℕ) (body : Body) → IsEpochless body → asking client e q from to body ≡ 0
-epochless_none client e q from to (Ask d) none = absurd none
-epochless_none client e q from to (Numbers d u r l) none = absurd none
-epochless_none client e q from to (Wanted d k) none = absurd none
-epochless_none client e q from to _ none = refl
+epochless_none client e q from to body none = grind arith
 
 trees_none : (client : Bool) (e q from to : ℕ) (body : Body) → IsOfTrees body → asking client e q from to body ≡ 0
-trees_none client e q from to (Ask d) of = absurd of
-trees_none client e q from to (Numbers d u r l) of = absurd of
-trees_none client e q from to (Wanted d k) of = absurd of
-trees_none client e q from to _ of = refl
+trees_none client e q from to body of = grind arith
 
 late_none : (client : Bool) (n e q from to : ℕ) (body : Body) → IsOfEpoch n body → n < e → asking client e q from to body ≡ 0
-late_none client n e q from to (Ask d) of less = old_none d e to q (λ is. omega (arith, is, of, less))
-late_none client n e q from to (Order d what v) of less = refl
-late_none client n e q from to _ of less = absurd of
-
-left_node : (d e from q n : ℕ) → ((d == e) && nat_lt from n) ≡ false → q < n → one_if ((d == e) && (from == q)) ≡ 0
-left_node d e from q n left lt = grind (arith, nat_tests)
-
-left_client : (d e from q n : ℕ) → ((d == e) && (from == n)) ≡ false → q ≡ n → one_if ((d == e) && (from == q)) ≡ 0
-left_client d e from q n left is = grind (arith, nat_tests)
+late_none client n e q from to body of less = grind arith
 
 -- a letter that changes nothing
 left_none : (client : Bool) (s : ScriptData) (c : Restarting) (q from to : ℕ) (body : Body) → IsLeft body Recovering from c
     → TellsAnew body
     → IsAsked s client q → length c.told ≡ s.nodes → c.nodes ≡ s.nodes → asking client c.epoch q from to body ≡ 0
-left_none true s c q from to (Numbers d u r l) left tells asked places nodes = refl
-left_none false s c q from to (Numbers d u r l) left tells asked places nodes =
-    left_node d c.epoch from q (length c.told) left (omega (arith, asked, places))
-left_none true s c q from to (Wanted d k) left tells asked places nodes =
-    left_client d c.epoch from q (c.nodes + 1) left (omega (arith, asked, nodes))
-left_none false s c q from to (Wanted d k) left tells asked places nodes = refl
-left_none client s c q from to (Ask d) left tells asked places nodes = absurd tells
-left_none client s c q from to _ left tells asked places nodes = refl
+left_none client s c q from to body left tells asked places nodes = grind arith
 
 -- Entries of the client and of nodes: who takes a question answers it.
 none_taken : (f : ℕ → ℕ → Body → ℕ) (s : ScriptData) (past : List Entry) (e : Entry) → MayFollow s past e
@@ -126,13 +100,7 @@ answered : (client : Bool) (s : ScriptData) (past : List Entry) (e : Entry) (d n
     → e.took.body ≡ Ask n → e.sent ≡ record { to = record { 0 = to }; body = answer } ∷ []
     → asking client d q e.took.from.0 e.actor.0 (Ask n) ≡ asking client d q e.actor.0 to answer
     → going (asking client d q) s past ≤ going (asking client d q) s (e ∷ past)
-answered client s past e d n q answer to m bd is same =
-    let f = asking client d q in
-    let took : f e.took.from.0 e.actor.0 e.took.body ≡ f e.took.from.0 e.actor.0 (Ask n) =
-    ap (λ (b : Body). f e.took.from.0 e.actor.0 b) bd in
-    let out : tally (leaving f e.actor.0) e.sent ≡ f e.actor.0 to answer + 0 =
-    ap (λ (os : List Outgoing). tally (leaving f e.actor.0) os) is in
-    omega (arith, flow_of f s past e m, took, out, same)
+answered client s past e d n q answer to m bd is same = grind (arith, flow_of)
 
 tells_same : (client : Bool) (s : ScriptData) (d n q a from to k : ℕ) → IsAsked s client q → a ≡ client_of s
     → asking client d q from a (Ask n) ≡ asking client d q a to (Wanted n k)
@@ -198,12 +166,7 @@ aside_awaits s past e good m away next was =
 -- what is sent is in flight then
 sent_there : (f : ℕ → ℕ → Body → ℕ) (s : ScriptData) (past : List Entry) (e : Entry)
     → tally (leaving f e.actor.0) e.sent ≤ going f s (e ∷ past)
-sent_there f s past e =
-    omega (
-      arith,
-      tally-append (λ (l : Letter). f l.from.0 l.to.0 l.body) (left_of s past e) (letters_of e),
-      sealed_tally (λ (l : Letter). f l.from.0 l.to.0 l.body) (leaving f e.actor.0) e.stamp.0 e.actor.0 0 e.sent (λ i o. refl),
-    )
+sent_there f s past e = grind (arith, sealed_tally, tally-append)
 
 -- it forgets, and asks all
 asks_all : (client : Bool) (s : ScriptData) (c : Restarting) (a q : ℕ) → c.nodes ≡ s.nodes → IsAsked s client q
@@ -249,17 +212,7 @@ told_more (x ∷ ts) (suc from) (suc q) t = told_more ts from q t
 
 node_told : (ts : AllTold) (d from q : ℕ) (t : Told) → from < length ts
     → one_if ((d == d) && (from == q)) ≤ is_told (slice_get (slice_set ts from (Some t)) q)
-node_told ts d from q t lt = by (cases_eq from q) where
-  by : (from ≡ q) ⊎ (from ≢ q) → one_if ((d == d) && (from == q)) ≤ is_told (slice_get (slice_set ts from (Some t)) q)
-  by (inl same) =
-      let there : is_told (slice_get (slice_set ts from (Some t)) q) ≡ 1 =
-      ap (λ (k : ℕ). is_told (slice_get (slice_set ts from (Some t)) k)) (sym same) ∙ told_there ts from t lt in
-      omega (arith, there, one_if_most ((d == d) && (from == q)))
-  by (inr other) = omega (arith, asks_other d d from q other)
-
-heard_more : (o : Option ℕ) → is_heard o ≤ 1
-heard_more None = omega arith
-heard_more (Some k) = omega arith
+node_told ts d from q t lt = grind (arith, told_there)
 
 -- what is kept then covers what was, and the letter
 record Covers (client : Bool) (c d : Restarting) (q from to : ℕ) (body : Body) : Type 0 where
@@ -269,31 +222,7 @@ record Covers (client : Bool) (c d : Restarting) (q from to : ℕ) (body : Body)
 
 hears_covers : (client : Bool) (c d : Restarting) (q from to : ℕ) (body : Body) → HearsMore c from body d
     → Covers client c d q from to body
-hears_covers true c d q from to body (OfNode u r l bd lt is) =
-    subst (λ (x : Restarting). Covers true c x q from to body) (sym is) (record {
-      epoch = refl;
-      letter = omega (arith, ap (asking true c.epoch q from to) bd);
-      before = omega arith;
-    })
-hears_covers false c d q from to body (OfNode u r l bd lt is) =
-    let t : Told = record { update = u; read = r; low = l } in
-    subst (λ (x : Restarting). Covers false c x q from to body) (sym is) (record {
-      epoch = refl;
-      letter = omega (arith, ap (asking false c.epoch q from to) bd, node_told c.told c.epoch from q t lt);
-      before = told_more c.told from q t;
-    })
-hears_covers true c d q from to body (OfClient k bd it is) =
-    subst (λ (x : Restarting). Covers true c x q from to body) (sym is) (record {
-      epoch = refl;
-      letter = omega (arith, ap (asking true c.epoch q from to) bd, one_if_most ((c.epoch == c.epoch) && (from == q)));
-      before = heard_more c.heard;
-    })
-hears_covers false c d q from to body (OfClient k bd it is) =
-    subst (λ (x : Restarting). Covers false c x q from to body) (sym is) (record {
-      epoch = refl;
-      letter = omega (arith, ap (asking false c.epoch q from to) bd);
-      before = omega arith;
-    })
+hears_covers client c d q from to body is = grind (arith, node_told, told_more)
 
 -- a witness of one kind or the other is still there
 pub still_covered : (now before weight kept was : ℕ) → 1 ≤ before + was → before ≤ now + weight → weight ≤ kept → was ≤ kept
@@ -305,12 +234,7 @@ covered : (client : Bool) (s : ScriptData) (past : List Entry) (e : Entry) (d : 
     → Covers client (restarting_in s past) d q e.took.from.0 e.actor.0 e.took.body
     → 1 ≤ going (asking client (restarting_in s past).epoch q) s past + has_told client (restarting_in s past) q
     → 1 ≤ going (asking client d.epoch q) s (e ∷ past) + has_told client d q
-covered client s past e d q m covers was =
-    let c = restarting_in s past in
-    let f = asking client c.epoch q in
-    subst (λ (n : ℕ). 1 ≤ going (asking client n q) s (e ∷ past) + has_told client d q) (sym covers.epoch)
-    (still_covered (going f s (e ∷ past)) (going f s past) (f e.took.from.0 e.actor.0 e.took.body) (has_told client d q)
-    (has_told client c q) was (omega (arith, flow_of f s past e m)) covers.letter covers.before)
+covered client s past e d q m covers was = grind (arith, flow_of)
 
 same_told : (client : Bool) (c : Restarting) (i q : ℕ) → has_told client (with_wanted i c) q ≡ has_told client c q
 same_told true c i q = refl
@@ -338,7 +262,7 @@ awaits_by s past e out good m tells sent was (Stays waits left is) =
             (was waits).each client q asked,
             none_taken (asking client c.epoch q) s past e m
                 (left_none client s c q e.took.from.0 e.actor.0 e.took.body left tells asked
-                (heard_now s past good waits).places
+                (in_phase s past Recovering good waits).places
                 (restarting_nodes s past)),
           );
       misses = (was waits).misses;
@@ -375,7 +299,7 @@ coordinator_awaits s past e good m tells made was =
     (waiting c e.took.from.0 e.took.body out (restart_step c e.took.from.0 e.took.body) waits))
 
 -- In every run.
-pub awaits_in : (s : ScriptData) (past : List Entry) → IsTreeLawful s → is_lossy s ≡ true → IsStepRun s past → AllApt s past
+awaits_in : (s : ScriptData) (past : List Entry) → IsTreeLawful s → is_lossy s ≡ true → IsStepRun s past → AllApt s past
     → Awaits s past (restarting_in s past)
 awaits_in s [] laws loses run apt = λ waits. absurd (cc waits)
 awaits_in s (e ∷ past) laws loses run apt = by (cases_eq e.actor.0 s.nodes) (awaits_in s past laws loses run.1 apt.1) where
@@ -400,11 +324,11 @@ heard_some None some = absurd (omega (arith, some))
 heard_some (Some k) some = refl
 
 pub never_waits : (s : ScriptData) (past : List Entry) → IsTreeLawful s → is_lossy s ≡ true → IsStepRun s past → AllApt s past
-    → in_flight s past ≡ [] → (restarting_in s past).phase ≡ Recovering → ⊥
+    → in_flight s past ≡ [] → Knows (restarting_in s past).phase
 never_waits s past laws loses run apt empty waits =
     let c = restarting_in s past in
     let awaited = awaits_in s past laws loses run apt waits in
-    let places = (heard_now s past (good_run s past laws loses run apt) waits).places in
+    let places = (in_phase s past Recovering (good_run s past laws loses run apt) waits).places in
     let none : (client : Bool) (q : ℕ) → going (asking client c.epoch q) s past ≡ 0 =
     λ client q. ap (λ (ls : List Letter). tally (λ (l : Letter). asking client c.epoch q l.from.0 l.to.0 l.body) ls) empty in
     let nodes : list_all is_some c.told ≡ true =

@@ -1,25 +1,19 @@
 -- What of an advancement a coordinator that forgets need not do again, and how much it has done of all.
-use Rattle.std.proofs.Common.{if◌then◌else◌, ◌≡◌, ◌⊎◌, inl, inr, ℕ, ◌+◌, ◌*◌, ◌<◌, ◌≤◌, ◌==◌, ◌&&◌, Bool, true, false, List, [], ◌∷◌, refl, sym, ap, subst, ◌∙◌, arith}
+use Rattle.std.proofs.Common.{if◌then◌else◌, ◌≡◌, ◌⊎◌, inl, inr, ℕ, ◌+◌, ◌*◌, ◌<◌, ◌≤◌, Bool, true, false, List, refl, ap, arith}
 use Rattle.std.specs.List.{list_any}
 use Rattle.std.proofs.Math.Nat.{mul-le-mul_right}
-use Rattle.std.proofs.lemmas.Bool.Decides.{nat_tests}
 use Rattle.tv_base.specs.Outside.{one_more}
-use Rattle.tv_base.specs.declared.numbers.Version.{Version}
-use Rattle.letter_types.specs.declared.bodies.Body.{Body}
-use Rattle.letter_types.specs.declared.bodies.Body.TheVariants.{Ask, Go, Order}
-use Rattle.letter_types.specs.declared.bodies.What.{What}
+use Rattle.letter_types.specs.declared.bodies.Body.TheVariants.{Ask}
 use Rattle.letter_types.specs.declared.bodies.What.TheVariants.{Turn as ToTurn, Show as ToShow, Sweep as ToSweep}
 use Rattle.letter_types.specs.declared.entries.Entry.{Entry}
-use Rattle.letter_types.specs.declared.entries.Letter.{Letter}
 use Rattle.node_versions.specs.declared.turns.Turns.{Turns}
 use Rattle.tx_trees.specs.Counts.{advances_in}
 use Rattle.tx_trees.specs.ScriptData.{ScriptData}
 use Rattle.tx_trees.specs.Valid.{IsValid}
-use Rattle.tx_trees.proofs.Rebuilding.{asked_most}
 use Rattle.world_model.specs.Coordinator.{to_nodes}
 use Rattle.world_model.specs.Counts.{one_if, tally}
-use Rattle.world_model.specs.Restarting.{AllTold, Restarting, forget, least_low, low_differs, next_advance, phase_by, read_is, target, to_client, update_is}
-use Rattle.world_model.specs.Runs.{client_in, in_flight, restarting_in}
+use Rattle.world_model.specs.Restarting.{AllTold, Restarting, forget, least_low, phase_by, read_is}
+use Rattle.world_model.specs.Runs.{restarting_in}
 use Rattle.world_model.specs.declared.restarting.RestartPhase.{RestartPhase}
 use Rattle.world_model.specs.declared.restarting.RestartPhase.TheVariants.{Idle, Recovering, Doing, Counting, Paused}
 use Rattle.world_model.proofs.Bags.{tally-append}
@@ -27,12 +21,11 @@ use Rattle.world_model.proofs.Every.{each_append, each_map, each_none}
 use Rattle.world_model.proofs.Orders.{of, to_nodes_each}
 use Rattle.world_model.proofs.Sends.{on}
 use Rattle.phase_laws.specs.Given.{greatest_given}
-use Rattle.phase_laws.specs.Phases.{TurnStage, stage_of}
-use Rattle.phase_laws.proofs.Outcomes.{one_more_is}
-use Rattle.phase_laws.proofs.Waves.{going}
+use Rattle.phase_laws.specs.Phases.{TurnStage}
 use Rattle.epoch_laws.proofs.Floors.{AllAskAnew, AsksAnew, IsFrom, IsRestored}
-use Rattle.epoch_laws.proofs.Good.{IsCurrent, IsGood, IsInPhase, IsRight, IsSteady, LevelOf, least_read, least_update, order_to, turns_in}
+use Rattle.epoch_laws.proofs.Good.{IsGood, IsSteady, LevelOf, ended_few, ended_most, least_read, least_update, low_turned, read_turned, turned_most, turns_in}
 use Rattle.epoch_laws.proofs.Prices.{IsEntered, begun, doing_entered, next_entered, next_orders, ordered, price, to_nodes_price}
+use Rattle.epoch_laws.proofs.RecoverSteps.{phase_each}
 
 -- in these phases each node reads the next version already
 abbrev pub shown_in : RestartPhase → Bool
@@ -48,39 +41,15 @@ kept_of n shown = if shown then 6 * n else 0
 
 -- the rest is the orders and a round at most
 pub begun_most : (n : ℕ) (phase : RestartPhase) → begun n phase ≤ kept_of n (shown_in phase) + 8 * n
-begun_most n Idle = omega arith
-begun_most n Recovering = omega arith
-begun_most n (Doing ToTurn) = omega arith
-begun_most n (Doing ToShow) = omega arith
-begun_most n (Doing ToSweep) = omega arith
-begun_most n (Counting true) = omega arith
-begun_most n (Counting false) = omega arith
-begun_most n (Paused true) = omega arith
-begun_most n (Paused false) = omega arith
+begun_most n phase = grind arith
 
 -- all of an advancement
 begun_all : (n : ℕ) (phase : RestartPhase) → begun n phase ≤ 14 * n
-begun_all n Idle = omega arith
-begun_all n Recovering = omega arith
-begun_all n (Doing ToTurn) = omega arith
-begun_all n (Doing ToShow) = omega arith
-begun_all n (Doing ToSweep) = omega arith
-begun_all n (Counting true) = omega arith
-begun_all n (Counting false) = omega arith
-begun_all n (Paused true) = omega arith
-begun_all n (Paused false) = omega arith
+begun_all n phase = grind arith
 
 -- so far each node is in each phase
 read_from : (phase : RestartPhase) (f : ℕ) → f + one_if (shown_in phase) ≤ least_read phase f
-read_from Idle f = omega arith
-read_from Recovering f = omega arith
-read_from (Doing ToTurn) f = omega arith
-read_from (Doing ToShow) f = omega arith
-read_from (Doing ToSweep) f = omega arith
-read_from (Counting true) f = omega arith
-read_from (Counting false) f = omega arith
-read_from (Paused true) f = omega arith
-read_from (Paused false) f = omega arith
+read_from phase f = grind arith
 
 pub from_level : (phase : RestartPhase) (f e epoch : ℕ) (turns : Turns) (orders : ℕ) → LevelOf phase f e epoch turns orders
     → IsFrom f (shown_in phase) turns.read.0 turns.low.0
@@ -88,13 +57,7 @@ from_level phase f e epoch turns orders level = record { low = level.low; read =
 
 -- Forgetting: each node and the client are asked.
 pub forget_price : (c : Restarting) → tally (on price) (forget c).sent ≡ 2 * c.nodes + 2
-forget_price c =
-    let e : ℕ = one_more c.epoch in
-    omega (
-      arith,
-      to_nodes_price c.nodes (Ask e) refl,
-      tally-append (on price) (to_nodes c.nodes (Ask e)) (to_client (Ask e) c ∷ []),
-    )
+forget_price c = grind (arith, tally-append, to_nodes_price)
 
 pub forget_asks : (c : Restarting) → AllAskAnew (forget c).sent
 forget_asks c =
@@ -102,44 +65,22 @@ forget_asks c =
     (to_nodes_each (λ to b. AsksAnew b) c.nodes (Ask (one_more c.epoch)) (λ to lt. tt)) (tt, tt)
 
 -- Resuming: the phases with which it goes on.
-told_entered : (n : ℕ) (lows reads updates : Bool) (next : RestartPhase) → IsEntered n next
-    → IsEntered n (if lows then Doing ToSweep else if reads then Doing ToShow else if updates then Doing ToTurn else next)
-told_entered n true reads updates next goes = doing_entered n ToSweep
-told_entered n false true updates next goes = doing_entered n ToShow
-told_entered n false false true next goes = doing_entered n ToTurn
-told_entered n false false false next goes = goes
-
 pub by_entered : (n : ℕ) (ts : AllTold) (wanted f : ℕ) → IsEntered n (phase_by ts wanted f)
 by_entered n ts wanted f =
-    told_entered n (list_any (low_differs f) ts) (list_any (read_is (one_more f)) ts)
-    (list_any (update_is (one_more (one_more f))) ts) (next_advance wanted f) (next_entered n wanted f)
-
-told_orders : (n : ℕ) (lows reads updates : Bool) (next : RestartPhase) → ordered n next ≤ begun n next
-    → ordered n (if lows then Doing ToSweep else if reads then Doing ToShow else if updates then Doing ToTurn else next)
-    ≤ begun n (if lows then Doing ToSweep else if reads then Doing ToShow else if updates then Doing ToTurn else next)
-told_orders n true reads updates next goes = omega arith
-told_orders n false true updates next goes = omega arith
-told_orders n false false true next goes = omega arith
-told_orders n false false false next goes = goes
+    phase_each (IsEntered n) ts wanted f (λ a. doing_entered n ToSweep) (λ a b. doing_entered n ToShow)
+    (λ a b c. doing_entered n ToTurn) (λ a b. next_entered n wanted f)
 
 by_orders : (n : ℕ) (ts : AllTold) (wanted f : ℕ) → ordered n (phase_by ts wanted f) ≤ begun n (phase_by ts wanted f)
 by_orders n ts wanted f =
-    told_orders n (list_any (low_differs f) ts) (list_any (read_is (one_more f)) ts)
-    (list_any (update_is (one_more (one_more f))) ts) (next_advance wanted f) (omega (arith, next_orders n wanted f))
+    phase_each (λ (p : RestartPhase). ordered n p ≤ begun n p) ts wanted f (λ a. omega arith) (λ a b. omega arith)
+    (λ a b c. omega arith) (λ a b. omega (arith, next_orders n wanted f))
 
 -- where some node reads the next version, it goes on with a sweep, or with its show
-shown_orders : (n : ℕ) (lows reads updates : Bool) (next : RestartPhase) → reads ≡ true
-    → 6 * n + ordered n (if lows then Doing ToSweep else if reads then Doing ToShow else if updates then Doing ToTurn else next)
-    ≤ begun n (if lows then Doing ToSweep else if reads then Doing ToShow else if updates then Doing ToTurn else next)
-shown_orders n true reads updates next is = omega arith
-shown_orders n false true updates next is = omega arith
-shown_orders n false false updates next is = absurd (cc is)
-
 by_shown : (n : ℕ) (ts : AllTold) (wanted f : ℕ) → list_any (read_is (one_more f)) ts ≡ true
     → 6 * n + ordered n (phase_by ts wanted f) ≤ begun n (phase_by ts wanted f)
 by_shown n ts wanted f is =
-    shown_orders n (list_any (low_differs f) ts) (list_any (read_is (one_more f)) ts)
-    (list_any (update_is (one_more (one_more f))) ts) (next_advance wanted f) is
+    phase_each (λ (p : RestartPhase). 6 * n + ordered n p ≤ begun n p) ts wanted f (λ a. omega arith)
+    (λ a b. omega arith) (λ a b c. absurd (cc (is, b))) (λ a b. absurd (cc (is, b)))
 
 same_or_more : (f g : ℕ) → f ≤ g → (g ≡ f) ⊎ (f + 1 ≤ g)
 same_or_more f g le = grind arith
@@ -162,89 +103,11 @@ resume_pays n ts wanted f shown rest = by shown refl (same_or_more f (least_low 
   by true is (inr more) = omega (arith, mul-le-mul_right (14 * n + 1) more, by_orders n ts wanted g)
 
 -- How much it has done.
--- some node's versions
-pub low_most : (s : ScriptData) (past : List Entry) (q : ℕ) → IsGood s past → q < s.nodes
-    → (turns_in s past q).low.0 + 1 ≤ greatest_given TurnStage past
-low_most s past q good lt =
-    let within = good.within q lt in
-    omega (arith, within.low_swept, within.swept_read, within.read_showed, within.showed_update, within.update_turned)
-
-pub read_most : (s : ScriptData) (past : List Entry) (q : ℕ) → IsGood s past → q < s.nodes
-    → (turns_in s past q).read.0 + 1 ≤ greatest_given TurnStage past
-read_most s past q good lt =
-    let within = good.within q lt in
-    omega (arith, within.read_showed, within.showed_update, within.update_turned)
-
-pub turned_most : (s : ScriptData) (past : List Entry) → IsGood s past → greatest_given TurnStage past ≤ advances_in s.rows + 1
-turned_most s past good = omega (arith, good.asked, asked_most (client_in s past).next s.rows)
-
-pub ended_most : (s : ScriptData) (past : List Entry) (phase : RestartPhase) → IsValid s → IsGood s past → IsSteady s past phase
-    → (restarting_in s past).ended ≤ advances_in s.rows
-ended_most s past phase valid good steady =
-    let some : 0 < s.nodes = omega (arith, valid.some_nodes) in
-    omega (arith, (steady.level 0 some).low, low_most s past 0 good some, turned_most s past good)
-
-pub steady_in : (s : ScriptData) (past : List Entry) (phase : RestartPhase) → (phase ≡ Recovering → ⊥) → IsInPhase s past phase
-    → IsSteady s past phase
-steady_in s past Idle known steady = steady
-steady_in s past (Doing what) known steady = steady
-steady_in s past (Counting reads) known steady = steady
-steady_in s past (Paused reads) known steady = steady
-steady_in s past Recovering known heard = absurd (known refl)
-
 -- While nodes turn, they were told so.
-target_turn : (f : ℕ) → f ≤ 200 → (target ToTurn f).0 ≡ f + 2
-target_turn f few =
-    let one : one_more f ≡ f + 1 = one_more_is f (omega (arith, few)) in
-    let two : one_more (one_more f) ≡ one_more f + 1 = one_more_is (one_more f) (omega (arith, few, one)) in
-    omega (arith, one, two)
-
--- an order of the present epoch says so
-current_turn : (s : ScriptData) (past : List Entry) (what : What) (v : Version) → (restarting_in s past).ended ≤ 200
-    → (restarting_in s past).phase ≡ Doing ToTurn → IsCurrent (restarting_in s past) what v
-    → v.0 ≤ greatest_given (stage_of what) past
-    → (restarting_in s past).ended + 2 ≤ greatest_given TurnStage past
-current_turn s past what v few at current given =
-    let c = restarting_in s past in
-    let is : what ≡ ToTurn = cc (sym current.phase ∙ at) in
-    let told : v.0 ≤ greatest_given TurnStage past = subst (λ (w : What). v.0 ≤ greatest_given (stage_of w) past) is given in
-    let version : v.0 ≡ (target ToTurn c.ended).0 = current.version ∙ ap (λ (w : What). (target w c.ended).0) is in
-    omega (arith, told, version, target_turn c.ended few)
-
-apart : (a b : ℕ) (test : Bool) → (a ≡ b → ⊥) → one_if ((a == b) && test) ≡ 0
-apart a b test ne = let no : (a == b) ≡ false = grind (arith, nat_tests) in rw no refl
-
-order_none : (s : ScriptData) (past : List Entry) (q from to : ℕ) (body : Body) → (restarting_in s past).ended ≤ 200
-    → (restarting_in s past).phase ≡ Doing ToTurn → greatest_given TurnStage past < (restarting_in s past).ended + 2
-    → IsRight s past from to body → order_to (restarting_in s past).epoch q from to body ≡ 0
-order_none s past q from to (Order e what v) few at less right =
-    apart e (restarting_in s past).epoch (to == q)
-    (λ now. let most = current_turn s past what v few at (right.current now) right.given in omega (arith, most, less))
-order_none s past q from to Go few at less right = refl
-order_none s past q from to _ few at less right = refl
-
-less_or : (a b : ℕ) → (b ≤ a) ⊎ (a < b)
-less_or a b = grind arith
-
-pub turn_given : (s : ScriptData) (past : List Entry) (q : ℕ) → IsGood s past → q < s.nodes → (restarting_in s past).ended ≤ 200
+turn_given : (s : ScriptData) (past : List Entry) (q : ℕ) → IsGood s past → q < s.nodes → (restarting_in s past).ended ≤ 100
     → (restarting_in s past).phase ≡ Doing ToTurn → IsSteady s past (Doing ToTurn)
     → (restarting_in s past).ended + 2 ≤ greatest_given TurnStage past
-turn_given s past q good lt few at steady =
-    by (less_or (greatest_given TurnStage past) ((restarting_in s past).ended + 2)) where
-      e : ℕ
-      e = (restarting_in s past).epoch
-
-      by : ((restarting_in s past).ended + 2 ≤ greatest_given TurnStage past)
-          ⊎ (greatest_given TurnStage past < (restarting_in s past).ended + 2)
-          → (restarting_in s past).ended + 2 ≤ greatest_given TurnStage past
-      by (inl most) = most
-      by (inr less) =
-          let none : going (order_to e q) s past ≡ 0 =
-          each_none (λ (l : Letter). order_to e q l.from.0 l.to.0 l.body) (in_flight s past)
-          (each_map (λ (l : Letter). IsRight s past l.from.0 l.to.0 l.body)
-          (λ (l : Letter). order_to e q l.from.0 l.to.0 l.body ≡ 0)
-          (in_flight s past) (λ l right. order_none s past q l.from.0 l.to.0 l.body few at less right) good.letters) in
-          omega (arith, none, (steady.level q lt).comes, (good.within q lt).update_turned)
+turn_given s past q good lt few at steady = grind (arith, each_map, each_none)
 
 -- so no more is done than all that the client asks for
 all_done : (n a f : ℕ) (phase : RestartPhase) → f + 1 ≤ a → f * (14 * n + 1) + begun n phase ≤ a * (14 * n + 1)
@@ -266,10 +129,9 @@ spent_most s past Idle valid good at steady =
     omega (arith, mul-le-mul_right (14 * s.nodes + 1) (ended_most s past Idle valid good steady))
 spent_most s past (Doing ToTurn) valid good at steady =
     let some : 0 < s.nodes = omega (arith, valid.some_nodes) in
-    let few = ended_most s past (Doing ToTurn) valid good steady in
     all_done s.nodes (advances_in s.rows) (restarting_in s past).ended (Doing ToTurn) (omega (
       arith,
-      turn_given s past 0 good some (omega (arith, few, valid.limited.advances)) at steady,
+      turn_given s past 0 good some (ended_few s past (Doing ToTurn) valid good steady) at steady,
       turned_most s past good,
     ))
 spent_most s past (Doing ToShow) valid good at steady = updates_all s past (Doing ToShow) valid good steady refl
@@ -289,9 +151,9 @@ kept_most s past f shown valid good from = by shown refl where
 
   by : (b : Bool) → shown ≡ b → f * (14 * s.nodes + 1) + kept_of s.nodes b ≤ advances_in s.rows * (14 * s.nodes + 1)
   by false is =
-      let few : f ≤ advances_in s.rows = omega (arith, from.low, low_most s past 0 good some, turned_most s past good) in
+      let few : f ≤ advances_in s.rows = omega (arith, from.low, low_turned past (turns_in s past 0) (good.within 0 some), turned_most s past good) in
       omega (arith, mul-le-mul_right (14 * s.nodes + 1) few)
   by true is =
       let less : f + 1 ≤ advances_in s.rows =
-      omega (arith, from.read, ap one_if is, read_most s past 0 good some, turned_most s past good) in
+      omega (arith, from.read, ap one_if is, read_turned past (turns_in s past 0) (good.within 0 some), turned_most s past good) in
       omega (arith, mul-le-mul_right (14 * s.nodes + 1) less)

@@ -1,13 +1,13 @@
 -- The count of a coordinator that forgets: each of its entries is a step of a count, and the version that it counts is open
 -- where it wasn't given yet.
-use Rattle.std.proofs.Common.{◌≡◌, ℕ, ◌+◌, ◌*◌, ◌^◌, ◌<◌, ◌≤◌, ◌==◌, Bool, true, false, List, [], ◌∷◌, refl, sym, ap, subst, ◌∙◌, Option, Some, None, arith}
-use Rattle.std.specs.Prelude.{if◌then◌else◌, max, nat_lt, is_some}
-use Rattle.std.specs.List.{list_all, list_any}
+use Rattle.std.proofs.Common.{◌≡◌, ℕ, ◌+◌, ◌<◌, ◌≤◌, ◌==◌, Bool, true, false, List, [], ◌∷◌, refl, sym, ap, subst, ◌∙◌, Option, Some, arith}
+use Rattle.std.specs.Prelude.{if◌then◌else◌, max, is_some}
+use Rattle.std.specs.List.{list_all}
 use Rattle.tv_base.specs.Outside.{one_more}
 use Rattle.tv_base.specs.declared.numbers.Version.{Version}
 use Rattle.phase_out.specs.Counts.{nudged}
 use Rattle.letter_types.specs.declared.bodies.Body.{Body}
-use Rattle.letter_types.specs.declared.bodies.Body.TheVariants.{AdvanceNo, Ask, AskDone, AskedRow, DoneRow, Nudge, Obeyed, Order}
+use Rattle.letter_types.specs.declared.bodies.Body.TheVariants.{AdvanceNo, Ask, AskDone, AskedRow, Nudge, Obeyed, Order}
 use Rattle.letter_types.specs.declared.bodies.What.{What}
 use Rattle.letter_types.specs.declared.bodies.What.TheVariants.{Turn as ToTurn, Show as ToShow, Sweep as ToSweep}
 use Rattle.letter_types.specs.declared.entries.Entry.{Entry}
@@ -18,7 +18,7 @@ use Rattle.tx_trees.specs.ScriptData.{ScriptData}
 use Rattle.world_model.specs.AllApt.{AllApt}
 use Rattle.world_model.specs.Coordinator.{to_nodes}
 use Rattle.script_parts.specs.Counts.{is_lossy}
-use Rattle.world_model.specs.Restarting.{Restarting, AllTold, after_doing, begin_counting, end_counting, enter, first_number, forget, in_restart_phase, enter_telling, least_low, low_differs, next_advance, orders, phase_by, read_is, recover, restarting_row, resume_if, target, update_is, version_counted, with_advances, with_told, with_wanted}
+use Rattle.world_model.specs.Restarting.{Restarting, after_doing, begin_counting, end_counting, enter, first_number, forget, in_restart_phase, enter_telling, next_advance, orders, recover, restarting_row, resume_if, target, version_counted, with_advances, with_told, with_wanted}
 use Rattle.world_model.specs.Runs.{IsStepRun, restarting_in}
 use Rattle.world_model.specs.Tables.{restarting_table}
 use Rattle.world_model.specs.declared.restarting.RestartPhase.{RestartPhase}
@@ -36,8 +36,8 @@ use Rattle.phase_laws.proofs.Outcomes.{one_more_is}
 use Rattle.phase_laws.proofs.Progress.{restarts}
 use Rattle.phase_laws.proofs.Sending.{AllPlain, IsPlain}
 use Rattle.epoch_laws.proofs.Few.{IsFew, few}
-use Rattle.epoch_laws.proofs.Good.{AllGood, IsGood, IsSteady}
-use Rattle.epoch_laws.proofs.GoodOutcomes.{few_ended, steady_counting}
+use Rattle.epoch_laws.proofs.Good.{AllGood, IsGood, IsSteady, ended_few, in_phase}
+use Rattle.epoch_laws.proofs.RecoverSteps.{next_each}
 use Rattle.epoch_laws.proofs.RestartSteps.{HearsMore, IsLeft, OfClient, OfNode, RestartStep, asked_kept, asks_with, done_kept, restart_step}
 use Rattle.epoch_laws.proofs.RestartSteps.{Acks, Agrees, Ends, Flags, Forgets, Goes, KeepsAsked, KeepsDone, Pauses, Recounts, Recovers, Rests, Resumes, Wants}
 use Rattle.epoch_laws.proofs.RestartSteps.{TakesRequests as TakesAsked}
@@ -68,32 +68,11 @@ IsNewCount s reads v past = AllGood s past × IsNotGiven reads v past
 
 -- the phase that counts is the one in which a round is counted
 pub counting_is : (phase : RestartPhase) (reads : Bool) → pace_of phase ≡ InRound reads → phase ≡ Counting reads
-counting_is (Counting r) reads is = let same : r ≡ reads = cc is in ap Counting same
-counting_is (Paused r) reads is = absurd (cc is)
-counting_is (Doing what) reads is = absurd (cc is)
-counting_is Idle reads is = absurd (cc is)
-counting_is Recovering reads is = absurd (cc is)
+counting_is phase reads is = grind arith
 
 -- 1. The phases that a coordinator goes to without a count, and what it sends then.
 next_none : (wanted f : ℕ) → pace_of (next_advance wanted f) ≡ NoRound
-next_none wanted f = by (nat_lt f wanted) where
-  by : (b : Bool) → pace_of (if b then Doing ToTurn else Idle) ≡ NoRound
-  by true = refl
-  by false = refl
-
-told_none : (sweeps shows turns : Bool) (wanted f : ℕ)
-    → pace_of (
-    if sweeps then Doing ToSweep else if shows then Doing ToShow else if turns then Doing ToTurn else next_advance wanted f
-    ) ≡ NoRound
-told_none true shows turns wanted f = refl
-told_none false true turns wanted f = refl
-told_none false false true wanted f = refl
-told_none false false false wanted f = next_none wanted f
-
-by_none : (ts : AllTold) (wanted f : ℕ) → pace_of (phase_by ts wanted f) ≡ NoRound
-by_none ts wanted f =
-    told_none (list_any (low_differs f) ts) (list_any (read_is (one_more f)) ts)
-    (list_any (update_is (one_more (one_more f))) ts) wanted f
+next_none wanted f = next_each (λ (p : RestartPhase). pace_of p ≡ NoRound) wanted f (λ lt. refl) (λ le. refl)
 
 -- no order is a letter of a round
 orders_plain : (phase : RestartPhase) (c : Restarting) → AllPlain (orders phase c)
@@ -107,9 +86,6 @@ record IsApart (number : ℕ) (out : Out Restarting) : Type 0 where
   pub same : out.state.count.number ≡ number
   pub plain : AllPlain out.sent
 
-rests_apart : (c : Restarting) → pace_of c.phase ≡ NoRound → IsApart c.count.number (still c)
-rests_apart c none = record { none = none; same = refl; plain = tt }
-
 enter_apart : (phase : RestartPhase) (c : Restarting) → pace_of phase ≡ NoRound → IsApart c.count.number (enter phase c)
 enter_apart phase c none = record { none = none; same = refl; plain = orders_plain phase c }
 
@@ -119,11 +95,7 @@ telling_apart phase c none = record { none = none; same = refl; plain = (tt, ord
 
 resume_apart : (all : Bool) (k : Option ℕ) (c : Restarting) → pace_of c.phase ≡ NoRound
     → IsApart c.count.number (resume_if all k c)
-resume_apart true (Some k) c none =
-    telling_apart (phase_by c.told (max c.wanted k) (least_low c.told)) (with_advances (max c.wanted k) (least_low c.told) c)
-    (by_none c.told (max c.wanted k) (least_low c.told))
-resume_apart true None c none = rests_apart c none
-resume_apart false k c none = rests_apart c none
+resume_apart all k c none = grind (arith, telling_apart)
 
 recover_apart : (c d : Restarting) (from : ℕ) (body : Body) → c.phase ≡ Recovering → HearsMore c from body d
     → IsApart c.count.number (recover d)
@@ -156,16 +128,8 @@ record HasRoom (c : Restarting) : Type 0 where
   pub begins : c.count.number < one_more c.count.number
   pub forgets : c.count.number ≤ first_number (one_more c.epoch)
 
-room_by : (k e : ℕ) → e ≤ 100 → k < (e + 1) * 2 ^ 32 → (k < one_more k) × (k ≤ first_number (one_more e))
-room_by k e small few =
-    let next : one_more e ≡ e + 1 = one_more_is e (omega (arith, small)) in
-    (omega (arith, few, small), omega (arith, few, small, next))
-
 has_room : (s : ScriptData) (past : List Entry) → IsFew s past → HasRoom (restarting_in s past)
-has_room s past few =
-    let (begins, forgets) =
-    room_by (restarting_in s past).count.number (restarting_in s past).epoch few.epoch few.number in
-    record { begins = begins; forgets = forgets }
+has_room s past few = grind arith
 
 -- what comes of a letter is a step of the count
 abbrev Step : ℕ → Restarting → ℕ → Body → Out Restarting → Type 0
@@ -190,9 +154,7 @@ Passes body _ from c = Unit {0}
 
 rests_none : (n : ℕ) (c d : Restarting) (from : ℕ) (body : Body) (out : Out Restarting) → pace_of c.phase ≡ NoRound
     → count_of d ≡ count_of c → out ≡ still d → Step n c from body out
-rests_none n c d from body out none same is =
-    leaves_by n c from body out (still d) is
-    (record { none = ap (λ (x : Count). x.pace) same ∙ none; same = ap (λ (x : Count). x.number) same; plain = tt })
+rests_none n c d from body out none same is = grind arith
 
 rests_step : (n : ℕ) (c d : Restarting) (from : ℕ) (body : Body) (out : Out Restarting) (phase : RestartPhase) → c.phase ≡ phase
     → Passes body phase from c → count_of d ≡ count_of c → out ≡ still d → Step n c from body out
@@ -205,31 +167,12 @@ rests_step n c d from body out Idle at ok same is = rests_none n c d from body o
 rests_step n c d from body out Recovering at ok same is = rests_none n c d from body out (ap pace_of at) same is
 rests_step n c d from body out (Doing what) at ok same is = rests_none n c d from body out (ap pace_of at) same is
 
-left_counting : (body : Body) (reads : Bool) (from : ℕ) (c : Restarting) → IsLeft body (Counting reads) from c
-    → NoNudge body × Refused body from c.count.current
-left_counting (DoneRow v k row) reads from c left = (tt, left)
-left_counting (AskedRow v k row) reads from c left = (tt, left)
-left_counting Nudge reads from c left = absurd left
-left_counting _ reads from c left = (tt, tt)
-
-left_paused : (body : Body) (reads : Bool) (from : ℕ) (c : Restarting) → IsLeft body (Paused reads) from c → NoNudge body
-left_paused Nudge reads from c left = absurd left
-left_paused _ reads from c left = tt
-
 left_passes : (body : Body) (phase : RestartPhase) (from : ℕ) (c : Restarting) → IsLeft body phase from c
     → Passes body phase from c
-left_passes body (Counting reads) from c left = left_counting body reads from c left
-left_passes body (Paused reads) from c left = left_paused body reads from c left
-left_passes body Idle from c left = tt
-left_passes body Recovering from c left = tt
-left_passes body (Doing what) from c left = tt
+left_passes body phase from c left = grind arith
 
 advance_passes : (i : ℕ) (phase : RestartPhase) (from : ℕ) (c : Restarting) → Passes (AdvanceNo i) phase from c
-advance_passes i (Counting reads) from c = (tt, tt)
-advance_passes i (Paused reads) from c = tt
-advance_passes i Idle from c = tt
-advance_passes i Recovering from c = tt
-advance_passes i (Doing what) from c = tt
+advance_passes i phase from c = grind arith
 
 -- a round begins
 begins_by : (n : ℕ) (c : Restarting) (from : ℕ) (body other : Body) (out : Out Restarting) (reads : Bool) (d : Restarting)
@@ -402,8 +345,8 @@ open_in : (s : ScriptData) (past : List Entry) (reads : Bool) → IsTreeLawful s
     → Open s past (restarting_in s past).count.current.version.0
 open_in s past reads laws loses run apt at new =
     let good = good_now s past new.0 in
-    let steady = steady_counting s past reads good at in
-    let small = few_ended s past (Counting reads) laws.valid.some_nodes good (few s past laws loses run apt) steady in
+    let steady = in_phase s past (Counting reads) good at in
+    let small = ended_few s past (Counting reads) laws.valid good steady in
     let is : (restarting_in s past).count.current.version.0 ≡ (version_counted reads (restarting_in s past)).0 =
     ap (λ (v : Version). v.0) (versioned s past reads at) in
     subst (Open s past) (sym is) (open_by s past reads good steady small (subst (λ (v : ℕ). IsNotGiven reads v past) is new.1))

@@ -1,22 +1,19 @@
 -- What a step of a coordinator that forgets can be.
 use Rattle.std.proofs.Common.{◌≡◌, ℕ, ◌+◌, ◌<◌, ◌&&◌, ◌==◌, Bool, true, false, List, [], length, refl, sym, ap, subst, ◌∙◌, Option, Some, None, arith}
 use Rattle.std.specs.Prelude.{if◌then◌else◌, max, nat_lt, not}
-use Rattle.std.proofs.lemmas.Bool.{and_from, and_parts, eqb-true, ltb-true}
-use Rattle.std.proofs.lemmas.Bool.Decides.{nat_tests}
+use Rattle.std.proofs.lemmas.Bool.{and_parts, eqb-true, ltb-true}
 use Rattle.tv_base.specs.declared.numbers.Version.{Version}
 use Rattle.tv_base.specs.Outside.{one_more}
-use Rattle.phase_out.specs.Counts.{by_verdict, count_stays, count_takes, nudged, told_done, told_asked}
-use Rattle.phase_out.specs.declared.count.RowChange.TheVariants.{Asked}
+use Rattle.phase_out.specs.Counts.{by_verdict, nudged, told_done, told_asked}
 use Rattle.phase_out.specs.Rounds.{all_in, is_of, verdict_of}
 use Rattle.phase_out.specs.declared.count.Counted.TheVariants as counted
 use Rattle.letter_types.specs.declared.bodies.Body.{Body}
 use Rattle.letter_types.specs.declared.bodies.Body.TheVariants.{AdvanceNo, AskAsked, AskedRow, DoneRow, Lose, Nudge, Numbers, Obeyed, Wanted}
 use Rattle.letter_types.specs.declared.bodies.What.{What}
-use Rattle.letter_types.specs.declared.bodies.What.TheVariants.{Turn as ToTurn, Show as ToShow, Sweep as ToSweep}
 use Rattle.letter_types.specs.declared.entries.Outgoing.{Outgoing}
 use Rattle.letter_types.specs.Steps.{Out, still}
 use Rattle.world_model.specs.Coordinator.{to_nodes, with_asked, with_done}
-use Rattle.world_model.specs.Restarting.{Restarting, after_doing, begin_counting, by_count, by_counted, end_counting, enter, forget, in_restart_phase, is_answer, next_advance, recover, restart_row_of, restarting_row, same_what, target, with_told, with_wanted}
+use Rattle.world_model.specs.Restarting.{Restarting, after_doing, begin_counting, by_count, by_counted, end_counting, enter, forget, in_restart_phase, is_answer, next_advance, recover, restart_row_of, restarting_row, target, with_told, with_wanted}
 use Rattle.world_model.specs.declared.restarting.RestartPhase.{RestartPhase}
 use Rattle.world_model.specs.declared.restarting.RestartPhase.TheVariants.{Idle, Recovering, Doing, Counting, Paused}
 
@@ -59,9 +56,9 @@ pub record TakesRequests (c : Restarting) (from : ℕ) (body : Body) (reads : Bo
   pub here : is_of from v k row c.count.current ≡ true
   pub after_dones : all_in c.count.current.dones ≡ true
 
--- the letter changes nothing; all but the epoch is forgotten; more advancements are wanted, and one begins where none is under
--- way; more is heard, and it goes on once all is; an order was obeyed by one node more, or by the last one; or the count goes on:
--- a nudge is remembered, or ends a pause, or a row is kept, or judged
+-- the letter changes nothing; all but the epoch is forgotten; more advancements are wanted, and one begins where none
+-- is under way; more is heard, and it goes on once all is; an order was obeyed by one node more, or by the last one; or
+-- the count goes on: a nudge is remembered, or ends a pause, or a row is kept, or judged
 pub data RestartStep (c : Restarting) (from : ℕ) (body : Body) (out : Out Restarting) : Type 0 where
   Rests : IsLeft body c.phase from c → out ≡ still c → RestartStep c from body out
   Forgets : body ≡ Lose → out ≡ forget c → RestartStep c from body out
@@ -91,29 +88,10 @@ pub data RestartStep (c : Restarting) (from : ℕ) (body : Body) (out : Out Rest
       → verdict_of (with_asked from row c.count.current) ≡ Some false → c.count.flag ≡ false
       → out ≡ still (in_restart_phase (Paused reads) (asked_kept from row c)) → RestartStep c from body out
 
-same_order : (a b : What) → same_what a b ≡ true → a ≡ b
-same_order ToTurn ToTurn is = refl
-same_order ToShow ToShow is = refl
-same_order ToSweep ToSweep is = refl
-same_order ToTurn ToShow is = absurd (cc is)
-same_order ToTurn ToSweep is = absurd (cc is)
-same_order ToShow ToTurn is = absurd (cc is)
-same_order ToShow ToSweep is = absurd (cc is)
-same_order ToSweep ToTurn is = absurd (cc is)
-same_order ToSweep ToShow is = absurd (cc is)
-
-same_version : (v w : Version) → v.0 ≡ w.0 → v ≡ w
-same_version v w is = ap (λ (n : ℕ). record { 0 = n }) is
-
 -- an answer to the present order
 answer_is : (e : ℕ) (what : What) (v : Version) (doing : What) (c : Restarting) → is_answer e what v doing c ≡ true
     → Obeyed e what v ≡ Obeyed c.epoch doing (target doing c.ended)
-answer_is e what v doing c is =
-    let parts = and_parts (e == c.epoch) (same_what what doing && (v.0 == (target doing c.ended).0)) is in
-    let rest = and_parts (same_what what doing) (v.0 == (target doing c.ended).0) parts.1 in
-    ap (λ (n : ℕ). Obeyed n what v) (eqb-true e c.epoch parts.0)
-    ∙ ap (λ (w : What). Obeyed c.epoch w v) (same_order what doing rest.0)
-    ∙ ap (λ (w : Version). Obeyed c.epoch doing w) (same_version v (target doing c.ended) (eqb-true v.0 (target doing c.ended).0 rest.1))
+answer_is e what v doing c is = grind arith
 
 -- Steps by their tests.
 numbers_step : (e : ℕ) (u r l : Version) (from : ℕ) (c : Restarting) (test : Bool) → c.phase ≡ Recovering
@@ -166,10 +144,7 @@ done_step v k row reads from c false at is =
 judged : (v : Version) (k : ℕ) (row : List ℕ) (reads : Bool) (from : ℕ) (c : Restarting) (verdict : Option Bool)
     → TakesRequests c from (AskedRow v k row) reads v k row → verdict_of (with_asked from row c.count.current) ≡ verdict
     → by_count reads (told_asked from v k row c.count) c ≡ by_counted reads (by_verdict verdict c.count.flag) (asked_kept from row c)
-judged v k row reads from c verdict takes is =
-    let there : (is_of from v k row c.count.current && all_in c.count.current.dones) ≡ true = and_from _ _ takes.here takes.after_dones in
-    ap (λ (test : Bool). by_count reads (if test then count_takes (Asked (record { 0 = from }) row) c.count else count_stays c.count) c) there
-    ∙ ap (λ (o : Option Bool). by_counted reads (by_verdict o c.count.flag) (asked_kept from row c)) is
+judged v k row reads from c verdict takes is = grind arith
 
 judged_step : (v : Version) (k : ℕ) (row : List ℕ) (reads : Bool) (from : ℕ) (c : Restarting) (verdict : Option Bool) (flag : Bool)
     → TakesRequests c from (AskedRow v k row) reads v k row → verdict_of (with_asked from row c.count.current) ≡ verdict → c.count.flag ≡ flag

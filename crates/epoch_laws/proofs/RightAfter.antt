@@ -1,7 +1,6 @@
--- Letters that were as they should be are so after an entry of the coordinator: where it gives nothing new and waits for what it
--- waited for, or where none of its epoch is left.
+-- Letters that were as they should be are so after an entry of the coordinator: where it gives nothing new and waits
+-- for what it waited for, or where none of its epoch is left.
 use Rattle.std.proofs.Common.{◌≡◌, ℕ, ◌<◌, ◌≤◌, ◌==◌, List, ◌∷◌, subst, ◌∙◌, arith}
-use Rattle.std.proofs.lemmas.Bool.Decides.{nat_tests}
 use Rattle.letter_types.specs.declared.bodies.Body.{Body}
 use Rattle.letter_types.specs.declared.bodies.Body.TheVariants.{Go, Advanced, Ask, Numbers, Obeyed, Order, Wanted}
 use Rattle.letter_types.specs.declared.bodies.What.{What}
@@ -16,7 +15,7 @@ use Rattle.phase_laws.specs.Given.{greatest_given}
 use Rattle.phase_laws.specs.Phases.{Stage, TurnStage, ShowStage, SweepStage, stage_of}
 use Rattle.phase_laws.proofs.Advancing.{given_rises}
 use Rattle.epoch_laws.proofs.AtCoordinator.{held_at, node_stays}
-use Rattle.epoch_laws.proofs.Good.{IsAsTold, IsCurrent, IsLatest, IsRight, epoch_in, token, turns_in}
+use Rattle.epoch_laws.proofs.Good.{IsAsTold, IsCurrent, IsLatest, IsRight, Knows, epoch_in, token, turns_in}
 
 -- the same was given as before
 abbrev pub IsGivenStill : List Entry → Entry → Type 0
@@ -119,10 +118,10 @@ pub record IsTelling (s : ScriptData) (past : List Entry) (e : Entry) : Type 0 w
   pub at : e.actor.0 ≡ s.nodes
   pub epoch : (restarting_in s (e ∷ past)).epoch ≡ (restarting_in s past).epoch
   pub heard : (q : ℕ) → q < s.nodes → (restarting_in s past).epoch ≤ epoch_in s past q
-  pub knows : (restarting_in s (e ∷ past)).phase ≡ Recovering → ⊥
+  pub knows : Knows (restarting_in s (e ∷ past)).phase
 
 same_test : (a b : ℕ) → one_if (a == b) ≡ 0 → a ≡ b → ⊥
-same_test a b none is = grind (arith, nat_tests)
+same_test a b none is = grind arith
 
 rises : (a : What) (past : List Entry) (e : Entry) (v : ℕ) → v ≤ greatest_given (stage_of a) past → v ≤ greatest_given (stage_of a) (e ∷ past)
 rises a past e v le = omega (arith, le, given_rises (stage_of a) e past)

@@ -1,12 +1,11 @@
 -- An entry of the client or of a node: the epoch of each node and its versions don't fall, and come to no more than was begun
 -- and given.
-use Rattle.std.proofs.Common.{◌≡◌, ◌≢◌, ◌⊎◌, inl, inr, ℕ, ◌<◌, ◌≤◌, Bool, true, false, List, ◌∷◌, refl, sym, ap, subst, ◌∙◌, arith}
+use Rattle.std.proofs.Common.{◌≡◌, ◌≢◌, ◌⊎◌, ℕ, ◌<◌, ◌≤◌, Bool, true, false, List, ◌∷◌, sym, ap, subst, arith}
 use Rattle.std.proofs.lemmas.Bool.{cases_eq}
 use Rattle.tv_base.specs.declared.numbers.Version.{Version}
 use Rattle.letter_types.specs.declared.bodies.Body.{Body}
-use Rattle.letter_types.specs.declared.bodies.Body.TheVariants.{Root, Sub as SubLetter, Done, Decide, Decided, Release, Wake, Ask, Order}
+use Rattle.letter_types.specs.declared.bodies.Body.TheVariants.{Sub as SubLetter, Ask, Order}
 use Rattle.letter_types.specs.declared.bodies.What.{What}
-use Rattle.letter_types.specs.declared.bodies.What.TheVariants.{Turn as ToTurn, Show as ToShow, Sweep as ToSweep}
 use Rattle.letter_types.specs.declared.entries.Entry.{Entry}
 use Rattle.letter_types.specs.declared.entries.Letter.{Letter}
 use Rattle.node_versions.specs.declared.turns.Turns.{Turns}
@@ -16,7 +15,6 @@ use Rattle.world_model.specs.Done.{raised_if}
 use Rattle.world_model.specs.Keeping.{KeepingNode}
 use Rattle.world_model.specs.Node.{Node}
 use Rattle.world_model.specs.Runs.{MayFollow, keeping_in, restarting_in}
-use Rattle.world_model.proofs.Every.{each_taken}
 use Rattle.world_model.proofs.Outstanding.{keeping_elsewhere}
 use Rattle.phase_laws.specs.Given.{greatest_given}
 use Rattle.phase_laws.specs.Phases.{TurnStage, ShowStage, SweepStage, stage_of}
@@ -26,7 +24,7 @@ use Rattle.phase_laws.proofs.Heeds.{Answers, Heed, Leaves, Obeys, Repeats, turne
 use Rattle.phase_laws.proofs.Progress.{Work}
 use Rattle.phase_laws.proofs.Working.{IsOfTrees, IsRaiser}
 use Rattle.epoch_laws.proofs.Aside.{Aside, TellsCounts, Counts, Heeds, IsEpochless, Submits, Tells, Works}
-use Rattle.epoch_laws.proofs.Good.{IsGood, IsOrder, IsRight}
+use Rattle.epoch_laws.proofs.Good.{IsGood, IsOrder, took_right}
 use Rattle.epoch_laws.proofs.TreeEpochs.{IsOfNoEpoch, epoch_stays}
 
 -- a node's epoch and versions don't fall
@@ -44,28 +42,9 @@ pub record Fares (s : ScriptData) (past : List Entry) (c d : Core) : Type 0 wher
   pub showed : d.node.turns.read.0 ≤ greatest_given ShowStage past
   pub swept : d.node.turns.low.0 ≤ greatest_given SweepStage past
 
-pub rises_same : (c : Core) → Rises c c
-rises_same c = record { epoch = omega arith; update = omega arith; read = omega arith; low = omega arith }
-
 stays : (s : ScriptData) (past : List Entry) (p : ℕ) → IsGood s past → p < s.nodes
     → Fares s past (keeping_in s past p).core (keeping_in s past p).core
-stays s past p good lt =
-    let within = good.within p lt in
-    record {
-      rises = rises_same (keeping_in s past p).core;
-      begun = good.epochs p lt;
-      turned = within.update_turned;
-      showed = within.read_showed;
-      swept = within.low_swept;
-    }
-
--- the letter that is taken is as it should be
-pub took_right : (s : ScriptData) (past : List Entry) (e : Entry) (body : Body) → IsGood s past → MayFollow s past e
-    → e.took.body ≡ body
-    → IsRight s past e.took.from.0 e.took.to.0 body
-took_right s past e body good m is =
-    subst (IsRight s past e.took.from.0 e.took.to.0) is
-    (each_taken (λ (l : Letter). IsRight s past l.from.0 l.to.0 l.body) s past e m good.letters)
+stays s past p good lt = omega (arith, good.within p lt, good.epochs p lt)
 
 -- A node that works for a tree may raise its update version to that of a letter.
 raiser_version : (s : ScriptData) (v : ℕ) (body : Body) → IsRaiser s v body → v ≤ tree_version body
@@ -75,46 +54,16 @@ raiser_version s v _ raiser = absurd raiser
 -- a core with these numbers, whatever else it has
 by_numbers : (s : ScriptData) (past : List Entry) (c d : Core) (n : ℕ) (t : Turns) → d.epoch ≡ n → d.node.turns ≡ t
     → Fares s past c (record c { epoch = n; node = record c.node { turns = t } }) → Fares s past c d
-by_numbers s past c d n t epoch turns fares =
-    let update : d.node.turns.update.0 ≡ t.update.0 = ap (λ (x : Turns). x.update.0) turns in
-    let read : d.node.turns.read.0 ≡ t.read.0 = ap (λ (x : Turns). x.read.0) turns in
-    let low : d.node.turns.low.0 ≡ t.low.0 = ap (λ (x : Turns). x.low.0) turns in
-    record {
-      rises = record {
-        epoch = omega (arith, epoch, fares.rises.epoch);
-        update = omega (arith, update, fares.rises.update);
-        read = omega (arith, read, fares.rises.read);
-        low = omega (arith, low, fares.rises.low);
-      };
-      begun = omega (arith, epoch, fares.begun);
-      turned = omega (arith, update, fares.turned);
-      showed = omega (arith, read, fares.showed);
-      swept = omega (arith, low, fares.swept);
-    }
+by_numbers s past c d n t epoch turns fares = grind arith
 
 raised : (s : ScriptData) (past : List Entry) (c d : Core) (raises : Bool) (v : ℕ)
     → d.node.turns ≡ raised_if raises v c.node.turns
     → (raises ≡ true → c.node.turns.update.0 < v) → (raises ≡ true → v ≤ greatest_given TurnStage past) → d.epoch ≡ c.epoch
     → Fares s past c c → Fares s past c d
-raised s past c d true v is higher most epoch was =
-    by_numbers s past c d c.epoch (record c.node.turns { update = record { 0 = v } }) epoch is (record {
-      rises = record { epoch = omega arith; update = omega (arith, higher refl); read = omega arith; low = omega arith };
-      begun = was.begun;
-      turned = most refl;
-      showed = was.showed;
-      swept = was.swept;
-    })
-raised s past c d false v is higher most epoch was = by_numbers s past c d c.epoch c.node.turns epoch is was
+raised s past c d raises v is higher most epoch was = grind arith
 
 tree_of_none : (body : Body) → IsOfTrees body → IsOfNoEpoch body
-tree_of_none (Root t) of = tt
-tree_of_none (SubLetter t k v) of = tt
-tree_of_none (Done t k v notice) of = tt
-tree_of_none (Decide t v commit) of = tt
-tree_of_none (Decided t v) of = tt
-tree_of_none (Release t) of = tt
-tree_of_none (Wake t k) of = tt
-tree_of_none _ of = absurd of
+tree_of_none body of = grind arith
 
 work_fares : (s : ScriptData) (past : List Entry) (e : Entry) (p : ℕ) (r : Letter) → IsGood s past → MayFollow s past e
     → Work s past e p r
@@ -129,9 +78,7 @@ work_fares s past e p r good m work =
 
 -- A node that tells what it has counted stays as it is.
 epochless_of_none : (body : Body) → IsEpochless body → IsOfNoEpoch body
-epochless_of_none (Ask n) none = absurd none
-epochless_of_none (Order n what v) none = absurd none
-epochless_of_none _ none = tt
+epochless_of_none body none = grind arith
 
 count_fares : (s : ScriptData) (past : List Entry) (e : Entry) (p : ℕ) → IsGood s past → TellsCounts s past e p
     → Fares s past (keeping_in s past p).core (keeping_in s (e ∷ past) p).core
@@ -143,40 +90,13 @@ count_fares s past e p good count =
 -- A node that heeds an order or a question comes to its epoch, and by an order to its version, if it wasn't there yet.
 in_epoch : (s : ScriptData) (past : List Entry) (c d : Core) (n : ℕ) → n ≤ (restarting_in s past).epoch → c.epoch ≤ n
     → d ≡ record c { epoch = n } → Fares s past c c → Fares s past c d
-in_epoch s past c d n begun new is was =
-    subst (Fares s past c) (sym is) (record {
-      rises = record { epoch = new; update = omega arith; read = omega arith; low = omega arith };
-      begun = begun;
-      turned = was.turned;
-      showed = was.showed;
-      swept = was.swept;
-    })
+in_epoch s past c d n begun new is was = subst (Fares s past c) (sym is) (omega (arith, was, begun, new))
 
 at_version : (s : ScriptData) (past : List Entry) (c : Core) (n : ℕ) (what : What) (v : Version)
     → v.0 ≤ greatest_given (stage_of what) past
     → version_of what c.node.turns < v.0 → c.epoch ≤ n → n ≤ (restarting_in s past).epoch → Fares s past c c
     → Fares s past c (record c { epoch = n; node = record c.node { turns = turned_to what v c.node.turns } })
-at_version s past c n ToTurn v given less new begun was = record {
-  rises = record { epoch = new; update = omega (arith, less); read = omega arith; low = omega arith };
-  begun = begun;
-  turned = given;
-  showed = was.showed;
-  swept = was.swept;
-}
-at_version s past c n ToShow v given less new begun was = record {
-  rises = record { epoch = new; update = omega arith; read = omega (arith, less); low = omega arith };
-  begun = begun;
-  turned = was.turned;
-  showed = given;
-  swept = was.swept;
-}
-at_version s past c n ToSweep v given less new begun was = record {
-  rises = record { epoch = new; update = omega arith; read = omega arith; low = omega (arith, less) };
-  begun = begun;
-  turned = was.turned;
-  showed = was.showed;
-  swept = given;
-}
+at_version s past c n what v given less new begun was = grind arith
 
 heed_fares : (s : ScriptData) (past : List Entry) (e : Entry) (p : ℕ) → IsGood s past → MayFollow s past e → p < s.nodes
     → Heed s (keeping_in s past p).core (keeping_in s (e ∷ past) p).core e.took.body e.sent
@@ -204,9 +124,7 @@ elsewhere s past e q good lt ne =
 at_node : (s : ScriptData) (past : List Entry) (e : Entry) (p q : ℕ) → IsGood s past → q < s.nodes → e.actor.0 ≡ p
     → Fares s past (keeping_in s past p).core (keeping_in s (e ∷ past) p).core → (p ≡ q) ⊎ (p ≢ q)
     → Fares s past (keeping_in s past q).core (keeping_in s (e ∷ past) q).core
-at_node s past e p q good lt at here (inl same) =
-    subst (λ (n : ℕ). Fares s past (keeping_in s past n).core (keeping_in s (e ∷ past) n).core) same here
-at_node s past e p q good lt at here (inr other) = elsewhere s past e q good lt (λ is. other (sym at ∙ is))
+at_node s past e p q good lt at here is = grind (arith, elsewhere)
 
 pub fares : (s : ScriptData) (past : List Entry) (e : Entry) (q : ℕ) → IsGood s past → MayFollow s past e → q < s.nodes
     → Aside s past e

@@ -2,7 +2,6 @@
 use Rattle.std.proofs.Common.{◌≡◌, ◌≢◌, ◌⊎◌, inl, inr, ℕ, zero, suc, ◌<◌, ◌≤◌, ◌==◌, ◌||◌, Bool, true, false, [], ◌∷◌, length, refl, sym, ap, ◌∙◌, arith, Option, Some, None}
 use Rattle.std.specs.Prelude.{is_some, min, not, replicate, slice_get}
 use Rattle.std.specs.List.{list_all, list_any}
-use Rattle.std.proofs.lemmas.Bool.Decides.{nat_tests}
 use Rattle.std.proofs.lemmas.Bool.{eqb-true}
 use Rattle.world_model.specs.Restarting.{AllTold, least_low, low_differs, read_is, update_is}
 use Rattle.world_model.specs.declared.restarting.Told.{Told}
@@ -23,10 +22,6 @@ later : (o : Option Told) (ts : AllTold) (P : Told → Type 0) → SomeTold ts P
 later o ts P some = record { node = suc some.node; told = some.told; below = omega (arith, some.below); has = some.has; fits = some.fits }
 
 -- once all have told
-all_rest : (o : Option Told) (ts : AllTold) → list_all is_some (o ∷ ts) ≡ true → list_all is_some ts ≡ true
-all_rest None ts all = absurd (cc all)
-all_rest (Some t) ts all = all
-
 pub all_told : (ts : AllTold) (q : ℕ) → list_all is_some ts ≡ true → q < length ts → (t : Told) × HasTold ts q t
 all_told [] q all lt = absurd (omega (arith, lt))
 all_told (None ∷ ts) q all lt = absurd (cc all)
@@ -68,7 +63,7 @@ least_told (Some t ∷ o ∷ ts) all some small =
           (record { node = rest.node; told = rest.told; below = rest.below; has = rest.has; fits = rest.fits ∙ sym is })
 
 -- A test that some node passes.
-pub some_told : (test : Option Told → Bool) (P : Told → Type 0) (ts : AllTold) → test None ≡ false → ((t : Told) → test (Some t) ≡ true → P t)
+some_told : (test : Option Told → Bool) (P : Told → Type 0) (ts : AllTold) → test None ≡ false → ((t : Told) → test (Some t) ≡ true → P t)
     → list_any test ts ≡ true → SomeTold ts P
 some_told test P [] none fits any = absurd (cc any)
 some_told test P (None ∷ ts) none fits any =
@@ -80,7 +75,7 @@ some_told test P (Some t ∷ ts) none fits any = by (λ rest. some_told test P t
   by rest false is = later (Some t) ts P (rest (sym (ap (λ (b : Bool). b || list_any test ts) is) ∙ any))
 
 differs_is : (a f : ℕ) → not (a == f) ≡ true → a ≢ f
-differs_is a f is = grind (arith, nat_tests)
+differs_is a f is = grind arith
 
 pub some_low : (ts : AllTold) (f : ℕ) → list_any (low_differs f) ts ≡ true → SomeTold ts (λ (t : Told). t.low.0 ≢ f)
 some_low ts f any = some_told (low_differs f) (λ (t : Told). t.low.0 ≢ f) ts refl (λ t is. differs_is t.low.0 f is) any

@@ -1,35 +1,17 @@
 -- A letter that is no order and no question of a coordinator that forgets leaves its node in the epoch in which it is.
-use Rattle.std.proofs.Common.{◌≡◌, ℕ, Bool, true, false, List, ◌∷◌, refl, ap, subst, ◌∙◌, Option, Some, None}
-use Rattle.std.specs.Prelude.{if◌then◌else◌, nat_lt}
-use Rattle.tv_base.specs.declared.numbers.SubNo.{SubNo}
-use Rattle.tv_base.specs.declared.numbers.TreeNo.{TreeNo}
-use Rattle.tv_base.specs.declared.numbers.Version.{Version}
+use Rattle.std.proofs.Common.{◌≡◌, ℕ, Bool, true, false, List, ◌∷◌, refl, Option, Some, None, arith}
 use Rattle.letter_types.specs.declared.bodies.Body.{Body}
-use Rattle.letter_types.specs.declared.bodies.Body.TheVariants.{Root, Sub as SubLetter, Done, Decide, Decided, Release, Ask, Order}
-use Rattle.letter_types.specs.declared.bodies.Notice.{Notice}
+use Rattle.letter_types.specs.declared.bodies.Body.TheVariants.{Ask, Order}
 use Rattle.letter_types.specs.declared.entries.Entry.{Entry}
 use Rattle.letter_types.specs.declared.entries.Letter.{Letter}
-use Rattle.letter_types.specs.declared.votes.Vote.{Vote}
 use Rattle.letter_types.specs.Kept.{brought}
-use Rattle.letter_types.specs.Steps.{Out}
-use Rattle.tree_home.specs.declared.homes.Answered.{Answered}
 use Rattle.tx_trees.specs.ScriptData.{ScriptData}
-use Rattle.tx_trees.specs.declared.parts.TreeKind.{TreeKind}
-use Rattle.tx_trees.specs.declared.parts.TreeKind.TheVariants.{Update, Read, Strict}
-use Rattle.world_model.specs.Asked.{asked_ops, asked_version, tree_part}
-use Rattle.world_model.specs.Core.{Core}
-use Rattle.world_model.specs.Done.{TreeOut, note_part}
 use Rattle.world_model.specs.Keeping.{KeepingNode, brought_row, is_apt_at, kept_row}
-use Rattle.world_model.specs.Named.{is_strict_at, tree_kind_at}
-use Rattle.world_model.specs.Notices.{values_of}
 use Rattle.world_model.specs.Runs.{keeping_in}
-use Rattle.world_model.specs.Strict.{CoreKeeping, answered, core_by_kind, core_keeping, core_row, decided, is_core_apt, locks_by, note_core, noted_vote, refused_there, strict_core, voting}
-use Rattle.world_model.specs.Votes.{vote_of}
+use Rattle.world_model.specs.Strict.{CoreKeeping, core_keeping, is_core_apt}
 use Rattle.world_model.proofs.EachOutstanding.{EachKept, each_brought}
 use Rattle.world_model.proofs.Every.{each_map}
-use Rattle.world_model.proofs.KeptThere.{IsCoreKeeping, OfKeeping, core_keeps}
-use Rattle.world_model.proofs.Outstanding.{keeping_here}
-use Rattle.phase_laws.proofs.Brought.{IsAsking, kept_ask}
+use Rattle.phase_laws.proofs.Brought.{kept_ask}
 
 -- neither an order nor a question
 abbrev pub IsOfNoEpoch : Body → Type 0
@@ -37,66 +19,11 @@ IsOfNoEpoch (Order e what v) = ⊥
 IsOfNoEpoch (Ask e) = ⊥
 IsOfNoEpoch _ = Unit {0}
 
-asks_of_none : (body : Body) → IsAsking body → IsOfNoEpoch body
-asks_of_none (Root t) asks = tt
-asks_of_none (SubLetter t k v) asks = tt
-asks_of_none _ asks = absurd asks
-
--- The row of such a letter.
-abbrev Stays : Core → Out Core → Type 0
-Stays c out = out.state.epoch ≡ c.epoch
-
-decided_stays : (s : ScriptData) (c d : Core) (o : TreeOut) (found : Option Answered) → d.epoch ≡ c.epoch
-    → Stays c (decided s d o found)
-decided_stays s c d o None same = same
-decided_stays s c d o (Some a) same = same
-
-strict_stays : (s : ScriptData) (p from : ℕ) (t : TreeNo) (body : Body) (c : Core) → Stays c (strict_core s p from t body c)
-strict_stays s p from t body c =
-    let v : Version = asked_version c.node.turns.update body in
-    let vote : Vote = vote_of c.locks c.node.items t v (asked_ops s body) in
-    let o : TreeOut = tree_part s p from v (nat_lt c.node.turns.update.0 v.0) (voting vote c.node.items) body c.node in
-    let noted : Core =
-    record c { locks = locks_by vote t (asked_ops s body) c.locks; refusals = noted_vote body vote c.refusals } in
-    decided_stays s c noted o o.answered refl
-
-kind_stays : (s : ScriptData) (p from : ℕ) (t : TreeNo) (body : Body) (kind : Option TreeKind) (c : Core)
-    → Stays c (core_by_kind s p from t body kind c)
-kind_stays s p from t body (Some Update) c = refl
-kind_stays s p from t body (Some Read) c = refl
-kind_stays s p from t body (Some Strict) c = strict_stays s p from t body c
-kind_stays s p from t body None c = refl
-
-pick : (c : Core) (test : Bool) (x y : Out Core) → Stays c x → Stays c y → Stays c (if test then x else y)
-pick c true x y left right = left
-pick c false x y left right = right
-
-note_stays : (s : ScriptData) (from : ℕ) (t : TreeNo) (k : SubNo) (v : Version) (notice : Notice) (c : Core)
-    → Stays c (note_core s from t k v notice c)
-note_stays s from t k v notice c =
-    let o : TreeOut = note_part from t.0 k.0 v.0 (values_of notice) c.node in
-    let noted : Core = record c { refusals = refused_there t k notice c } in
-    pick c (is_strict_at s t.0) (decided s noted o o.answered) (answered s c o) (decided_stays s c noted o o.answered refl) refl
-
-row_stays : (s : ScriptData) (p from : ℕ) (body : Body) (c : Core) → IsOfNoEpoch body → Stays c (core_row s p c from body)
-row_stays s p from (Root t) c none = kind_stays s p from t (Root t) (tree_kind_at s t.0) c
-row_stays s p from (SubLetter t k v) c none = kind_stays s p from t (SubLetter t k v) (tree_kind_at s t.0) c
-row_stays s p from (Done t k v notice) c none = note_stays s from t k v notice c
-row_stays s p from (Decide t v commit) c none = refl
-row_stays s p from (Decided t v) c none = refl
-row_stays s p from (Release t) c none = refl
-row_stays s p from (Order e what v) c none = absurd none
-row_stays s p from (Ask e) c none = absurd none
-row_stays s p from _ c none = refl
-
 -- A letter that is brought, which may be kept.
 kept_stays : (s : ScriptData) (p : ℕ) (l r : Letter) (n : KeepingNode) (o : Option CoreKeeping)
     → core_keeping s n.core r.body ≡ o
     → IsOfNoEpoch r.body → (kept_row s p l r n o).state.core.epoch ≡ n.core.epoch
-kept_stays s p l r n None is none = row_stays s p r.from.0 r.body n.core none
-kept_stays s p l r n (Some k) is none =
-    let keeps : IsCoreKeeping n.core r.body k = subst (OfKeeping (IsCoreKeeping n.core r.body)) is (core_keeps s n.core r.body) in
-    ap (λ (c : Core). c.epoch) keeps.turns_alone
+kept_stays s p l r n o is none = grind arith
 
 apt_stays : (s : ScriptData) (p : ℕ) (l r : Letter) (n : KeepingNode) (test : Bool) → is_apt_at s p n r ≡ test
     → IsOfNoEpoch r.body
@@ -114,9 +41,4 @@ brought_stays s p l n (Some r) is kept none =
 -- so is an entry
 pub epoch_stays : (s : ScriptData) (past : List Entry) (e : Entry) (p : ℕ) → e.actor.0 ≡ p → IsOfNoEpoch e.took.body
     → (keeping_in s (e ∷ past) p).core.epoch ≡ (keeping_in s past p).core.epoch
-epoch_stays s past e p at none =
-    let n : KeepingNode = keeping_in s past p in
-    ap (λ (m : KeepingNode). m.core.epoch) (keeping_here s past e p at)
-    ∙ brought_stays s p e.took n (brought n.kept e.took e.took.body) refl
-    (each_map (λ (r : Letter). IsAsking r.body) (λ (r : Letter). IsOfNoEpoch r.body) _ (λ r asks. asks_of_none r.body asks) (kept_ask s past p))
-    none
+epoch_stays s past e p at none = grind (arith, brought_stays, each_map, kept_ask)

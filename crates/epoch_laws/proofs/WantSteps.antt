@@ -1,14 +1,12 @@
 -- What each step of a coordinator that forgets makes of the number of advancements that it wants.
-use Rattle.std.proofs.Common.{◌≡◌, ◌⊎◌, inl, inr, ℕ, ◌≤◌, Bool, true, false, [], refl, sym, ap, subst, ◌∙◌, arith, Some}
+use Rattle.std.proofs.Common.{◌≡◌, ◌⊎◌, inl, inr, ℕ, ◌≤◌, Bool, true, false, [], refl, sym, ap, subst, arith, Some}
 use Rattle.std.specs.Prelude.{max, nat_le}
-use Rattle.std.proofs.Math.Nat.{le-max_left, le-max_right}
-use Rattle.std.proofs.lemmas.Bool.Decides.{nat_tests}
+use Rattle.std.proofs.Math.Nat.{le-max_left}
 use Rattle.tv_base.specs.Outside.{one_more}
 use Rattle.phase_out.specs.Counts.{nudged}
 use Rattle.letter_types.specs.declared.bodies.Body.{Body}
 use Rattle.letter_types.specs.declared.bodies.Body.TheVariants.{Go, AdvanceNo, Wanted}
 use Rattle.letter_types.specs.declared.bodies.What.{What}
-use Rattle.letter_types.specs.declared.bodies.What.TheVariants.{Turn as ToTurn, Show as ToShow, Sweep as ToSweep}
 use Rattle.letter_types.specs.Steps.{Out, still}
 use Rattle.world_model.specs.Counts.{one_if}
 use Rattle.world_model.specs.Restarting.{Restarting, after_doing, begin_counting, end_counting, enter, forget, in_restart_phase, next_advance, resume, with_wanted}
@@ -32,13 +30,10 @@ Covers e a _ = Unit {0}
 
 -- Tests of numbers.
 pub most_rises : (a w v : ℕ) → w ≤ v → one_if (nat_le a w) ≤ one_if (nat_le a v)
-most_rises a w v le = grind (arith, nat_tests)
+most_rises a w v le = grind arith
 
 pub one_most : (a : ℕ) → one_if (nat_le a a) ≡ 1
-one_most a = grind (arith, nat_tests)
-
-pub some_most : (a w : ℕ) → 1 ≤ one_if (nat_le a w) → a ≤ w
-some_most a w some = grind (arith, nat_tests)
+one_most a = grind arith
 
 -- It wants no fewer, and as many as it is asked for, unless it forgets.
 pub record WantsMore (a : ℕ) (c : Restarting) (body : Body) (d : Restarting) : Type 0 where
@@ -57,25 +52,11 @@ same_more a c body out next is none le =
 
 asked_more : (a i : ℕ) (c : Restarting) (body : Body) (out next : Out Restarting) → out ≡ next → body ≡ AdvanceNo i
     → next.state.wanted ≡ max c.wanted i → WantsMore a c body out.state
-asked_more a i c body out next is bd same =
-    subst (λ (o : Out Restarting). WantsMore a c body o.state) (sym is) (record {
-      letter =
-          omega (
-            arith,
-            ap (asks_for a) bd,
-            most_rises a i (max c.wanted i) (le-max_right c.wanted i),
-            ap
-                (λ (n : ℕ). one_if (nat_le a n)) same,
-          );
-      before =
-          omega (arith, most_rises a c.wanted (max c.wanted i) (le-max_left c.wanted i), ap (λ (n : ℕ). one_if (nat_le a n)) same);
-    })
+asked_more a i c body out next is bd same = grind arith
 
 left_asks : (a : ℕ) (body : Body) (phase : RestartPhase) (from : ℕ) (c : Restarting) → IsLeft body phase from c
     → asks_for a body ≡ 0
-left_asks a (AdvanceNo i) phase from c left = absurd left
-left_asks a Go phase from c left = refl
-left_asks a _ phase from c left = refl
+left_asks a body phase from c left = grind arith
 
 hears_none : (a : ℕ) (c d : Restarting) (from : ℕ) (body : Body) → HearsMore c from body d
     → (asks_for a body ≡ 0) × (c.wanted ≡ d.wanted)
@@ -89,9 +70,7 @@ recovers_more a c d body out none same (HasHeard k told heard is) =
     same_more a c body out (resume k d) is none (omega (arith, same, le-max_left d.wanted k))
 
 done_wanted : (what : What) (c : Restarting) → (after_doing what c).state.wanted ≡ c.wanted
-done_wanted ToTurn c = refl
-done_wanted ToShow c = refl
-done_wanted ToSweep c = refl
+done_wanted what c = grind arith
 
 ends_wanted : (reads : Bool) (c : Restarting) → (end_counting reads c).state.wanted ≡ c.wanted
 ends_wanted true c = refl
@@ -134,12 +113,7 @@ wants_more a c from body out (Pauses reads v k row takes verdict flag is) =
 -- While it recovers, it waits on for what covers all, or resumes with that.
 pub heard_covers : (a : ℕ) (c d : Restarting) (from : ℕ) (body : Body) → HearsMore c from body d → Covers c.epoch a body
     → ((k : ℕ) → c.heard ≡ Some k → a ≤ k) → (k : ℕ) → d.heard ≡ Some k → a ≤ k
-heard_covers a c d from body (OfNode u r l bd lt is) covers was = λ k at. was k (sym (ap (λ (x : Restarting). x.heard) is) ∙ at)
-heard_covers a c d from body (OfClient j bd it is) covers was = λ k at.
-    let told : a ≤ j = subst (Covers c.epoch a) bd covers refl in
-    let same : Some j ≡ Some k = sym (ap (λ (x : Restarting). x.heard) is) ∙ at in
-    let here : j ≡ k = cc same in
-    omega (arith, told, here)
+heard_covers a c d from body k covers was = grind arith
 
 pub more_waits : (c d : Restarting) (from : ℕ) (body : Body) → HearsMore c from body d
     → (d.phase ≡ c.phase) × (d.epoch ≡ c.epoch)

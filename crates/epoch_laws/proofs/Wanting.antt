@@ -8,7 +8,7 @@ use Rattle.std.proofs.lemmas.Bool.{cases_eq}
 use Rattle.std.proofs.lemmas.Bool.Decides.{nat_tests}
 use Rattle.tv_base.specs.Outside.{one_more}
 use Rattle.letter_types.specs.declared.bodies.Body.{Body}
-use Rattle.letter_types.specs.declared.bodies.Body.TheVariants.{Go, AdvanceNo, Wanted}
+use Rattle.letter_types.specs.declared.bodies.Body.TheVariants.{AdvanceNo}
 use Rattle.letter_types.specs.declared.entries.Entry.{Entry}
 use Rattle.letter_types.specs.declared.entries.Letter.{Letter}
 use Rattle.letter_types.specs.declared.entries.LetterId.{LetterId}
@@ -22,13 +22,12 @@ use Rattle.tx_trees.proofs.Rebuilding.{advances_in-append}
 use Rattle.world_model.specs.AllApt.{AllApt}
 use Rattle.world_model.specs.Client.{Client, advances_sent, rows_letters, submit, submitted}
 use Rattle.world_model.specs.Counts.{Each, one_if, tally}
-use Rattle.world_model.specs.Node.{Node}
 use Rattle.world_model.specs.Restarting.{Restarting, forget, restarting_row, with_wanted}
-use Rattle.world_model.specs.Runs.{IsStepRun, MayFollow, client_in, in_flight, node_in, restarting_in}
+use Rattle.world_model.specs.Runs.{IsStepRun, MayFollow, in_flight, restarting_in}
 use Rattle.world_model.specs.declared.restarting.RestartPhase.TheVariants.{Recovering}
 use Rattle.world_model.proofs.Bags.{tally-append}
 use Rattle.world_model.proofs.Every.{each_map, each_step, each_taken}
-use Rattle.world_model.proofs.Flows.{client_kept, flow}
+use Rattle.world_model.proofs.Flows.{flow}
 use Rattle.world_model.proofs.Nexts.{MadeByClient}
 use Rattle.world_model.proofs.Orders.{of}
 use Rattle.world_model.proofs.Restarts.{OfRestarts, restarting_each}
@@ -40,25 +39,24 @@ use Rattle.phase_laws.specs.Phases.{count_in_flight}
 use Rattle.phase_laws.proofs.Lawful.{IsTreeLawful}
 use Rattle.phase_laws.proofs.Outcomes.{one_more_is}
 use Rattle.phase_laws.proofs.Progress.{MadeByRestarting, course, restarts}
-use Rattle.phase_laws.proofs.Working.{SentIn}
-use Rattle.epoch_laws.proofs.Aside.{Answered, Aside, Asks, Bare, Counts, Heeds, IsBare, IsSentBy, IsTold, Numbered, OfTree, Submits, Tells, Works, aside, sends_aside}
+use Rattle.epoch_laws.proofs.Aside.{Aside, IsSentBy, IsTold, aside, sends_aside}
 use Rattle.epoch_laws.proofs.AtCoordinator.{asked_stays}
 use Rattle.epoch_laws.proofs.Away.{restarting_kept}
 use Rattle.epoch_laws.proofs.Few.{IsFew, few}
 use Rattle.epoch_laws.proofs.Forgetting.{good_run}
-use Rattle.epoch_laws.proofs.Good.{IsGood, IsRight}
+use Rattle.epoch_laws.proofs.Good.{IsGood, IsLetterRight, IsRight, Knows}
 use Rattle.epoch_laws.proofs.Recovers.{still_covered}
 use Rattle.epoch_laws.proofs.RecoverSteps.{HasHeard, Misses, Recovery, recovery}
-use Rattle.epoch_laws.proofs.WantSteps.{Covers, WantsMore, asks_for, heard_covers, more_waits, one_most, some_most, wants_more}
+use Rattle.epoch_laws.proofs.WantSteps.{Covers, WantsMore, asks_for, heard_covers, more_waits, one_most, wants_more}
 use Rattle.epoch_laws.proofs.RestartSteps.{HearsMore, RestartStep, restart_step}
 use Rattle.epoch_laws.proofs.RestartSteps.{Acks, Agrees, Ends, Flags, Forgets, Goes, KeepsAsked, KeepsDone, Pauses, Recounts, Recovers, Rests, Resumes, Wants}
 
-pub record WillHear (s : ScriptData) (past : List Entry) (a : ℕ) (c : Restarting) : Type 0 where
-  pub waits : c.phase ≡ Recovering
-  pub letters : Each (λ (l : Letter). Covers c.epoch a l.body) (in_flight s past)
-  pub heard : (k : ℕ) → c.heard ≡ Some k → a ≤ k
+record WillHear (s : ScriptData) (past : List Entry) (a : ℕ) (c : Restarting) : Type 0 where
+  waits : c.phase ≡ Recovering
+  letters : Each (λ (l : Letter). Covers c.epoch a l.body) (in_flight s past)
+  heard : (k : ℕ) → c.heard ≡ Some k → a ≤ k
 
-abbrev pub WantsAll : ScriptData → List Entry → ℕ → Restarting → Type 0
+abbrev WantsAll : ScriptData → List Entry → ℕ → Restarting → Type 0
 WantsAll s past a c = (1 ≤ count_in_flight (asks_for a) s past + one_if (nat_le a c.wanted)) ⊎ WillHear s past a c
 
 -- 1. Rows that are submitted: where they ask for advancements, their letters ask for all up to then.
@@ -118,43 +116,17 @@ submits_asks s past e c first loses told made = by (advances_in rest) refl where
         last_asks s (advances_sent s c) a rest loses after (omega (arith, more)),
       ))
 
-same_asked : (s : ScriptData) (past : List Entry) (e : Entry) → client_in s (e ∷ past) ≡ client_in s past
-    → asked_for s (e ∷ past) ≡ asked_for s past
-same_asked s past e same = ap (λ (c : Client). advances_in (take c.next s.rows)) same
-
 asks_more : (s : ScriptData) (past : List Entry) (e : Entry) → is_lossy s ≡ true → Aside s past e
     → (asked_for s (e ∷ past) ≡ asked_for s past) ⊎ (1 ≤ tally (on (asks_for (asked_for s (e ∷ past)))) e.sent)
-asks_more s past e loses (Submits c first at told bare made) = submits_asks s past e c first loses told made
-asks_more s past e loses (Tells n at bd made) = inl (same_asked s past e made.state)
-asks_more s past e loses (Works p r work) =
-    inl (same_asked s past e (client_kept s past e (λ is. omega (arith, is, work.brings.at, work.brings.below))))
-asks_more s past e loses (Counts p count) =
-    inl (same_asked s past e (client_kept s past e (λ is. omega (arith, is, count.at, count.below))))
-asks_more s past e loses (Heeds p at lt heed) =
-    inl (same_asked s past e (client_kept s past e (λ is. omega (arith, is, at, lt))))
+asks_more s past e loses is = grind (arith, submits_asks)
 
 -- 2. Entries of the client and of nodes: none takes a letter that asks for advancements.
 asks_away : (s : ScriptData) (a from to : ℕ) (body : Body) → IsMeant s from to body → to ≢ s.nodes → asks_for a body ≡ 0
-asks_away s a from to (AdvanceNo i) meant away = absurd (away meant.0)
-asks_away s a from to Go meant away = refl
-asks_away s a from to _ meant away = refl
-
-bare_covers : (e a : ℕ) (body : Body) → IsBare body → Covers e a body
-bare_covers e a (Wanted d k) bare = absurd bare
-bare_covers e a _ bare = tt
-
-tree_covers : (e a : ℕ) (s : ScriptData) (st : Node) (does body : Body) → SentIn s st does body → Covers e a body
-tree_covers e a s st does (Wanted d k) sent = absurd sent
-tree_covers e a s st does _ sent = tt
+asks_away s a from to body meant away = grind arith
 
 sent_covers : (s : ScriptData) (past : List Entry) (e : Entry) (epoch : ℕ) (body : Body) → IsSentBy s past e body
     → Covers epoch (asked_for s past) body
-sent_covers s past e epoch body (Bare bare) = bare_covers epoch (asked_for s past) body bare
-sent_covers s past e epoch body (OfTree p r work sent) =
-    tree_covers epoch (asked_for s past) s (node_in s past p) r.body body sent
-sent_covers s past e epoch body (Asks n bd is) = subst (Covers epoch (asked_for s past)) (sym is) (λ now. omega arith)
-sent_covers s past e epoch body (Numbered p n at lt bd same is) = subst (Covers epoch (asked_for s past)) (sym is) tt
-sent_covers s past e epoch body (Answered n what v bd is) = subst (Covers epoch (asked_for s past)) (sym is) tt
+sent_covers s past e epoch body is = grind arith
 
 will_hear_aside : (s : ScriptData) (past : List Entry) (e : Entry) (c : Restarting) → Aside s past e
     → WillHear s past (asked_for s past) c
@@ -218,9 +190,7 @@ letters_cover s past e epoch a made was =
 
 new_covers : (s : ScriptData) (past : List Entry) (epoch a from to : ℕ) (body : Body) → (restarting_in s past).epoch < epoch
     → IsRight s past from to body → Covers epoch a body
-new_covers s past epoch a from to (Wanted d k) less right = λ now. absurd (omega (arith, now, less, right.epoch))
-new_covers s past epoch a from to Go less right = tt
-new_covers s past epoch a from to _ less right = tt
+new_covers s past epoch a from to body less right = grind arith
 
 -- it forgets: nothing was told in the new epoch
 will_hear_anew : (s : ScriptData) (past : List Entry) (e : Entry) (a : ℕ) → IsGood s past → IsFew s past
@@ -232,8 +202,7 @@ will_hear_anew s past e a good few made =
     record {
       waits = refl;
       letters = letters_cover s past e (one_more c.epoch) a made
-          (each_map (λ (l : Letter). IsRight s past l.from.0 l.to.0 l.body) (λ (l : Letter). Covers (one_more c.epoch) a l.body)
-          (in_flight s past)
+          (each_map (IsLetterRight s past) (λ (l : Letter). Covers (one_more c.epoch) a l.body) (in_flight s past)
           (λ l right. new_covers s past (one_more c.epoch) a l.from.0 l.to.0 l.body (omega (arith, more)) right)
           good.letters);
       heard = λ k at. absurd (cc at);
@@ -327,7 +296,7 @@ coordinator_wants s past e good few made m at was =
     (wants_more (asked_for s past) c e.took.from.0 e.took.body out step)))
 
 -- In every run.
-pub wants_in : (s : ScriptData) (past : List Entry) → IsTreeLawful s → is_lossy s ≡ true → IsStepRun s past → AllApt s past
+wants_in : (s : ScriptData) (past : List Entry) → IsTreeLawful s → is_lossy s ≡ true → IsStepRun s past → AllApt s past
     → WantsAll s past (asked_for s past) (restarting_in s past)
 wants_in s [] laws loses run apt = inl (omega arith)
 wants_in s (e ∷ past) laws loses run apt = by (cases_eq e.actor.0 s.nodes) (wants_in s past laws loses run.1 apt.1) where
@@ -340,15 +309,11 @@ wants_in s (e ∷ past) laws loses run apt = by (cases_eq e.actor.0 s.nodes) (wa
       aside_wants s past e laws loses run away (aside s past e laws.valid loses run away (course s past e laws apt run)) was
 
 -- So where no letter is in flight a coordinator that doesn't recover wants all.
-all_by : (s : ScriptData) (past : List Entry) (a : ℕ) (c : Restarting) → in_flight s past ≡ [] → (c.phase ≡ Recovering → ⊥)
+all_by : (s : ScriptData) (past : List Entry) (a : ℕ) (c : Restarting) → in_flight s past ≡ [] → Knows c.phase
     → WantsAll s past a c → a ≤ c.wanted
-all_by s past a c empty knows (inl some) =
-    let none : count_in_flight (asks_for a) s past ≡ 0 =
-    ap (λ (ls : List Letter). tally (λ (l : Letter). asks_for a l.body) ls) empty in
-    some_most a c.wanted (omega (arith, some, none))
-all_by s past a c empty knows (inr will) = absurd (knows will.waits)
+all_by s past a c empty knows is = grind arith
 
 pub all_wanted : (s : ScriptData) (past : List Entry) → IsTreeLawful s → is_lossy s ≡ true → IsStepRun s past → AllApt s past
-    → in_flight s past ≡ [] → ((restarting_in s past).phase ≡ Recovering → ⊥) → asked_for s past ≤ (restarting_in s past).wanted
+    → in_flight s past ≡ [] → Knows (restarting_in s past).phase → asked_for s past ≤ (restarting_in s past).wanted
 all_wanted s past laws loses run apt empty knows =
     all_by s past (asked_for s past) (restarting_in s past) empty knows (wants_in s past laws loses run apt)

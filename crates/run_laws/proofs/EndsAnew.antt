@@ -27,9 +27,8 @@ use Rattle.epoch_laws.proofs.Ending.{all_heard}
 use Rattle.epoch_laws.proofs.Exact.{exact_in}
 use Rattle.epoch_laws.proofs.ExactAside.{current_now, near_now}
 use Rattle.epoch_laws.proofs.ExactSteps.{AreExact}
-use Rattle.epoch_laws.proofs.Few.{few}
 use Rattle.epoch_laws.proofs.Forgetting.{good_run}
-use Rattle.epoch_laws.proofs.Good.{IsGood, IsInPhase, IsSteady as IsSteadyIn, token, turns_in}
+use Rattle.epoch_laws.proofs.Good.{IsGood, in_phase, low_turned, read_turned, token, turns_in}
 use Rattle.epoch_laws.proofs.Orderly.{orderly_in}
 use Rattle.epoch_laws.proofs.Recovers.{never_waits}
 use Rattle.epoch_laws.proofs.RestartCounts.{IsNewCount, counting_is, pace_of, restart_count, restarting_counts, versioned}
@@ -40,10 +39,6 @@ use Rattle.run_laws.proofs.Pauses.{IsSteady}
 use Rattle.run_laws.proofs.RoundsOver.{no_round}
 
 -- While the coordinator counts, nodes heed no order, and none has left the version counted.
-steady_in : (s : ScriptData) (past : List Entry) (phase : RestartPhase) → IsGood s past → (restarting_in s past).phase ≡ phase
-    → IsInPhase s past phase
-steady_in s past phase good at = subst (λ (p : RestartPhase). IsInPhase s past p) at good.phased
-
 heed_counts : (s : ScriptData) (past : List Entry) (e : Entry) (reads : Bool) (p : ℕ) → IsGood s past → IsStepRun s (e ∷ past)
     → (restarting_in s past).phase ≡ Counting reads → p < s.nodes
     → Heed s (keeping_in s past p).core (keeping_in s (e ∷ past) p).core e.took.body e.sent
@@ -52,7 +47,7 @@ heed_counts s past e reads p good run at lt (Leaves n of late same none) = ap (�
 heed_counts s past e reads p good run at lt (Answers n bd new same is) = ap (λ (x : Core). x.node.counts) same
 heed_counts s past e reads p good run at lt (Repeats n what v bd new was same is) = ap (λ (x : Core). x.node.counts) same
 heed_counts s past e reads p good run at lt (Obeys n what v more bd new less epoch turns is woken) =
-    let steady : IsSteadyIn s past (Counting reads) = steady_in s past (Counting reads) good at in
+    let steady = in_phase s past (Counting reads) good at in
     let now = current_now s past e p n what v good run.0 bd (steady.level p lt).since new in
     let clash : Counting reads ≡ Doing what = sym at ∙ now.phase in
     absurd (cc clash)
@@ -71,7 +66,7 @@ low_most s past reads p valid loses run apt at lt =
     let exact : AreExact s.nodes (Counting reads) c.ended c.told (turns_in s past) =
     subst (λ (phase : RestartPhase). AreExact s.nodes phase c.ended c.told (turns_in s past)) at
     (exact_in s past laws loses run apt).nodes in
-    let near = near_now s past laws (few s past laws loses run apt) (good_run s past laws loses run apt)
+    let near = near_now s past valid (good_run s past laws loses run apt)
     (λ waits. (let clash : Counting reads ≡ Recovering = sym at ∙ waits in cc clash)) in
     let version : c.count.current.version.0 ≡ (version_counted reads c).0 =
     ap (λ (v : Version). v.0) (versioned s past reads at) in
@@ -104,7 +99,7 @@ not_doing : (s : ScriptData) (past : List Entry) (what : What) → IsValid s →
     → (restarting_in s past).phase ≡ Doing what → ⊥
 not_doing s past what valid good empty at =
     let e = (restarting_in s past).epoch in
-    let steady : IsSteadyIn s past (Doing what) = steady_in s past (Doing what) good at in
+    let steady = in_phase s past (Doing what) good at in
     let none : going (token e) s past ≡ 0 =
     ap (λ (ls : List Letter). tally (λ (l : Letter). token e l.from.0 l.to.0 l.body) ls) empty in
     omega (arith, steady.tokens, none, (orderly_in s past valid.some_nodes).acks)
@@ -130,7 +125,7 @@ pub above_anew : (s : ScriptData) (past : List Entry) → IsValid s → is_lossy
 above_anew s past valid loses run empty p lt =
     let idle = idle_anew s past valid loses run empty in
     let good = good_run s past (tree_lawful s valid) loses run (all_apt s past valid run) in
-    let steady : IsSteadyIn s past Idle = steady_in s past Idle good idle in
+    let steady = in_phase s past Idle good idle in
     let level = steady.level p lt in
     let within = good.within p lt in
     omega (
@@ -139,8 +134,7 @@ above_anew s past valid loses run empty p lt =
       level.update,
       steady.up_to.asked,
       (orderly_in s past valid.some_nodes).idle idle,
-      within.read_showed,
-      within.showed_update,
+      read_turned past (node_in s past p).turns within,
       within.update_turned,
     )
 
@@ -154,17 +148,12 @@ ended_anew s past valid loses run empty =
     let knows : (restarting_in s past).phase ≡ Recovering → ⊥ =
     λ waits. (let clash : Idle ≡ Recovering = sym idle ∙ waits in cc clash) in
     let some : 0 < s.nodes = omega (arith, valid.some_nodes) in
-    let within = good.within 0 some in
     omega (
       arith,
       all_wanted s past laws loses run apt empty knows,
       (orderly_in s past valid.some_nodes).idle idle,
       all_heard s past laws loses run apt empty knows,
       good.heard 0 some,
-      within.low_swept,
-      within.swept_read,
-      within.read_showed,
-      within.showed_update,
-      within.update_turned,
+      low_turned past (node_in s past 0).turns (good.within 0 some),
       good.asked,
     )
