@@ -77,6 +77,9 @@ fn call<R: Threads + Wait + Sync>(
     line: &[&str],
     ends: Ends<'_>,
 ) -> Result<Seen, Fail> {
+    if ends.source_most == 0 || ends.out_most == 0 {
+        return Err("no byte a call".into());
+    }
     let words = words_of(alloc, line)?;
     let mut source = MemSource::new(
         ends.script.as_bytes().to_vec(alloc)?,

@@ -26,9 +26,6 @@ const ENTRIES_TEXT: &str = "3\n0 born 0 1 did 0 0\n1 did 0 1\n0\n3 finished\n2\n
 // How many entries these are.
 const ENTRIES: u64 = 6;
 
-// How often a history is asked for, at most.
-const TIMES: u32 = 3;
-
 // How often a thread looks into its bag, at most.
 const TURNS: u32 = 0x400_0000;
 
@@ -162,20 +159,15 @@ fn keep_all<K: ClusterName>(
     Some(())
 }
 
-// The history. Where memory is wanting it is asked for again.
+// The history. Where memory is wanting it is asked for once more.
 fn finish<K: ClusterName>(cluster: Cluster<'_, K, NoGate>, receipts: Receipts) -> Option<History>
     requires { All (λ r. r.post ≡ K.post) receipts }
 {
-    let mut asked = (cluster, receipts);
-    for _time in 0..TIMES {
-        let (cluster, receipts) = asked;
-        match cluster.finish(receipts) {
-            Ok(history) => return Some(history),
-            Err((RunStop::NoMemory, cluster, receipts)) => asked = (cluster, receipts),
-            Err(_) => return None,
-        }
+    match cluster.finish(receipts) {
+        Ok(history) => Some(history),
+        Err((RunStop::NoMemory, cluster, receipts)) => cluster.finish(receipts).ok(),
+        Err(_) => None,
     }
-    None
 }
 
 // The history, and what was told of its deliveries. Each thread delivers every other letter.
