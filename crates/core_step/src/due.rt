@@ -122,17 +122,12 @@ fn answer_noted(
         ≡ answer_noted request.tree request.sub (values_of notice.now) (open_trees homes.now)) }
 {
     let Request { tree, sub, .. } = request;
-    if !homes.misses(tree, sub) {
-        return Ok(None);
-    }
-    match notice {
-        Notice::Did(values) => homes.would_answer(tree, sub, values),
-        Notice::Yes(values) => homes.would_answer(tree, sub, values),
-        Notice::No(_) => {
-            let none = Values::new(alloc);
-            homes.would_answer(tree, sub, &none)
-        }
-    }
+    let found = match notice {
+        Notice::Did(values) => homes.would_answer(tree, sub, values)?,
+        Notice::Yes(values) => homes.would_answer(tree, sub, values)?,
+        Notice::No(_) => homes.would_answer(tree, sub, &Values::new(alloc))?,
+    };
+    Ok(found.flatten())
 }
 
 /// Whether an answer, if there is one, is of a version that the node counts in.

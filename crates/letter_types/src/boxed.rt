@@ -20,6 +20,7 @@ impl<T> Model for Boxed<T> {
 
 impl<T: Drop> Boxed<T> {
     /// The value behind a pointer.
+    #[inline(always)]
     pub fn new(alloc: Global, value: T) -> Result<Boxed<T>, NoMemory>
         ensures { IfOk result (λ b. b ≡ value) }
     {

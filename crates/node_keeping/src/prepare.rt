@@ -142,6 +142,7 @@ fn copy_body(alloc: Global, body: &Body) -> Result<Boxed<Body>, NoMemory>
 
 /// Prepares that a letter is done, and that what it wakes is called: behind its other letters the node sends a Wake for
 /// each.
+#[inline(always)]
 fn prepare_waking(
     alloc: Global,
     node: &KeepingParts,

@@ -6,17 +6,17 @@ ghost use Rattle.letter_types.specs.declared.entries.Outgoing.{Outgoing};
 ghost use Rattle.phase_laws.specs.Given.{IsGivenAnew};
 ghost use Rattle.phase_laws.specs.Quiet.{IsGivenInQuiet};
 ghost use Rattle.run_laws.specs.Shown.{IsBackedBy, IsClosedBy};
+ghost use Rattle.script_parts.specs.Counts.{is_lossy};
 ghost use Rattle.tx_trees.specs.ScriptData.{ScriptData};
 ghost use Rattle.tx_trees.specs.Valid.{IsValid};
-ghost use Rattle.script_parts.specs.Counts.{is_lossy};
 ghost use Rattle.world_model.specs.Counts.{Each};
 ghost use Rattle.world_model.specs.Runs.{IsStepRun, in_flight};
 
-/// A version that nodes are told to show is no later than one that they were told to show before, or it is the next one:
-/// then nothing counted of it is outstanding and every node updates above it. A version that they are told to sweep to is
-/// no later than one that they were told to sweep to before, or it is the next one: then nothing counted of the version
-/// before it is outstanding and every node reads it, or a later one. So it is of every script, also where the coordinator
-/// forgets and tells nodes again what they have done.
+/// A version that nodes are told to show is no later than the latest one so far, or it is the next one: then nothing
+/// counted of it is outstanding and every node updates above it. A version that they are told to sweep to is no later than
+/// the latest one so far, or it is the next one: then nothing counted of the version before it is outstanding and every
+/// node reads it, or a later one. Before nodes are told any, the latest one is version 0, which they begin with. So it is
+/// of every script, also where the coordinator forgets and tells nodes again what they have done.
 pub fn orders_are_given_before_or_in_quiet()
     ensures { (s : ScriptData) (past : List Entry) (e : Entry) → IsValid s → IsStepRun s (e ∷ past)
         → Each (λ (o : Outgoing). IsGivenAnew s past o.body) e.sent }

@@ -8,6 +8,9 @@ use commute_ops::{Kind, Op};
 use std::alloc::Global;
 use tv_base::{Name, NoMemory, NodeNo, Seq, SubNo};
 
+/// For so many subtransactions a tree has room from the beginning: most have no more.
+const FEW_SUBS: usize = 4;
+
 // Where the next operation goes.
 #[derive(Clone, Copy)]
 pub struct LastPlace {
@@ -100,7 +103,7 @@ pub fn empty_sub(alloc: Global, parent: SubNo, node: NodeNo) -> Sub
 pub fn rooted(alloc: Global, name: Name, kind: TreeKind, node: NodeNo) -> Result<Tree, NoMemory>
     ensures { IfOk result (λ t. t ≡ rooted name kind node) }
 {
-    let mut subs = Seq::new(alloc);
+    let mut subs = Seq::with_capacity(alloc, FEW_SUBS)?;
     subs.push(empty_sub(alloc, SubNo(0), node))?;
     Ok(Tree {
         name,

@@ -42,26 +42,31 @@ op_word_of word =
     else if bytes_eq word (codes "draw") then Some ops.Draw
     else None
 
--- a tree's word, or an operation's
-abbrev pub tree_or_op : Option TreeKind → Option OpWord → Option RowWord
-tree_or_op (Some kind) op = Some (words.Tree kind)
-tree_or_op None (Some op) = Some (words.Op op)
-tree_or_op None None = None
-
--- what a row is, by its first field
-abbrev pub word_of : List ℕ → Option RowWord
-word_of word =
+-- what a row is that stands once, or few times, in a script
+abbrev pub rare_word_of : List ℕ → Option RowWord
+rare_word_of word =
     if bytes_eq word (codes "threev") then Some words.Form
     else if bytes_eq word (codes "nodes") then Some words.Nodes
-    else if bytes_eq word (codes "item") then Some words.Item
-    else if bytes_eq word (codes "sub") then Some words.Sub
-    else if bytes_eq word (codes "get") then Some words.Get
     else if bytes_eq word (codes "advance") then Some words.Advance
     else if bytes_eq word (codes "settle") then Some words.Settle
     else if bytes_eq word (codes "pick") then Some words.Pick
     else if bytes_eq word (codes "lose") then Some words.Lose
     else if bytes_eq word (codes "fail") then Some words.Fail
-    else tree_or_op (tree_kind_of word) (op_word_of word)
+    else None
+
+-- an operation's word, a tree's, or another
+abbrev pub op_or_tree : Option OpWord → Option TreeKind → Option RowWord → Option RowWord
+op_or_tree (Some op) kind rare = Some (words.Op op)
+op_or_tree None (Some kind) rare = Some (words.Tree kind)
+op_or_tree None None rare = rare
+
+-- what a row is, by its first field
+abbrev pub word_of : List ℕ → Option RowWord
+word_of word =
+    if bytes_eq word (codes "sub") then Some words.Sub
+    else if bytes_eq word (codes "get") then Some words.Get
+    else if bytes_eq word (codes "item") then Some words.Item
+    else op_or_tree (op_word_of word) (tree_kind_of word) (rare_word_of word)
 
 -- the first record may name the second form, and isn't of it
 abbrev pub may_be_first : RowWord → Bool

@@ -1,7 +1,7 @@
 // The words that rows begin with, those of kinds, and names.
 ghost use Rattle.std.specs.Prelude.{◌≡◌, MatchOption, true, false};
 ghost use Rattle.tx_trees.specs.Names.{is_name};
-ghost use Rattle.script_reader.specs.Words.{first_word, kind_of, later_word, len_fits, may_be_first, may_follow, op_word_of, tree_kind_of, word_of};
+ghost use Rattle.script_reader.specs.Words.{first_word, kind_of, later_word, len_fits, may_be_first, may_follow, op_word_of, rare_word_of, tree_kind_of, word_of};
 
 use commute_ops::Kind;
 use tv_base::Name;
@@ -66,19 +66,14 @@ fn op_word_of(word: &[u8]) -> Option<OpWord>
     }
 }
 
-fn row_word(word: &[u8]) -> Option<RowWord>
-    ensures { result ≡ word_of word.now }
+// What a row is that stands once, or few times, in a script.
+fn rare_word(word: &[u8]) -> Option<RowWord>
+    ensures { result ≡ rare_word_of word.now }
 {
     if word == b"threev".as_slice() {
         Some(RowWord::Form)
     } else if word == b"nodes".as_slice() {
         Some(RowWord::Nodes)
-    } else if word == b"item".as_slice() {
-        Some(RowWord::Item)
-    } else if word == b"sub".as_slice() {
-        Some(RowWord::Sub)
-    } else if word == b"get".as_slice() {
-        Some(RowWord::Get)
     } else if word == b"advance".as_slice() {
         Some(RowWord::Advance)
     } else if word == b"settle".as_slice() {
@@ -89,10 +84,27 @@ fn row_word(word: &[u8]) -> Option<RowWord>
         Some(RowWord::Lose)
     } else if word == b"fail".as_slice() {
         Some(RowWord::Fail)
+    } else {
+        None
+    }
+}
+
+// What a row is, the words that most rows have first.
+fn row_word(word: &[u8]) -> Option<RowWord>
+    ensures { result ≡ word_of word.now }
+{
+    if word == b"sub".as_slice() {
+        Some(RowWord::Sub)
+    } else if word == b"get".as_slice() {
+        Some(RowWord::Get)
+    } else if word == b"item".as_slice() {
+        Some(RowWord::Item)
+    } else if let Some(op) = op_word_of(word) {
+        Some(RowWord::Op(op))
     } else if let Some(kind) = tree_kind_of(word) {
         Some(RowWord::Tree(kind))
     } else {
-        op_word_of(word).map(RowWord::Op)
+        rare_word(word)
     }
 }
 

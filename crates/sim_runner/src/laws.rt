@@ -2,10 +2,10 @@
 ghost use Rattle.std.specs.Prelude.{ℕ, ◌≡◌, false, reverse};
 ghost use Rattle.run_laws.specs.Balance.{IsBalanced};
 ghost use Rattle.sim_runner.specs.Worlds.{GaveAnew, GaveInQuiet};
+ghost use Rattle.tx_trees.specs.Counts.{is_lossy};
 ghost use Rattle.tx_trees.specs.ScriptData.{ScriptData};
 ghost use Rattle.tx_trees.specs.Valid.{IsValid};
 ghost use Rattle.world_core.specs.Actors.{IsWorldOf, TookLetter, WorldData};
-ghost use Rattle.tx_trees.specs.Counts.{is_lossy};
 
 /// In every world of a script, also where a step found no memory, the counters are balanced: what one node asked of
 /// another is what that one did for it and what is outstanding, in flight or kept.
@@ -14,9 +14,10 @@ pub fn worlds_are_balanced()
         → IsBalanced s (reverse w.history) }
 {}
 
-/// A version that the entry of a world's step tells nodes to show, or to sweep to, is no later than one that they were
-/// told before, or it is the next one, in quiet: to show v, nothing counted of v is outstanding and every node updates
-/// above v; to sweep to v, nothing counted of v - 1 is outstanding and every node reads v or a later version.
+/// A version that the entry of a world's step tells nodes to show, or to sweep to, is no later than the latest one so far
+/// (version 0 before there is one), or it is the next one, in quiet: to show v, nothing counted of v is outstanding and
+/// every node updates above v; to sweep to v, nothing counted of v - 1 is outstanding and every node reads v or a later
+/// version.
 pub fn worlds_give_before_or_in_quiet()
     ensures { (s : ScriptData) (k : ℕ) (old new : WorldData) → IsValid s → IsWorldOf s new
         → TookLetter k old new → GaveAnew s old new }

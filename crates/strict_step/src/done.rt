@@ -23,6 +23,7 @@ use tree_step::{NodeParts, Prepared, done};
 use tv_base::{NoMemory, NodeNo, TreeNo, Version};
 
 /// Locks are taken or go, or a no is put in or out. Where no memory is found all is as it was.
+#[inline(always)]
 fn change_votes(
     locks: &mut Locks,
     refusals: &mut Refusals,

@@ -4,7 +4,7 @@ ghost use Rattle.stamp_post.specs.Shown.{new_seats};
 
 use letter_types::{Act, Acts, Entry, History};
 use message_bag::Bag;
-use node_threads::{Cluster, ClusterName, Sent};
+use node_threads::{Cluster, ClusterName, RunStop, Sent};
 use script_reader::read_script;
 use stamp_post::{Envelope, Post, PostParts, Receipt, Receipts};
 use std::alloc::{AllocError, Global};
@@ -159,6 +159,17 @@ fn keep_all<K: ClusterName>(
     Some(())
 }
 
+// The history. Where memory is wanting it is asked for once more.
+fn finish<K: ClusterName>(cluster: Cluster<'_, K, NoGate>, receipts: Receipts) -> Option<History>
+    requires { All (λ r. r.post ≡ K.post) receipts }
+{
+    match cluster.finish(receipts) {
+        Ok(history) => Some(history),
+        Err((RunStop::NoMemory, cluster, receipts)) => cluster.finish(receipts).ok(),
+        Err(_) => None,
+    }
+}
+
 // The history, and what was told of its deliveries. Each thread delivers every other letter.
 fn ran<K: ClusterName + Send + Sync, R: Threads + Wait + Sync>(
     rt: &R,
@@ -181,10 +192,8 @@ fn ran<K: ClusterName + Send + Sync, R: Threads + Wait + Sync>(
     let mut told = Vec::new(alloc);
     keep_all::<K>(&mut receipts, &mut told, by_one).ok_or("memory")?;
     keep_all::<K>(&mut receipts, &mut told, by_other).ok_or("memory")?;
-    match cluster.finish(receipts) {
-        Ok(history) => Ok((history, told)),
-        Err(_) => Err("no history".into()),
-    }
+    let history = finish(cluster, receipts).ok_or("no history")?;
+    Ok((history, told))
 }
 
 fn act_text(alloc: Global, act: &Act) -> Result<String, AllocError> {

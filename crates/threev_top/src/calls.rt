@@ -20,9 +20,11 @@ use command_words::WordsError;
 use letter_types::History;
 use script_reader::ScriptFault;
 use std::alloc::Global;
+use std::mem;
 use std::sync::Wait;
 use std::thread::Threads;
 use tv_base::{Gate, Sink, Source, write_all};
+use tx_trees::Script;
 
 /// How a call of the program ended.
 #[derive(Drop)]
@@ -31,13 +33,40 @@ pub struct Ended {
     pub status: u8,
     /// The history of the run at the statuses 0 and 5 of a mode that runs; empty at all others.
     pub history: History,
+    /// The script of that run; None where `history` is empty.
+    script: Option<Script>,
 }
 
-/// How far a call came: why the text was not written whole, if it wasn't, and the history of the run, if there was one.
+// From so many entries on a history is long.
+const LONG: usize = 10_000;
+
+impl Ended {
+    /// Gives the status as the program ends, and leaves a long history and its script to the system, which takes a
+    /// program's memory back at once: to give them back piece by piece before costs a twentieth of the run, and serves
+    /// nobody. A caller that goes on lets an `Ended` go out of scope instead.
+    pub fn leave(self) -> u8
+        ensures { result ≡ self.status }
+    {
+        let Ended {
+            status,
+            history,
+            script,
+        } = self;
+        if history.items().len() >= LONG {
+            mem::forget(history);
+            mem::forget(script);
+        }
+        status
+    }
+}
+
+/// How far a call came: why the text was not written whole, if it wasn't, and the history and script of the run, if there
+/// was one.
 #[derive(Drop)]
 struct Outcome {
     stop: Option<Stop>,
     history: History,
+    script: Option<Script>,
 }
 
 /// Writes what was made.
@@ -49,12 +78,20 @@ fn write<K: Sink>(made: Made, out: &mut K) -> Outcome
         → (s ≡ stops.Writing) × Rose (K.faults out.old) (K.faults out.new) }
     ensures history { result.history ≡ made.history }
 {
-    let Made { history, output } = made;
+    let Made {
+        history,
+        output,
+        script,
+    } = made;
     let stop = match write_all(out, output.bytes()) {
         Ok(()) => None,
         Err(_) => Some(Stop::Writing),
     };
-    Outcome { stop, history }
+    Outcome {
+        stop,
+        history,
+        script,
+    }
 }
 
 /// Makes what the words ask for, and writes it.
@@ -74,6 +111,7 @@ fn make_and_write<R: Threads + Wait + Sync, S: Source, K: Sink, G: Gate + Sync>(
         Err(stop) => Outcome {
             stop: Some(stop),
             history: History::new(alloc),
+            script: None,
         },
     }
 }
@@ -187,15 +225,18 @@ pub fn threev<R: Threads + Wait + Sync, S: Source, K: Sink, E: Sink, G: Gate + S
         × ((f : HistoryFault) → FailsAudit (line_of (map string_bytes words.now)) (S.left source.old) (S.left source.new) f → ⊥))
         → result.status ≤ 1 }
 {
-    let Outcome { stop, history } = make_and_write(rt, alloc, words, source, out, gate);
-    match stop {
-        None => Ended { status: 0, history },
-        Some(stop) => {
-            let told = tell_stop(alloc, stop, err);
-            Ended {
-                status: told.status(),
-                history,
-            }
-        }
+    let Outcome {
+        stop,
+        history,
+        script,
+    } = make_and_write(rt, alloc, words, source, out, gate);
+    let status = match stop {
+        None => 0,
+        Some(stop) => tell_stop(alloc, stop, err).status(),
+    };
+    Ended {
+        status,
+        history,
+        script,
     }
 }

@@ -46,6 +46,7 @@ fn soaked<R: Threads + Wait + Sync, G: Gate + Sync>(
     Ok(Made {
         history,
         output: Output::Text(text),
+        script: Some(script),
     })
 }
 

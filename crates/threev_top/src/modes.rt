@@ -45,11 +45,12 @@ impl Output {
     }
 }
 
-/// What is to be written, and the history of the run that it is of.
+/// What is to be written, and the history and script of the run that it is of, if there was one.
 #[derive(Drop)]
 pub(crate) struct Made {
     pub(crate) history: History,
     pub(crate) output: Output,
+    pub(crate) script: Option<Script>,
 }
 
 impl Made {
@@ -61,6 +62,7 @@ impl Made {
         Made {
             history: History::new(alloc),
             output,
+            script: None,
         }
     }
 }
@@ -85,19 +87,20 @@ fn report_with(
 /// The run of a script on one thread, and its report.
 fn simulated(
     alloc: Global,
-    script: &Script,
+    script: Script,
     seed: Option<u64>,
     lines: bool,
 ) -> Result<Made, NoMemory>
-    ensures ended { IfOk result (λ made. HasEnded script.now made.history) }
-    ensures scheduled { IfOk result (λ made. IsScheduled script.now seed made.history) }
-    ensures text { IfOk result (λ made. bytes_of made.output ≡ report_with lines script.now made.history) }
+    ensures ended { IfOk result (λ made. HasEnded script made.history) }
+    ensures scheduled { IfOk result (λ made. IsScheduled script seed made.history) }
+    ensures text { IfOk result (λ made. bytes_of made.output ≡ report_with lines script made.history) }
 {
-    let history = simulate(alloc, script, seed)?;
-    let text = report_with(alloc, script, &history, lines)?;
+    let history = simulate(alloc, &script, seed)?;
+    let text = report_with(alloc, &script, &history, lines)?;
     Ok(Made {
         history,
         output: Output::Text(text),
+        script: Some(script),
     })
 }
 
@@ -105,22 +108,23 @@ fn simulated(
 fn ran<R: Threads + Wait + Sync, G: Gate + Sync>(
     rt: &R,
     alloc: Global,
-    script: &Script,
+    script: Script,
     workers: u32,
     lines: bool,
     gate: &G,
 ) -> Result<Made, NoMemory>
     requires { (1 ≤ workers) × (workers ≤ 32) }
-    ensures headline { IfOk result (λ made. HasHeadline script.now made.history) }
-    ensures text { IfOk result (λ made. bytes_of made.output ≡ report_with lines script.now made.history) }
+    ensures headline { IfOk result (λ made. HasHeadline script made.history) }
+    ensures text { IfOk result (λ made. bytes_of made.output ≡ report_with lines script made.history) }
 {
     // (read for its clause, that the script is valid)
     let _valid = script.nodes();
-    let history = run(rt, alloc, script, workers, gate)?;
-    let text = report_with(alloc, script, &history, lines)?;
+    let history = run(rt, alloc, &script, workers, gate)?;
+    let text = report_with(alloc, &script, &history, lines)?;
     Ok(Made {
         history,
         output: Output::Text(text),
+        script: Some(script),
     })
 }
 
@@ -157,8 +161,8 @@ pub(crate) fn made_of_script<R: Threads + Wait + Sync, G: Gate + Sync>(
 {
     match mode {
         Mode::Check => counts_of(alloc, &script),
-        Mode::Sim { seed, history } => simulated(alloc, &script, seed, history),
-        Mode::Run { workers, history } => ran(rt, alloc, &script, workers, history, gate),
+        Mode::Sim { seed, history } => simulated(alloc, script, seed, history),
+        Mode::Run { workers, history } => ran(rt, alloc, script, workers, history, gate),
         Mode::Upgrade => upgraded_of(alloc, script),
     }
 }

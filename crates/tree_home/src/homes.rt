@@ -1,4 +1,4 @@
-ghost use Rattle.std.specs.Prelude.{◌≡◌, ◌++◌, ◌-◌, ◌<◌, length, replicate, IfOk, IfErr, IsNone, IsSome, IsTrue, OnErr, OnOk, Some, None, slice_set, slice_get, ◌↔◌};
+ghost use Rattle.std.specs.Prelude.{◌≡◌, ◌++◌, ◌-◌, ◌<◌, length, replicate, IfOk, IfErr, IfSome, IsNone, IsSome, IsTrue, OnErr, OnOk, Some, None, slice_set, slice_get, ◌↔◌};
 ghost use Rattle.std.specs.Option.{option_copied, is_some};
 ghost use Rattle.tree_home.specs.Maps.{AreAscending, by_tree, put_at};
 ghost use Rattle.tree_home.specs.HeldAnswers.{acked, answer_when_acked, held_answers, held_for, held_in, holding, waits_for_more};
@@ -137,32 +137,39 @@ impl Homes {
     {
         match self.would_answer(tree, sub, &values) {
             Err(e) => Err((e, values)),
-            Ok(None) => {
+            Ok(None) => unreachable!(),
+            Ok(Some(None)) => {
                 self.put_notice(tree, sub, values);
                 Ok(Noted::Missing(self.still_missing(tree)))
             }
-            Ok(Some(answer)) => {
+            Ok(Some(Some(answer))) => {
                 self.forget(tree);
                 Ok(Noted::Answered(answer))
             }
         }
     }
 
-    /// The answer that `note` would give with these values. None exactly where another notice of the tree is missing
-    /// too.
+    /// The answer that `note` would give with these values, found in one search. None exactly where the notice of `sub`
+    /// isn't missing; else the answer is None exactly where another notice of the tree is missing too.
     #[tactic(auto, using(crate::proofs::Gathered::answering))]
     pub fn would_answer(
         &self,
         tree: TreeNo,
         sub: SubNo,
         values: &Values,
-    ) -> Result<Option<Answered>, NoMemory>
-        requires { IsTrue (misses tree sub (open_trees self.now)) }
-        ensures answer { IfOk result (λ answer. answer ≡ answer_in tree sub values.now (open_trees self.now)) }
-        ensures none { IfOk result (λ answer. IsNone answer ↔ (1 < missing_in tree (open_trees self.now))) }
+    ) -> Result<Option<Option<Answered>>, NoMemory>
+        ensures misses { IfOk result (λ found. is_some found ≡ misses tree sub (open_trees self.now)) }
+        ensures answer { IfOk result (λ found. IfSome found
+            (λ answer. answer ≡ answer_in tree sub values.now (open_trees self.now))) }
+        ensures none { IfOk result (λ found. IfSome found
+            (λ answer. IsNone answer ↔ (1 < missing_in tree (open_trees self.now)))) }
     {
-        let opened = find(&self.trees, tree).unwrap();
-        answer(self.alloc, tree, opened, sub, values.items())
+        match find(&self.trees, tree) {
+            Some(opened) if is_missing(opened.notices.items(), sub) => {
+                Ok(Some(answer(self.alloc, tree, opened, sub, values.items())?))
+            }
+            _ => Ok(None),
+        }
     }
 
     /// How many notices of the tree are missing, 0 where the tree isn't there.

@@ -46,10 +46,10 @@ strict_entries s =
     + strict_trees s.trees * advances_in s.rows
     else 0
 
--- the further entries of a run whose coordinator forgets, at most: each time it takes the letter that makes it forget, asks
--- every node and the client, of which each takes the question and tells it, and tells the client how many advancements have
--- ended; and what was done of the advancement in progress may have to be done again, where no node has come to it: two orders,
--- each of which every node takes and answers, and a round
+-- the further entries of a run whose coordinator forgets, at most: each time it takes the letter that makes it forget,
+-- asks every node and the client, of which each takes the question and tells it, and tells the client how many
+-- advancements have ended; and what was done of the advancement in progress may have to be done again, where no node has
+-- come to it: two orders, each of which every node takes and answers, and a round
 abbrev pub lossy_entries : ScriptData → ℕ
 lossy_entries s = loses_in s.rows * (10 * s.nodes + 4)
 

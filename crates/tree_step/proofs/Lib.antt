@@ -2,7 +2,6 @@ pub mod Sends
 pub mod Begun
 pub mod Made
 pub mod Rooted
-pub mod Noted
 pub mod Replied
 pub mod Dues
 pub mod KindsAt

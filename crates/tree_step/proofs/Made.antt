@@ -7,17 +7,15 @@ use Rattle.tv_base.specs.declared.numbers.SubNo.{SubNo}
 use Rattle.tv_base.specs.declared.numbers.Version.{Version}
 use Rattle.item_versions.specs.Window.{in_window}
 use Rattle.item_versions.proofs.Window.{in_window-low, in_window-high}
-use Rattle.tree_home.specs.Homes.{Gets}
 use Rattle.tree_step.specs.Changes.{home_after, MayCount, part_row, prepared_row}
 use Rattle.tree_step.specs.declared.change.Change.TheVariants.{Tree}
 use Rattle.tree_step.specs.declared.change.HomeChange.{HomeChange}
 use Rattle.tree_step.specs.declared.change.HomeChange.TheVariants.{Stay}
-use Rattle.tree_step.specs.inside.Noting.{noting}
 use Rattle.tree_step.specs.inside.Sent.{MOST_SENT}
 use Rattle.item_versions.specs.Table.{Table, pending}
 use Rattle.node_versions.specs.declared.turns.Turns.{Turns}
 use Rattle.pair_counters.specs.Rows.{counts_of}
-use Rattle.pair_counters.specs.Numbers.{Numbers, done_one}
+use Rattle.pair_counters.specs.Numbers.{Numbers}
 use Rattle.tv_base.specs.declared.numbers.TreeNo.{TreeNo}
 use Rattle.tree_home.specs.Homes.{OpenTrees, begun, open_trees}
 use Rattle.tree_home.specs.declared.homes.Answered.{Answered}
@@ -33,7 +31,7 @@ use Rattle.tree_step.specs.Node.{Node, IsReady, data_of}
 use Rattle.tree_step.specs.declared.node.NodeParts.{NodeParts}
 use Rattle.world_model.specs.Children.{sub_letters, done_letter}
 use Rattle.world_model.specs.Notices.{act_of, homes_noted, answer_noted, values_of}
-use Rattle.world_model.specs.Done.{counted_root, counted_sub, note_part, raised_if, root_part, sub_done, sub_sent, turned_if, with_open_tree}
+use Rattle.world_model.specs.Done.{counted_root, counted_sub, raised_if, root_part, sub_done, sub_sent, turned_if, with_open_tree}
 
 -- this node with other parts, and what goes out
 abbrev out_of : Node → Turns → Table → Numbers → OpenTrees → List Outgoing → List Act → Out Node
@@ -108,17 +106,6 @@ sub_ready s q t k v home n raises notice staged st out xs is at count sent acts 
     let numbers = ap (λ (os : List Outgoing). counted_sub v.0 q.0 os (counts_of st.counters).numbers)
     (all_requests n out.sent count ∙ o) in
     λ i. out_of (data_of st) (raised_if raises v.0 st.turns) (pending staged st.items) (numbers i) (open_trees st.homes) (o i) (acts i)
-
--- a notice that was prepared, by its parts
-pub note_ready : (q : NodeNo) (t : TreeNo) (k : SubNo) (v : Version) (values : Gets) (st : NodeParts)
-    (home : HomeChange) (answer : Option Answered)
-    → home_after home (open_trees st.homes) ≡ homes_noted t k values (open_trees st.homes)
-    → answer ≡ answer_noted t k values (open_trees st.homes)
-    → part_row (noting q v home answer) (data_of st) ≡ note_part q.0 t.0 k.0 v.0 values (data_of st)
-note_ready q t k v values st home answer homed told = λ i. record {
-  out = out_of (data_of st) st.turns st.items (done_one v.0 q.0 (counts_of st.counters).numbers) (homed i) [] [];
-  answered = told i;
-}
 
 -- what was prepared may be counted
 pub may_count : (s : ScriptData) (n : NodeParts) (v : Version) (root : Bool) (from : NodeNo) (asked : ℕ)

@@ -86,10 +86,9 @@ pub fn prepare_notice(
         (data_of node.now)) node.now) }
 {
     let Request { tree, sub, .. } = request;
-    if !node.homes.misses(tree, sub) {
+    let Some(answered) = node.homes.would_answer(tree, sub, values)? else {
         return Ok(noting(alloc, request, HomeChange::Stay, None));
-    }
-    let answered = node.homes.would_answer(tree, sub, values)?;
+    };
     let taken = copy_values(alloc, values)?;
     let home = notice_home(&node.homes, tree, sub, taken, &answered);
     Ok(noting(alloc, request, home, answered))
