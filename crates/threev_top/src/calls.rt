@@ -230,13 +230,19 @@ pub fn threev<R: Threads + Wait + Sync, S: Source, K: Sink, E: Sink, G: Gate + S
         history,
         script,
     } = make_and_write(rt, alloc, words, source, out, gate);
-    let status = match stop {
-        None => 0,
-        Some(stop) => tell_stop(alloc, stop, err).status(),
-    };
-    Ended {
-        status,
-        history,
-        script,
+    match stop {
+        None => Ended {
+            status: 0,
+            history,
+            script,
+        },
+        Some(stop) => {
+            let told = tell_stop(alloc, stop, err);
+            Ended {
+                status: told.status(),
+                history,
+                script,
+            }
+        }
     }
 }
