@@ -17,7 +17,7 @@ use Rattle.world_model.specs.Runs.{IsStepRun, node_in}
 use Rattle.world_model.proofs.Bags.{one_if_both}
 use Rattle.board_rules.specs.Histories.{Place, born_as}
 use Rattle.board_rules.specs.Moves.{IsBirth, IsWaiting}
-use Rattle.strict_laws.specs.Meant.{IsMeant, IsMeantRoot}
+use Rattle.world_model.specs.Meant.{IsMeant, IsMeantRoot}
 use Rattle.tree_laws.specs.Dids.{asks, is_born, letters_asking}
 use Rattle.tree_laws.proofs.Acts.{of_act}
 use Rattle.tree_laws.proofs.AptVersions.{before, not_born}

@@ -41,8 +41,8 @@ use Rattle.world_model.specs.Votes.{vote_of}
 use Rattle.world_model.proofs.Cases.{Brings, Case, Coordinates, NodeDoes, NodeKeeps, Submits, case}
 use Rattle.world_model.proofs.EachOutstanding.{each_took}
 use Rattle.world_model.proofs.KeptThere.{kept_in_past}
-use Rattle.strict_laws.specs.Meant.{IsLetterMeant, IsMeant}
-use Rattle.strict_laws.proofs.Meant.{letters_are_meant}
+use Rattle.world_model.specs.Meant.{IsLetterMeant, IsMeant}
+use Rattle.world_model.proofs.Meant.{letters_are_meant}
 use Rattle.tree_laws.proofs.Histories.{before_more}
 use Rattle.phase_laws.proofs.Brought.{BringsTo, brought_meant}
 use Rattle.phase_laws.proofs.Progress.{brings_to}

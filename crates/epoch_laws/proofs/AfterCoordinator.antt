@@ -20,8 +20,8 @@ use Rattle.world_model.specs.Runs.{Moves}
 use Rattle.world_model.proofs.Coordination.{IsCoordinated, OfCoordinator, coordinated_each, of_forgetting, of_remembering}
 use Rattle.world_model.proofs.EachOutstanding.{each_outstanding, each_waits}
 use Rattle.world_model.proofs.Every.{each_both, each_drop, each_map, each_none}
-use Rattle.strict_laws.specs.Meant.{IsLetterMeant, IsMeant}
-use Rattle.strict_laws.proofs.Meant.{letters_are_meant}
+use Rattle.world_model.specs.Meant.{IsLetterMeant, IsMeant}
+use Rattle.world_model.proofs.Meant.{letters_are_meant}
 use Rattle.phase_laws.specs.Advances.{asked_for}
 use Rattle.phase_laws.specs.Given.{greatest_given, version_told}
 use Rattle.phase_laws.specs.Phases.{Stage, TurnStage, ShowStage, SweepStage}

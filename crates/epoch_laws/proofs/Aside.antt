@@ -19,8 +19,8 @@ use Rattle.world_model.specs.Runs.{IsStepRun, client_in, keeping_in, node_in}
 use Rattle.world_model.proofs.Every.{each_append, each_map}
 use Rattle.world_model.proofs.Nexts.{MadeByClient, Order, Shows, Sweeps, TellsAsked, TellsDone, Turns}
 use Rattle.world_model.proofs.Sends.{OfRows, rows_each}
-use Rattle.strict_laws.specs.Meant.{IsMeant}
-use Rattle.strict_laws.proofs.Meant.{took_meant}
+use Rattle.world_model.specs.Meant.{IsMeant}
+use Rattle.world_model.proofs.Meant.{took_meant}
 use Rattle.phase_laws.proofs.Heeds.{AreWakes, Heed, IsWake}
 use Rattle.phase_laws.proofs.Heeds.{Answers as HeedAnswers, Leaves as HeedLeaves, Obeys as HeedObeys, Repeats as HeedRepeats}
 use Rattle.phase_laws.proofs.Progress.{Asked, Begins, Coordinates, Course, Ends, Hears, Obeys as ObeysOrder, Restarts, WakesFor, Work, are_wakes}

@@ -23,8 +23,8 @@ use Rattle.world_model.specs.Runs.{IsStepRun, MayFollow, client_in, in_flight, r
 use Rattle.world_model.specs.declared.restarting.RestartPhase.TheVariants.{Idle, Recovering, Doing, Counting, Paused}
 use Rattle.world_model.proofs.Flows.{client_kept, flow}
 use Rattle.world_model.proofs.Sends.{on}
-use Rattle.strict_laws.specs.Meant.{IsMeant}
-use Rattle.strict_laws.proofs.Meant.{took_meant}
+use Rattle.world_model.specs.Meant.{IsMeant}
+use Rattle.world_model.proofs.Meant.{took_meant}
 use Rattle.phase_laws.specs.Phases.{count_in_flight}
 use Rattle.phase_laws.proofs.ClientSteps.{Aside, Begins, ClientStep, Ends as HearsEnd, Hears, Tells, client_step}
 use Rattle.phase_laws.proofs.Lawful.{IsTreeLawful}

@@ -22,7 +22,7 @@ use Rattle.world_model.specs.declared.restarting.RestartPhase.TheVariants.{Recov
 use Rattle.world_model.proofs.Every.{each_map, each_step, each_taken}
 use Rattle.world_model.proofs.Orders.{of}
 use Rattle.world_model.proofs.Restarts.{OfRestarts, restarting_each}
-use Rattle.strict_laws.specs.Meant.{IsLetterMeant, IsMeant}
+use Rattle.world_model.specs.Meant.{IsLetterMeant, IsMeant}
 use Rattle.phase_laws.proofs.Lawful.{IsTreeLawful}
 use Rattle.phase_laws.proofs.Progress.{MadeByRestarting, course, restarts}
 use Rattle.epoch_laws.proofs.Aside.{aside}

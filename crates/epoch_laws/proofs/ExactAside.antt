@@ -24,8 +24,8 @@ use Rattle.world_model.specs.declared.restarting.RestartPhase.TheVariants.{Idle,
 use Rattle.world_model.proofs.EachOutstanding.{each_waits}
 use Rattle.world_model.proofs.Every.{each_both, each_map, each_step, node_kept}
 use Rattle.world_model.proofs.Orders.{of}
-use Rattle.strict_laws.specs.Meant.{IsLetterMeant, IsMeant}
-use Rattle.strict_laws.proofs.Meant.{letters_are_meant}
+use Rattle.world_model.specs.Meant.{IsLetterMeant, IsMeant}
+use Rattle.world_model.proofs.Meant.{letters_are_meant}
 use Rattle.phase_laws.proofs.Heeds.{Answers, Heed, Leaves, Obeys, Repeats, turned_to}
 use Rattle.phase_laws.proofs.Lawful.{IsTreeLawful}
 use Rattle.epoch_laws.proofs.Aside.{Aside, Counts, Heeds, IsSentBy, Submits, Tells, Works, sends_aside}

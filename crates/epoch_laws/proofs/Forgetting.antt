@@ -21,8 +21,8 @@ use Rattle.world_model.specs.Runs.{IsStepRun, in_flight, keeping_in, node_in}
 use Rattle.world_model.proofs.Every.{each_both, each_map}
 use Rattle.world_model.proofs.EachOutstanding.{each_first, each_waits}
 use Rattle.world_model.proofs.Gone.{under_or}
-use Rattle.strict_laws.specs.Meant.{IsLetterMeant, IsMeant}
-use Rattle.strict_laws.proofs.Meant.{letters_are_meant}
+use Rattle.world_model.specs.Meant.{IsLetterMeant, IsMeant}
+use Rattle.world_model.proofs.Meant.{letters_are_meant}
 use Rattle.phase_laws.specs.Balance.{HasLeft, IsBalanced, goes_between, out, version_is}
 use Rattle.phase_laws.specs.Given.{IsGivenAnew, greatest_given}
 use Rattle.phase_laws.specs.Quiet.{IsSilent}

@@ -16,8 +16,8 @@ use Rattle.world_model.specs.Restarting.{Restarting}
 use Rattle.world_model.specs.Runs.{IsStepRun, client_in, in_flight, keeping_in, restarting_in}
 use Rattle.world_model.proofs.EachOutstanding.{each_waits}
 use Rattle.world_model.proofs.Every.{each_both, each_map, each_step}
-use Rattle.strict_laws.specs.Meant.{IsLetterMeant, IsMeant}
-use Rattle.strict_laws.proofs.Meant.{letters_are_meant}
+use Rattle.world_model.specs.Meant.{IsLetterMeant, IsMeant}
+use Rattle.world_model.proofs.Meant.{letters_are_meant}
 use Rattle.phase_laws.specs.Given.{greatest_given}
 use Rattle.phase_laws.specs.Phases.{Stage, TurnStage, SweepStage, stage_of}
 use Rattle.epoch_laws.proofs.Aside.{Aside, IsSentBy, sends_aside}

@@ -32,8 +32,8 @@ use Rattle.world_model.proofs.Nexts.{MadeByClient}
 use Rattle.world_model.proofs.Orders.{of}
 use Rattle.world_model.proofs.Restarts.{OfRestarts, restarting_each}
 use Rattle.world_model.proofs.Sends.{advance_each, on}
-use Rattle.strict_laws.specs.Meant.{IsMeant}
-use Rattle.strict_laws.proofs.Meant.{took_meant}
+use Rattle.world_model.specs.Meant.{IsMeant}
+use Rattle.world_model.proofs.Meant.{took_meant}
 use Rattle.phase_laws.specs.Advances.{asked_for}
 use Rattle.phase_laws.specs.Phases.{count_in_flight}
 use Rattle.phase_laws.proofs.Lawful.{IsTreeLawful}

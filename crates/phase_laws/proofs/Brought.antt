@@ -19,9 +19,9 @@ use Rattle.world_model.specs.Runs.{IsStepRun, MayFollow}
 use Rattle.world_model.proofs.EachOutstanding.{EachKept, each_brought, each_kept, each_took, kept_here}
 use Rattle.world_model.proofs.KeptThere.{kept_in_past}
 use Rattle.world_model.proofs.Outstanding.{IsOutstanding}
-use Rattle.strict_laws.specs.Meant.{IsLetterMeant, IsMeant}
-use Rattle.strict_laws.proofs.Meant.{letters_are_meant}
-use Rattle.strict_laws.proofs.MeantRows.{strict_below}
+use Rattle.world_model.specs.Meant.{IsLetterMeant, IsMeant}
+use Rattle.world_model.proofs.Meant.{letters_are_meant}
+use Rattle.world_model.proofs.MeantRows.{strict_below}
 use Rattle.phase_laws.specs.Balance.{version_is}
 
 -- an entry of node p brings letter r to it

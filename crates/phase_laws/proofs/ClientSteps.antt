@@ -19,9 +19,9 @@ use Rattle.world_model.specs.Tables.{client_table}
 use Rattle.tx_trees.specs.Counts.{is_lossy}
 use Rattle.world_model.proofs.EachOutstanding.{each_took}
 use Rattle.world_model.proofs.Nexts.{MadeByClient}
-use Rattle.strict_laws.specs.Meant.{IsLetterMeant, IsMeant}
-use Rattle.strict_laws.proofs.Meant.{letters_are_meant}
-use Rattle.strict_laws.proofs.MeantRows.{strict_below}
+use Rattle.world_model.specs.Meant.{IsLetterMeant, IsMeant}
+use Rattle.world_model.proofs.Meant.{letters_are_meant}
+use Rattle.world_model.proofs.MeantRows.{strict_below}
 
 -- the client begins, or hears an answer, or that an advancement has ended, or tells how many it wanted; or another actor does
 -- something

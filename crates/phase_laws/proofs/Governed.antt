@@ -18,7 +18,7 @@ use Rattle.tx_trees.specs.Counts.{is_lossy}
 use Rattle.world_model.specs.Named.{is_timely}
 use Rattle.world_model.specs.Runs.{IsStepRun, keeping_in, node_in}
 use Rattle.world_model.specs.Strict.{decides_near}
-use Rattle.strict_laws.specs.Meant.{IsMeant}
+use Rattle.world_model.specs.Meant.{IsMeant}
 use Rattle.phase_laws.specs.Balance.{IsBalanced}
 use Rattle.phase_laws.specs.Given.{IsGivenAnew, greatest_given}
 use Rattle.phase_laws.specs.Phases.{Stage}

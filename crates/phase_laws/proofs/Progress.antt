@@ -34,9 +34,9 @@ use Rattle.world_model.proofs.Nexts.{MadeByClient, MadeByCoordinator, Order, Sho
 use Rattle.world_model.proofs.Orders.{no_acts}
 use Rattle.world_model.proofs.Outstanding.{IsOutstanding}
 use Rattle.world_model.proofs.Restarts.{restart_plain}
-use Rattle.strict_laws.specs.Meant.{IsLetterMeant, IsMeant}
-use Rattle.strict_laws.proofs.Meant.{letters_are_meant}
-use Rattle.strict_laws.proofs.MeantRows.{strict_below}
+use Rattle.world_model.specs.Meant.{IsLetterMeant, IsMeant}
+use Rattle.world_model.proofs.Meant.{letters_are_meant}
+use Rattle.world_model.proofs.MeantRows.{strict_below}
 use Rattle.phase_laws.proofs.Brought.{BringsTo, IsAsking, brought_meant, brought_outstanding, kept_ask}
 use Rattle.phase_laws.proofs.ClientSteps.{ClientStep, client_step}
 use Rattle.phase_laws.proofs.ClientSteps.{Begins as ClientBegins, Hears as ClientHears, Ends as ClientEnds, Tells as ClientTells, Aside as ClientAside}

@@ -48,10 +48,10 @@ use Rattle.world_model.proofs.Outstanding.{keeping_elsewhere}
 use Rattle.world_model.proofs.Plain.{no_strict}
 use Rattle.world_model.proofs.Scripts.{SubAt, sub_there, tree_below}
 use Rattle.world_model.proofs.Sends.{asked_each, rows_each}
-use Rattle.strict_laws.specs.Meant.{IsMeant}
+use Rattle.world_model.specs.Meant.{IsMeant}
 use Rattle.strict_laws.proofs.AtHome.{all_append}
 use Rattle.strict_laws.proofs.DoneOrParked.{meets_way}
-use Rattle.strict_laws.proofs.MeantRows.{strict_below}
+use Rattle.world_model.proofs.MeantRows.{strict_below}
 use Rattle.strict_laws.proofs.Parkings.{kind_updates_by}
 use Rattle.phase_laws.proofs.Brought.{brought_meant, each_of_brought}
 use Rattle.phase_laws.proofs.Progress.{brings_to}

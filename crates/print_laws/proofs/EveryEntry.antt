@@ -23,10 +23,10 @@ use Rattle.world_model.proofs.EachOutstanding.{each_right, each_waits}
 use Rattle.world_model.proofs.Every.{each_both}
 use Rattle.world_model.proofs.Posts.{steps}
 use Rattle.world_model.proofs.Scripts.{sub_there}
-use Rattle.strict_laws.specs.Meant.{IsLetterMeant, IsMeant}
+use Rattle.world_model.specs.Meant.{IsLetterMeant, IsMeant}
 use Rattle.strict_laws.proofs.AtHome.{all_append}
-use Rattle.strict_laws.proofs.Meant.{letters_are_meant}
-use Rattle.strict_laws.proofs.MeantRows.{strict_below}
+use Rattle.world_model.proofs.Meant.{letters_are_meant}
+use Rattle.world_model.proofs.MeantRows.{strict_below}
 use Rattle.run_laws.proofs.EveryApt.{all_apt}
 use Rattle.history_text.specs.Printable.{IsSubOf, IsTreeOf}
 use Rattle.print_laws.specs.OfScript.{IsAnswerOf, IsBodyOf, IsOfScript, IsSentOf}

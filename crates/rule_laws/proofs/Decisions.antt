@@ -32,8 +32,8 @@ use Rattle.board_rules.specs.Histories.{Place, applies, places_at}
 use Rattle.board_rules.specs.Moves.{AllVoted, IsApplying, IsDecision, decides_as}
 use Rattle.board_rules.specs.Stands.{votes, votes_yes, voted_yes, was_voted}
 use Rattle.board_rules.proofs.Wholes.{any_more}
-use Rattle.strict_laws.proofs.MeantRows.{strict_below}
-use Rattle.strict_laws.specs.Meant.{IsMeant}
+use Rattle.world_model.proofs.MeantRows.{strict_below}
+use Rattle.world_model.specs.Meant.{IsMeant}
 use Rattle.phase_laws.proofs.Brought.{brought_meant}
 use Rattle.tree_laws.specs.Applied.{applies_as, decided_as, has_decided, noes, votes_no}
 use Rattle.tree_laws.specs.Dids.{is_did_act}

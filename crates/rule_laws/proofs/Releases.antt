@@ -35,7 +35,7 @@ use Rattle.world_model.proofs.Bags.{sealed_tally, tally-append, one_if_both}
 use Rattle.world_model.proofs.Cases.{Case, Coordinates, Does, Keeps, NodeDoes, NodeKeeps, Submits, case, does_number, keeps_number}
 use Rattle.world_model.proofs.Outstanding.{done_apart, outstanding_first, outstanding_step}
 use Rattle.world_model.proofs.Sends.{on}
-use Rattle.strict_laws.specs.Meant.{IsMeant}
+use Rattle.world_model.specs.Meant.{IsMeant}
 use Rattle.phase_laws.proofs.Brought.{brought_meant}
 use Rattle.tree_laws.specs.Dids.{answers, is_born, replies_to}
 use Rattle.tree_laws.specs.Stages.{AllTurned, Answered as IsDone, Gathers, Holds, StageAt, Unborn}

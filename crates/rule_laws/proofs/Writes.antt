@@ -44,7 +44,7 @@ use Rattle.board_rules.specs.Worth.{changes, ops_change, subs_change}
 use Rattle.board_rules.proofs.ItemAt.{item_at, marks_it, holds_it}
 use Rattle.board_rules.proofs.Places.{version_stays, places_more}
 use Rattle.strict_laws.proofs.ByActs.{kind_updates}
-use Rattle.strict_laws.specs.Meant.{IsMeant}
+use Rattle.world_model.specs.Meant.{IsMeant}
 use Rattle.phase_laws.proofs.Brought.{brought_meant}
 use Rattle.tree_laws.specs.Carried.{CarriesVersion}
 use Rattle.tree_laws.proofs.AptDecisions.{dated_here}

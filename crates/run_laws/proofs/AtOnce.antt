@@ -34,9 +34,9 @@ use Rattle.world_model.proofs.EachOutstanding.{each_took}
 use Rattle.world_model.proofs.KeptThere.{kept_in_past}
 use Rattle.world_model.proofs.Plain.{no_strict}
 use Rattle.world_model.proofs.Bags.{one_if_both}
-use Rattle.strict_laws.specs.Meant.{IsLetterMeant, IsMeant}
+use Rattle.world_model.specs.Meant.{IsLetterMeant, IsMeant}
 use Rattle.strict_laws.proofs.AtHome.{all_append}
-use Rattle.strict_laws.proofs.Meant.{letters_are_meant}
+use Rattle.world_model.proofs.Meant.{letters_are_meant}
 use Rattle.strict_laws.proofs.Parkings.{none_parks}
 use Rattle.strict_laws.proofs.DoneOrParked.{Answers, AskedMeets, keeping_answers, meets_way, row_answers, way_holds}
 use Rattle.phase_laws.proofs.Brought.{brought_meant}

@@ -39,10 +39,10 @@ use Rattle.world_model.proofs.Lawful.{is_nudge, nudged}
 use Rattle.world_model.proofs.Outstanding.{outstanding_first}
 use Rattle.world_model.proofs.Scripts.{SubAt, sub_here, sub_there}
 use Rattle.world_model.proofs.Sends.{on, roots_none, subs_none}
-use Rattle.strict_laws.specs.Meant.{IsMeant}
-use Rattle.strict_laws.proofs.MeantRows.{strict_below}
-use Rattle.strict_laws.proofs.RowSends.{OfChildren, OfRow, OfTree, core_each}
-use Rattle.strict_laws.proofs.Meant.{took_meant}
+use Rattle.world_model.specs.Meant.{IsMeant}
+use Rattle.world_model.proofs.MeantRows.{strict_below}
+use Rattle.world_model.proofs.RowSends.{OfChildren, OfRow, OfTree, core_each}
+use Rattle.world_model.proofs.Meant.{took_meant}
 use Rattle.phase_laws.specs.Advances.{asked_for, running}
 use Rattle.phase_laws.proofs.Small.{rounds_by_trees, small}
 use Rattle.tree_laws.specs.Dids.{asks, is_go, letters_asking, replies_to, tells_done}

@@ -24,9 +24,9 @@ use Rattle.world_model.proofs.Nexts.{MadeByClient}
 use Rattle.world_model.proofs.Scripts.{SubAt, sub_below, sub_here, sub_there, tree_below}
 use Rattle.world_model.proofs.Sends.{on}
 use Rattle.world_model.proofs.Bags.{one_if_same, one_if_both}
-use Rattle.strict_laws.specs.Meant.{IsLetterMeant, IsMeant}
-use Rattle.strict_laws.proofs.Meant.{letters_are_meant}
-use Rattle.strict_laws.proofs.MeantRows.{strict_below}
+use Rattle.world_model.specs.Meant.{IsLetterMeant, IsMeant}
+use Rattle.world_model.proofs.Meant.{letters_are_meant}
+use Rattle.world_model.proofs.MeantRows.{strict_below}
 use Rattle.phase_laws.proofs.ClientSteps.{Aside, Begins, ClientStep, Ends, Hears, Tells, client_step}
 use Rattle.tree_laws.specs.Dids.{letters_asking, asks, answers, is_row_of, notices, roots_sent, tells_done}
 use Rattle.tree_laws.specs.Stages.{StageAt, Answered, Gathers, Holds, Unborn, decides, decisions}

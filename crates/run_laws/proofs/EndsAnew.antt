@@ -16,8 +16,8 @@ use Rattle.world_model.specs.Restarting.{Restarting, version_counted}
 use Rattle.world_model.specs.Runs.{IsStepRun, client_in, in_flight, keeping_in, node_in, restarting_in}
 use Rattle.world_model.specs.declared.restarting.RestartPhase.{RestartPhase}
 use Rattle.world_model.specs.declared.restarting.RestartPhase.TheVariants.{Idle, Recovering, Doing, Counting, Paused}
-use Rattle.strict_laws.specs.Meant.{IsMeant}
-use Rattle.strict_laws.proofs.Meant.{took_meant}
+use Rattle.world_model.specs.Meant.{IsMeant}
+use Rattle.world_model.proofs.Meant.{took_meant}
 use Rattle.phase_laws.specs.Advances.{asked_for}
 use Rattle.phase_laws.proofs.Counting.{NoRound}
 use Rattle.phase_laws.proofs.Heeds.{Answers, Heed, Leaves, Obeys, Repeats}

@@ -26,8 +26,8 @@ use Rattle.world_model.proofs.Lawful.{is_nudge, nudged}
 use Rattle.world_model.proofs.Orders.{coordinator_each}
 use Rattle.world_model.proofs.Scripts.{SubAt, sub_here, sub_there}
 use Rattle.world_model.proofs.Sends.{on, roots_none}
-use Rattle.strict_laws.specs.Meant.{IsMeant}
-use Rattle.strict_laws.proofs.Meant.{took_meant}
+use Rattle.world_model.specs.Meant.{IsMeant}
+use Rattle.world_model.proofs.Meant.{took_meant}
 use Rattle.phase_laws.specs.Advances.{asked_for, is_advanced, running}
 use Rattle.phase_laws.specs.Phases.{count_in_flight}
 use Rattle.phase_laws.proofs.Letters.{NoTrees, Passes, node_passes}

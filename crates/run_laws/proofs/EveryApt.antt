@@ -21,8 +21,8 @@ use Rattle.world_model.specs.Runs.{IsStepRun, keeping_in, node_in}
 use Rattle.world_model.specs.Strict.{can_make_at, decides_near, is_of_strict, is_unheld}
 use Rattle.world_model.proofs.Outstanding.{IsOutstanding}
 use Rattle.world_model.proofs.Plain.{no_strict}
-use Rattle.strict_laws.specs.Meant.{IsMeant}
-use Rattle.strict_laws.proofs.MeantRows.{strict_below}
+use Rattle.world_model.specs.Meant.{IsMeant}
+use Rattle.world_model.proofs.MeantRows.{strict_below}
 use Rattle.strict_laws.proofs.Waking.{wakes_bring_letters}
 use Rattle.tree_laws.specs.Dids.{asks, letters_asking}
 use Rattle.tree_laws.proofs.AptApplied.{applied_where_decided}

@@ -26,9 +26,9 @@ use Rattle.world_model.specs.Named.{is_strict_at, tree_kind_at}
 use Rattle.world_model.specs.Runs.{IsStepRun, in_flight}
 use Rattle.world_model.proofs.Bags.{tally-append, one_if_and, tally_most}
 use Rattle.world_model.proofs.Scripts.{get_below, sub_here, sub_there}
-use Rattle.strict_laws.specs.Meant.{IsLetterMeant, IsMeant}
-use Rattle.strict_laws.proofs.Meant.{letters_are_meant}
-use Rattle.strict_laws.proofs.MeantRows.{strict_below}
+use Rattle.world_model.specs.Meant.{IsLetterMeant, IsMeant}
+use Rattle.world_model.proofs.Meant.{letters_are_meant}
+use Rattle.world_model.proofs.MeantRows.{strict_below}
 use Rattle.phase_laws.specs.Balance.{goes_between, version_is}
 use Rattle.phase_laws.specs.Quiet.{IsSilent}
 use Rattle.phase_laws.proofs.Brought.{sender_below}

@@ -26,7 +26,7 @@ use Rattle.world_model.proofs.KeptThere.{IsCoreKeeping, OfKeeping, core_keeps}
 use Rattle.world_model.proofs.Outstanding.{keeping_elsewhere}
 use Rattle.world_model.proofs.Scripts.{SubAt, sub_below, sub_there, tree_below}
 use Rattle.world_model.proofs.Bags.{one_if_both}
-use Rattle.strict_laws.specs.Meant.{IsMeant}
+use Rattle.world_model.specs.Meant.{IsMeant}
 use Rattle.strict_laws.specs.Keeping.{Holds}
 use Rattle.strict_laws.proofs.Holding.{Came, HeldFrom, LetsGo, Stood, row_comes, same_holds}
 use Rattle.phase_laws.proofs.Brought.{brought_meant}

@@ -35,7 +35,7 @@ use Rattle.world_model.proofs.KeptThere.{IsCoreKeeping, OfKeeping, core_keeps}
 use Rattle.world_model.proofs.Outstanding.{keeping_elsewhere}
 use Rattle.world_model.proofs.Bags.{one_if_both}
 use Rattle.strict_laws.specs.Keeping.{Holds, IsKeptFor}
-use Rattle.strict_laws.specs.Meant.{IsMeant}
+use Rattle.world_model.specs.Meant.{IsMeant}
 use Rattle.strict_laws.proofs.ByActs.{kind_updates}
 use Rattle.strict_laws.proofs.Holding.{LetsGo, met_holds, row_stays, same_holds}
 use Rattle.strict_laws.proofs.Reasons.{kept_for_a_reason}

@@ -41,7 +41,7 @@ use Rattle.world_model.proofs.Cases.{Case, Coordinates, Does, NodeDoes, NodeKeep
 use Rattle.world_model.proofs.Every.{each_none, each_zero}
 use Rattle.world_model.proofs.Flows.{flow}
 use Rattle.world_model.proofs.Sends.{on, subs_none}
-use Rattle.strict_laws.proofs.RowSends.{OfChildren, OfRow, OfTree, core_each}
+use Rattle.world_model.proofs.RowSends.{OfChildren, OfRow, OfTree, core_each}
 use Rattle.phase_laws.proofs.Brought.{IsAsking}
 use Rattle.phase_laws.proofs.Progress.{brings_to, itself}
 use Rattle.tree_laws.specs.Dids.{answers, replies_to}

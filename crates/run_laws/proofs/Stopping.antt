@@ -17,8 +17,8 @@ use Rattle.world_model.specs.Runs.{IsStepRun, MayFollow, client_in}
 use Rattle.world_model.proofs.Flows.{client_kept, flow}
 use Rattle.world_model.proofs.Nexts.{MadeByClient}
 use Rattle.world_model.proofs.Sends.{on}
-use Rattle.strict_laws.specs.Meant.{IsMeant}
-use Rattle.strict_laws.proofs.Meant.{took_meant}
+use Rattle.world_model.specs.Meant.{IsMeant}
+use Rattle.world_model.proofs.Meant.{took_meant}
 use Rattle.phase_laws.proofs.ClientSteps.{Aside, Begins, ClientStep, Ends, Hears, Tells, client_step}
 use Rattle.tree_laws.specs.Dids.{answers, goes, is_go, replies, replies_to}
 use Rattle.tree_laws.specs.Ends.{is_finish}

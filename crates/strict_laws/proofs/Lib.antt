@@ -5,10 +5,6 @@ pub mod RunLocks
 pub mod AtHome
 pub mod NoConflicts
 pub mod RunConflicts
-pub mod RowSends
-pub mod HeldOwn
-pub mod MeantRows
-pub mod Meant
 pub mod NoWakes
 pub mod Waking
 pub mod Holding

@@ -20,7 +20,7 @@ use Rattle.world_model.proofs.Every.{each_none, each_zero}
 use Rattle.letter_types.specs.declared.entries.Entry.{Entry}
 use Rattle.world_model.proofs.Coordination.{IsCoordinated, OfCoordinator, coordinated_each}
 use Rattle.world_model.proofs.Sends.{on, roots_none, subs_none}
-use Rattle.strict_laws.proofs.RowSends.{OfChildren, OfRow, OfTree, core_each}
+use Rattle.world_model.proofs.RowSends.{OfChildren, OfRow, OfTree, core_each}
 
 -- no Wake of subtransaction k of tree t
 abbrev IsNoWake : TreeNo → SubNo → ℕ → Body → Type 0

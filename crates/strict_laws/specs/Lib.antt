@@ -1,4 +1,3 @@
 pub mod Keeping
 pub mod Locks
-pub mod Meant
 pub mod Waking

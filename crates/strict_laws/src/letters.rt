@@ -1,5 +1,5 @@
 // The letters of a run.
-ghost use Rattle.strict_laws.specs.Meant.{LettersAreMeant};
+ghost use Rattle.world_model.specs.Meant.{LettersAreMeant};
 ghost use Rattle.strict_laws.specs.Waking.{WakesBringLetters, WakesFindLetters};
 
 /// In every run each letter that has still to be done is meant for its addressee, and names what the script has: a

@@ -44,9 +44,9 @@ use Rattle.tree_laws.specs.Applied.{applied_at, applies_as}
 use Rattle.tree_laws.proofs.AptSteps.{done_before}
 use Rattle.tree_laws.proofs.NodeLoads.{strict_there}
 use Rattle.strict_laws.specs.Locks.{locks_after_acts}
-use Rattle.strict_laws.specs.Meant.{IsLetterMeant, IsMeant}
+use Rattle.world_model.specs.Meant.{IsLetterMeant, IsMeant}
 use Rattle.strict_laws.proofs.ByActs.{wanted_needed}
-use Rattle.strict_laws.proofs.Meant.{letters_are_meant}
+use Rattle.world_model.proofs.Meant.{letters_are_meant}
 use Rattle.strict_laws.proofs.RunConflicts.{wanted_tree}
 use Rattle.strict_laws.proofs.RunLocks.{step_follows}
 use Rattle.strict_laws.proofs.Holding.{more_locks}

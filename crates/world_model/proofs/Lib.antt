@@ -32,3 +32,7 @@ pub mod Scripts
 pub mod Sends
 pub mod SmallCounts
 pub mod Visited
+pub mod HeldOwn
+pub mod RowSends
+pub mod MeantRows
+pub mod Meant

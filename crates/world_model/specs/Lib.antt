@@ -27,3 +27,4 @@ pub mod Strict
 pub mod Votes
 pub mod AllApt
 pub mod Calls
+pub mod Meant

@@ -1,4 +1,4 @@
-use Rattle.strict_laws.proofs.Meant.{letters_are_meant}
+use Rattle.world_model.proofs.Meant.{letters_are_meant}
 use Rattle.strict_laws.proofs.letters.letters_are_meant.Goals as goal
 
 pub returns : goal.returns

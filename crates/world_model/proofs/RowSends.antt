@@ -24,7 +24,7 @@ use Rattle.script_parts.specs.ScriptData.{ScriptData, client_of, home_of, is_str
 use Rattle.script_parts.specs.declared.parts.Sub.{Sub}
 use Rattle.script_parts.specs.declared.parts.TreeKind.{TreeKind}
 use Rattle.script_parts.specs.declared.parts.TreeKind.TheVariants.{Update, Read, Strict}
-use Rattle.strict_laws.specs.Meant.{IsVisited}
+use Rattle.world_model.specs.Meant.{IsVisited}
 use Rattle.world_model.proofs.Epochs.{ask_each, order_each}
 use Rattle.world_model.specs.Asked.{asked_ops, tree_part}
 use Rattle.world_model.specs.Children.{done_letter, sub_letters}

@@ -25,9 +25,9 @@ use Rattle.world_model.proofs.Every.{each_append, each_map}
 use Rattle.world_model.proofs.KeptThere.{apt_there, kept_in_past, still_kept}
 use Rattle.world_model.proofs.NothingKept.{none_kept}
 use Rattle.world_model.proofs.Orders.{of}
-use Rattle.strict_laws.specs.Meant.{IsLetterMeant, IsMeant, LettersAreMeant}
-use Rattle.strict_laws.proofs.HeldOwn.{HoldsOwn, holds_own}
-use Rattle.strict_laws.proofs.MeantRows.{AreMeant, client_meant, coordinator_meant, core_meant, wakes_meant}
+use Rattle.world_model.specs.Meant.{IsLetterMeant, IsMeant, LettersAreMeant}
+use Rattle.world_model.proofs.HeldOwn.{HoldsOwn, holds_own}
+use Rattle.world_model.proofs.MeantRows.{AreMeant, client_meant, coordinator_meant, core_meant, wakes_meant}
 
 -- what is known of a node: a letter is kept only where there are strict trees
 pub record Stands (s : ScriptData) (p : ℕ) (n : KeepingNode) : Type 0 where

@@ -33,9 +33,9 @@ use Rattle.world_model.proofs.Every.{each_append, each_map}
 use Rattle.world_model.proofs.Fits.{each_drop, each_take}
 use Rattle.world_model.proofs.Orders.{of}
 use Rattle.world_model.proofs.Scripts.{get_below, strict_there}
-use Rattle.strict_laws.specs.Meant.{IsLetterMeant, IsMeant}
-use Rattle.strict_laws.proofs.HeldOwn.{HoldsOwn, acked_tree}
-use Rattle.strict_laws.proofs.RowSends.{OfRow, OfTree, core_each}
+use Rattle.world_model.specs.Meant.{IsLetterMeant, IsMeant}
+use Rattle.world_model.proofs.HeldOwn.{HoldsOwn, acked_tree}
+use Rattle.world_model.proofs.RowSends.{OfRow, OfTree, core_each}
 use Rattle.world_model.proofs.Sends.{asked_each, advance_each}
 
 -- all that an actor sends is meant
