@@ -24,7 +24,7 @@ use Rattle.world_model.specs.Node.{Node}
 use Rattle.world_model.specs.Notices.{answer_noted, values_of}
 use Rattle.world_model.specs.Strict.{can_make_at, core_keeping, core_row, decides_near, is_core_apt, is_near_answer, is_of_strict, is_unheld}
 use Rattle.tree_step.specs.Due.{can_obey, is_due}
-use Rattle.core_step.specs.inside.Apt.{acked_apt, apt_by, decide_apt, is_own, makes_by, release_apt, tree_apt, wake_apt}
+use Rattle.core_step.specs.Apt.{acked_apt, apt_by, decide_apt, is_own, makes_by, release_apt, tree_apt, wake_apt}
 
 -- what a letter asks for of a tree, by the tree's kind
 makes_kind : (s : ScriptData) (st : Node) (t : TreeNo) (body : Body) (kind : Option TreeKind) → tree_kind_at s t.0 ≡ kind

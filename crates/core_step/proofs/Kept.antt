@@ -21,12 +21,13 @@ use Rattle.world_model.specs.Asked.{asked_ops, asked_version}
 use Rattle.world_model.specs.Core.{Core}
 use Rattle.world_model.specs.Strict.{CoreKeeping, is_born_now, kept_by_kind, meets, parked, root_waiting}
 use Rattle.tree_step.specs.Node.{data_of}
-use Rattle.strict_step.specs.State.{core_of}
-use Rattle.strict_step.specs.declared.state.NodeCore.{NodeCore}
-use Rattle.core_step.specs.Plans.{IsKeptBy, RaisesNear, kept_core}
+use Rattle.tree_step.specs.Core.{core_of}
+use Rattle.tree_step.specs.declared.node_core.NodeCore.{NodeCore}
+use Rattle.core_step.specs.Plans.{IsKeptBy, kept_core}
+use Rattle.tree_step.specs.Raising.{RaisesNear}
 use Rattle.core_step.specs.declared.meeting.CoreKept.{CoreKept}
-use Rattle.core_step.specs.inside.Apt.{asks_a_sub}
-use Rattle.core_step.specs.inside.Keeping.{asked_sub, op_marks, parked_kept, raises_to, root_kept, waits_for_show}
+use Rattle.core_step.specs.Apt.{asks_a_sub}
+use Rattle.core_step.specs.Meeting.{asked_sub, op_marks, parked_kept, raises_to, root_kept, waits_for_show}
 
 -- What the items of operations meet, one after the other.
 or_none : (o : Option Met) → option_or o None ≡ o

@@ -1,6 +1,3 @@
-mod Aptness
-mod Planned
-mod Ordering
-mod Kept
-mod Decisions
-mod Noting
+pub mod Aptness
+pub mod Planned
+pub mod Kept

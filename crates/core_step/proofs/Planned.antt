@@ -16,11 +16,11 @@ use Rattle.world_model.specs.Named.{tree_kind_at}
 use Rattle.world_model.specs.Strict.{core_by_kind, core_keeping, core_row, is_unheld, kept_by_kind}
 use Rattle.tree_step.specs.Due.{is_due}
 use Rattle.tree_step.specs.Node.{data_of}
-use Rattle.strict_step.specs.State.{core_of}
-use Rattle.strict_step.specs.declared.state.NodeCore.{NodeCore}
+use Rattle.tree_step.specs.Core.{core_of}
+use Rattle.tree_step.specs.declared.node_core.NodeCore.{NodeCore}
 use Rattle.core_step.specs.Plans.{IsPlanBy, IsPlanOf, IsPlanWhere}
-use Rattle.core_step.specs.declared.plan.CorePlan.{CorePlan}
-use Rattle.core_step.specs.inside.Apt.{IsOwnPlan, apt_by, makes_by, tree_apt}
+use Rattle.core_step.specs.declared.plans.CorePlan.{CorePlan}
+use Rattle.core_step.specs.Apt.{IsOwnPlan, apt_by, makes_by, tree_apt}
 use Rattle.core_step.proofs.Aptness.{own_apt, root_apt, sub_apt}
 
 -- a plan of a letter of this body, that is apt by this test

@@ -1,2 +1,3 @@
 pub mod Plans
-pub mod inside
+pub mod Apt
+pub mod Meeting

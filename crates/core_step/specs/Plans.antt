@@ -1,25 +1,19 @@
 -- What a core does with a letter, planned.
 use Rattle.std.specs.Prelude.{◌≡◌, ⊤, Bool, true, false, Option, Some, None, IsTrue}
 use Rattle.tv_base.specs.declared.numbers.Version.{Version}
-use Rattle.item_versions.specs.Window.{in_window}
 use Rattle.letter_types.specs.declared.entries.Letter.{Letter}
 use Rattle.letter_types.specs.Steps.{Out}
-use Rattle.node_versions.specs.declared.turns.Turns.{Turns}
 use Rattle.tx_trees.specs.ScriptData.{ScriptData}
 use Rattle.world_model.specs.Core.{Core}
 use Rattle.world_model.specs.Strict.{CoreKeeping, core_keeping, core_row, is_core_apt}
-use Rattle.strict_step.specs.Changes.{IsCoreStepOf}
-use Rattle.strict_step.specs.State.{core_of}
-use Rattle.strict_step.specs.declared.change.CorePrepared.{CorePrepared}
-use Rattle.strict_step.specs.declared.state.NodeCore.{NodeCore}
+use Rattle.tree_step.specs.CoreChanges.{IsCoreStepOf}
+use Rattle.tree_step.specs.Raising.{RaisesNear, raised_by}
+use Rattle.tree_step.specs.Core.{core_of}
+use Rattle.tree_step.specs.declared.core_change.CorePrepared.{CorePrepared}
+use Rattle.tree_step.specs.declared.node_core.NodeCore.{NodeCore}
 use Rattle.core_step.specs.declared.meeting.CoreKept.{CoreKept}
-use Rattle.core_step.specs.declared.plan.CorePlan.{CorePlan}
-use Rattle.core_step.specs.declared.plan.CorePlan.TheVariants.{Still, Keeps, Does}
-
--- the versions of a node that raises its update version, if it must
-abbrev pub raised_by : Option Version → Turns → Turns
-raised_by None turns = turns
-raised_by (Some v) turns = record turns { update = v }
+use Rattle.core_step.specs.declared.plans.CorePlan.{CorePlan}
+use Rattle.core_step.specs.declared.plans.CorePlan.TheVariants.{Still, Keeps, Does}
 
 -- a core that keeps a letter
 abbrev pub kept_core : CoreKept → Core → CoreKeeping
@@ -30,11 +24,6 @@ kept_core k c = record {
   state = record c { node = record c.node { turns = raised_by k.raises c.node.turns } };
   acts = k.acts;
 }
-
--- what is raised is at most two above the low version
-abbrev pub RaisesNear : Option Version → Turns → Type 0
-RaisesNear None turns = ⊤
-RaisesNear (Some v) turns = IsTrue (in_window turns.low.0 v.0)
 
 -- a letter that is apt, by this test, is one that the core has to keep, and is kept so
 pub record IsKeptBy (test : Bool) (keeping : Option CoreKeeping) (n : NodeCore) (k : CoreKept) : Type 0 where

@@ -11,8 +11,8 @@ ghost use Rattle.world_model.specs.Notices.{answer_noted, values_of};
 ghost use Rattle.world_model.specs.Strict.{is_near_answer, is_unheld};
 ghost use Rattle.tree_step.specs.Due.{is_due};
 ghost use Rattle.tree_step.specs.Node.{data_of};
-ghost use Rattle.strict_step.specs.State.{core_of};
-ghost use Rattle.core_step.specs.inside.Apt.{acked_apt, acks_here, decide_apt, decides_here, near_if, release_apt, wake_apt};
+ghost use Rattle.tree_step.specs.Core.{core_of};
+ghost use Rattle.core_step.specs.Apt.{acked_apt, acks_here, decide_apt, decides_here, near_if, release_apt, wake_apt};
 
 use commute_ops::Values;
 use letter_types::{Body, Letter, Notice};
@@ -20,9 +20,8 @@ use nc_commit::{Decision, may_apply_decision};
 use node_versions::Turns;
 use script_parts::children::visits;
 use std::alloc::Global;
-use strict_step::NodeCore;
 use tree_home::{Answered, Homes};
-use tree_step::{Request, is_due, kind_of};
+use tree_step::{NodeCore, Request, is_due, kind_of};
 use tv_base::{ActorNo, NoMemory, NodeNo, SubNo, TreeNo, Version};
 use tx_trees::{Script, Sub, TreeKind};
 
@@ -62,7 +61,7 @@ fn is_of_remembering(body: &Body) -> bool
 }
 
 /// Whether a letter is none that only the other kind of coordinator has, which the script doesn't run.
-pub(crate) fn is_of_coordinator(script: &Script, body: &Body) -> bool
+pub fn is_of_coordinator(script: &Script, body: &Body) -> bool
     ensures { result ≡ is_of_coordinator script.now body.now }
 {
     if script.is_lossy() {
@@ -104,7 +103,7 @@ fn is_unheld(homes: &Homes, body: &Body) -> bool
 
 /// Whether a letter that asks for a subtransaction is one that the node takes, and the answer of a root's tree isn't
 /// held.
-pub(crate) fn is_free(core: &NodeCore, letter: &Letter, script: &Script) -> bool
+pub fn is_free(core: &NodeCore, letter: &Letter, script: &Script) -> bool
     ensures { result ≡ is_due script.now letter.now.to.0 (data_of core.now.parts) letter.now.from.0 letter.now.body
         && is_unheld letter.now.body (held_answers core.now.parts.homes) }
 {
@@ -141,7 +140,7 @@ fn near_if(core: &NodeCore, answered: &Option<Answered>) -> bool
 }
 
 /// Whether a notice after which a strict tree is decided leaves its home one of the versions in which it counts.
-pub(crate) fn decides_near(
+pub fn decides_near(
     alloc: Global,
     core: &NodeCore,
     script: &Script,
@@ -170,12 +169,7 @@ fn decides_here(letter: &Letter, script: &Script, tree: TreeNo) -> bool
 
 /// Whether a decision is apt: its tree is strict and has a subtransaction here, its version is one that the node counts
 /// in, and what it applies can be applied.
-pub(crate) fn decide_apt(
-    core: &NodeCore,
-    letter: &Letter,
-    script: &Script,
-    decision: Decision,
-) -> bool
+pub fn decide_apt(core: &NodeCore, letter: &Letter, script: &Script, decision: Decision) -> bool
     ensures { result ≡ decide_apt script.now letter.now.to.0 letter.now.from.0 (core_of core.now) decision.tree
         decision.version decision.commit }
 {
@@ -192,7 +186,7 @@ fn acks_here(letter: &Letter, script: &Script, tree: TreeNo) -> bool
 }
 
 /// Whether an acknowledgement is apt.
-pub(crate) fn acked_apt(
+pub fn acked_apt(
     core: &NodeCore,
     letter: &Letter,
     script: &Script,
@@ -205,7 +199,7 @@ pub(crate) fn acked_apt(
 }
 
 /// Whether it is apt that a tree's marks go at a node: the script has strict trees, and the tree a subtransaction there.
-pub(crate) fn release_apt(script: &Script, at: ActorNo, tree: TreeNo) -> bool
+pub fn release_apt(script: &Script, at: ActorNo, tree: TreeNo) -> bool
     ensures { result ≡ release_apt script.now at.0 tree }
 {
     script.has_strict() && visits(script.subs_of(tree), NodeNo(at.0))
@@ -229,7 +223,7 @@ fn node_of(script: &Script, tree: TreeNo, sub: SubNo) -> u8
 }
 
 /// Whether a Wake is apt: the script has strict trees, and the subtransaction is at the node.
-pub(crate) fn wake_apt(script: &Script, at: ActorNo, tree: TreeNo, sub: SubNo) -> bool
+pub fn wake_apt(script: &Script, at: ActorNo, tree: TreeNo, sub: SubNo) -> bool
     ensures { result ≡ wake_apt script.now at.0 tree sub }
 {
     script.has_strict() && node_of(script, tree, sub) == at.0

@@ -1,11 +1,12 @@
-//! What a node does with any letter where there are strict trees: nothing, or it keeps the letter, or it does its row.
+//! Which letters are apt at a node with strict trees, and which it has to keep.
 #![tactic(auto)]
 
 mod due;
 mod meeting;
-mod orders;
-mod plan;
+mod plans;
 
-pub use meeting::CoreKept;
-pub use orders::is_obeyed_now;
-pub use plan::{CorePlan, plan_core};
+pub use due::{
+    acked_apt, decide_apt, decides_near, is_free, is_of_coordinator, release_apt, wake_apt,
+};
+pub use meeting::{CoreKept, meets, parked, root_waiting, waits_for_show};
+pub use plans::CorePlan;

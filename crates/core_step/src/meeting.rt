@@ -4,15 +4,14 @@ ghost use Rattle.world_model.specs.Strict.{is_born_now, meets};
 ghost use Rattle.world_model.specs.Asked.{asked_ops};
 ghost use Rattle.nc_locks.specs.Locks.{met_in};
 ghost use Rattle.tree_step.specs.Node.{data_of};
-ghost use Rattle.strict_step.specs.State.{core_of};
-ghost use Rattle.core_step.specs.inside.Keeping.{asked_sub, op_marks, parked_kept, raises_to, root_kept, turned_by, waits_for_show};
+ghost use Rattle.tree_step.specs.Core.{core_of};
+ghost use Rattle.core_step.specs.Meeting.{asked_sub, op_marks, parked_kept, raises_to, root_kept, turned_by, waits_for_show};
 
 use letter_types::{Act, Acts, Body, Letter, Why};
 use nc_locks::{Locks, Met, Mode};
 use node_versions::Turns;
 use std::alloc::Global;
-use strict_step::NodeCore;
-use tree_step::{asked_ops, asked_version};
+use tree_step::{NodeCore, asked_ops, asked_version};
 use tv_base::{NoMemory, SubNo, TreeNo, Version};
 use tx_trees::{Script, SubOp};
 
@@ -40,7 +39,7 @@ fn met_by_marks(locks: &Locks, tree: TreeNo, ops: &[SubOp]) -> Option<Met>
 }
 
 /// What a subtransaction of an update tree meets: nothing where there is no strict tree.
-pub(crate) fn meets(core: &NodeCore, letter: &Letter, script: &Script, tree: TreeNo) -> Option<Met>
+pub fn meets(core: &NodeCore, letter: &Letter, script: &Script, tree: TreeNo) -> Option<Met>
     ensures { result ≡ meets script.now tree (asked_ops script.now letter.now.body) (core_of core.now) }
 {
     if !script.has_strict() {
@@ -92,7 +91,7 @@ fn parked_acts(alloc: Global, raises: Option<Version>, act: Act) -> Result<Acts,
 
 /// A subtransaction of an update tree that meets a lock is parked for its holder. It raises the update version before,
 /// if it must.
-pub(crate) fn parked(
+pub fn parked(
     alloc: Global,
     turns: &Turns,
     letter: &Letter,
@@ -128,7 +127,7 @@ fn is_born_now(core: &NodeCore) -> bool
 }
 
 /// Whether a letter that asks a strict tree's subtransaction for its vote is a root that has to wait.
-pub(crate) fn waits_for_show(core: &NodeCore, letter: &Letter) -> bool
+pub fn waits_for_show(core: &NodeCore, letter: &Letter) -> bool
     ensures { result ≡ waits_for_show (data_of core.now.parts) letter.now.body }
 {
     match &letter.body {
@@ -138,7 +137,7 @@ pub(crate) fn waits_for_show(core: &NodeCore, letter: &Letter) -> bool
 }
 
 /// The root of a strict tree that isn't born yet waits until the node shows a version.
-pub(crate) fn root_waiting(alloc: Global, turns: &Turns, tree: TreeNo) -> Result<CoreKept, NoMemory>
+pub fn root_waiting(alloc: Global, turns: &Turns, tree: TreeNo) -> Result<CoreKept, NoMemory>
     ensures { IfOk result (λ kept. kept ≡ root_kept tree turns.now) }
 {
     let mut acts = Acts::new(alloc);

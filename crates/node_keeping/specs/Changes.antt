@@ -11,9 +11,9 @@ use Rattle.pair_counters.specs.Rows.{counts_of}
 use Rattle.world_model.specs.Core.{Core}
 use Rattle.world_model.specs.Keeping.{KeepingNode}
 use Rattle.tree_step.specs.Node.{IsInWindow}
-use Rattle.strict_step.specs.Changes.{MayDoCore, after_core_change}
-use Rattle.strict_step.specs.State.{IsApart, core_of}
-use Rattle.core_step.specs.Plans.{RaisesNear, raised_by}
+use Rattle.tree_step.specs.CoreChanges.{MayDoCore, after_core_change}
+use Rattle.tree_step.specs.Core.{IsApart, core_of}
+use Rattle.tree_step.specs.Raising.{RaisesNear, raised_by}
 use Rattle.node_keeping.specs.declared.change.Keep.{Keep}
 use Rattle.node_keeping.specs.declared.change.Keep.TheVariants.{New, Again}
 use Rattle.node_keeping.specs.declared.change.KeptChange.{KeptChange}

@@ -2,7 +2,7 @@
 use Rattle.std.specs.Prelude.{ℕ}
 use Rattle.tx_trees.specs.ScriptData.{ScriptData}
 use Rattle.world_model.specs.Keeping.{AreKeptAt, KeepingNode}
-use Rattle.strict_step.specs.State.{IsCoreReady, core_of}
+use Rattle.tree_step.specs.Core.{IsCoreReady, core_of}
 use Rattle.node_keeping.specs.declared.state.KeepingParts.{KeepingParts}
 
 -- what its table sees of a node

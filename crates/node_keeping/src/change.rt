@@ -3,7 +3,7 @@ ghost use Rattle.std.specs.Prelude.{◌≡◌};
 ghost use Rattle.node_keeping.specs.Changes.{keeping_out_of};
 
 use letter_types::{Body, Boxed, KeptLetter, StepOut, Why};
-use strict_step::CorePrepared;
+use tree_step::CorePrepared;
 use tv_base::{SubNo, TreeNo, Version};
 
 /// How a letter is kept, last of all.

@@ -1,7 +1,7 @@
 // How a node changes in a step, once the step is prepared.
 ghost use Rattle.std.specs.Prelude.{◌≡◌, OnErr, OnOk};
-ghost use Rattle.core_step.specs.Plans.{raised_by};
-ghost use Rattle.strict_step.specs.Changes.{MayDoCore};
+ghost use Rattle.tree_step.specs.Raising.{raised_by};
+ghost use Rattle.tree_step.specs.CoreChanges.{MayDoCore};
 ghost use Rattle.node_keeping.specs.Changes.{IsKeepingDone, MayDoKeeping, MayBeKept, MayKeepLetter, kept_after, kept_with};
 ghost use Rattle.node_keeping.specs.declared.change.KeepingPrepared.TheVariants.{Does, Keeps};
 
@@ -10,7 +10,7 @@ use crate::state::KeepingParts;
 use kept_letters::KeptLetters;
 use letter_types::{Boxed, StepOut};
 use node_versions::Turns;
-use strict_step::{CorePrepared, core_done};
+use tree_step::{CorePrepared, core_done};
 use tv_base::{NoMemory, Version};
 
 /// Keeps a letter. Where no memory is found what is kept is as it was.

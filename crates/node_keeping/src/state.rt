@@ -1,6 +1,6 @@
 // A node and the letters that it keeps.
 use kept_letters::KeptLetters;
-use strict_step::NodeCore;
+use tree_step::NodeCore;
 
 /// A node: its core, and the letters that it keeps.
 #[derive(Drop)]

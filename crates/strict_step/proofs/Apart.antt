@@ -26,9 +26,9 @@ use Rattle.world_model.specs.Strict.{is_unheld}
 use Rattle.tree_step.specs.Changes.{part_row}
 use Rattle.tree_step.specs.Node.{data_of}
 use Rattle.tree_step.specs.declared.change.TreePrepared.{TreePrepared}
-use Rattle.strict_step.specs.State.{AreApart}
-use Rattle.strict_step.specs.declared.state.NodeCore.{NodeCore}
-use Rattle.strict_step.specs.inside.Answering.{IsApartAfter}
+use Rattle.tree_step.specs.Core.{AreApart}
+use Rattle.tree_step.specs.declared.node_core.NodeCore.{NodeCore}
+use Rattle.strict_step.specs.Answering.{IsApartAfter}
 
 -- a tree that is open after a notice was open before
 noted_some : (k : SubNo) (values : Gets) (o : Option OpenTree) → IsSome (noted_of k values o) → IsSome o

@@ -39,11 +39,11 @@ use Rattle.tree_step.specs.Changes.{MayCount}
 use Rattle.tree_step.specs.Node.{IsReady, Node}
 use Rattle.tree_step.specs.declared.change.Change.TheVariants.{Tree}
 use Rattle.tree_step.specs.declared.change.HomeChange.TheVariants as homes
-use Rattle.strict_step.specs.Changes.{IsCoreStepOf, MayAsk, MayHold, asked_with, core_prepared_row, holds_with, locks_with, prepared_of, refusals_with}
-use Rattle.strict_step.specs.State.{AreApart, IsCoreReady, core_of}
-use Rattle.strict_step.specs.declared.change.HoldChange.TheVariants as holds
-use Rattle.strict_step.specs.declared.change.VoteChange.TheVariants.{Free}
-use Rattle.strict_step.specs.declared.state.NodeCore.{NodeCore}
+use Rattle.tree_step.specs.CoreChanges.{IsCoreStepOf, MayAsk, MayHold, asked_with, core_prepared_row, holds_with, locks_with, prepared_of, refusals_with}
+use Rattle.tree_step.specs.Core.{AreApart, IsCoreReady, core_of}
+use Rattle.tree_step.specs.declared.core_change.HoldChange.TheVariants as holds
+use Rattle.tree_step.specs.declared.core_change.VoteChange.TheVariants.{Free}
+use Rattle.tree_step.specs.declared.node_core.NodeCore.{NodeCore}
 use Rattle.strict_step.specs.inside.Decided.{ack_of, completing, dropped}
 
 -- the items stay in their window, and their versions in order

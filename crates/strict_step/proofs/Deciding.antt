@@ -25,13 +25,13 @@ use Rattle.tree_step.specs.Changes.{MayDo, SendsRequests, after_change, part_row
 use Rattle.tree_step.specs.Node.{Node, data_of}
 use Rattle.tree_step.specs.declared.change.TreePrepared.{TreePrepared}
 use Rattle.strict_step.proofs.Apart.{none_some}
-use Rattle.strict_step.specs.Changes.{IsCoreStepOf, core_prepared_row, locks_with, numbers_of_nodes, refusals_with, with_votes}
-use Rattle.strict_step.specs.State.{AreApart, core_of}
-use Rattle.strict_step.specs.declared.change.CorePrepared.{CorePrepared}
-use Rattle.strict_step.specs.declared.change.HoldChange.TheVariants.{Hold}
-use Rattle.strict_step.specs.declared.change.VoteChange.{VoteChange}
-use Rattle.strict_step.specs.declared.state.NodeCore.{NodeCore}
-use Rattle.strict_step.specs.inside.Answering.{IsApartAfter, IsDecidable, node_after}
+use Rattle.tree_step.specs.CoreChanges.{IsCoreStepOf, core_prepared_row, locks_with, numbers_of_nodes, refusals_with, with_votes}
+use Rattle.tree_step.specs.Core.{AreApart, core_of}
+use Rattle.tree_step.specs.declared.core_change.CorePrepared.{CorePrepared}
+use Rattle.tree_step.specs.declared.core_change.HoldChange.TheVariants.{Hold}
+use Rattle.tree_step.specs.declared.core_change.VoteChange.{VoteChange}
+use Rattle.tree_step.specs.declared.node_core.NodeCore.{NodeCore}
+use Rattle.strict_step.specs.Answering.{IsApartAfter, IsDecidable, node_after}
 
 -- the nodes that a tree visits are nodes
 below_more : (n m : ℕ) (b : Bool) (xs : List ℕ) → n < m → AllByRecursion (λ (q : ℕ). q < m) xs

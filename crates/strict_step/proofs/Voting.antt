@@ -38,11 +38,11 @@ use Rattle.tree_step.specs.Node.{IsOf, data_of}
 use Rattle.tree_step.specs.declared.change.TreePrepared.{TreePrepared}
 use Rattle.tree_step.specs.inside.Opening.{root_answer}
 use Rattle.strict_step.proofs.Apart.{answered_gone, root_unheld}
-use Rattle.strict_step.specs.Changes.{locks_with, refusals_with, with_votes}
-use Rattle.strict_step.specs.State.{AreApart, core_of}
-use Rattle.strict_step.specs.declared.change.VoteChange.{VoteChange}
-use Rattle.strict_step.specs.declared.state.NodeCore.{NodeCore}
-use Rattle.strict_step.specs.inside.Answering.{MayDecide}
+use Rattle.tree_step.specs.CoreChanges.{locks_with, refusals_with, with_votes}
+use Rattle.tree_step.specs.Core.{AreApart, core_of}
+use Rattle.tree_step.specs.declared.core_change.VoteChange.{VoteChange}
+use Rattle.tree_step.specs.declared.node_core.NodeCore.{NodeCore}
+use Rattle.strict_step.specs.Answering.{MayDecide}
 use Rattle.strict_step.specs.inside.Voting.{change_by, refusal_there}
 
 -- the noes after a notice

@@ -1,4 +1,2 @@
-pub mod Answering
 pub mod Decided
-pub mod Openings
 pub mod Voting

@@ -8,18 +8,18 @@ ghost use Rattle.tx_trees.specs.ScriptData.{subs_at, updates, visited_by, visits
 ghost use Rattle.world_model.specs.Strict.{answered, decided, marks, none_refuses, release_letters, to_each};
 ghost use Rattle.tree_step.specs.Changes.{MayDo, SendsRequests, part_row};
 ghost use Rattle.tree_step.specs.Node.{data_of};
-ghost use Rattle.strict_step.specs.Changes.{IsCoreStepOf, numbers_of_nodes, refusals_with, with_votes};
-ghost use Rattle.strict_step.specs.State.{core_of};
-ghost use Rattle.strict_step.specs.inside.Answering.{IsApartAfter, MayDecide, tree_releases};
+ghost use Rattle.tree_step.specs.CoreChanges.{IsCoreStepOf, numbers_of_nodes, refusals_with, with_votes};
+ghost use Rattle.tree_step.specs.Core.{core_of};
+ghost use Rattle.strict_step.specs.Answering.{IsApartAfter, MayDecide, tree_releases};
 
-use crate::change::{CorePrepared, HoldChange, Visited, VoteChange};
 use crate::decisions::client_of;
-use crate::refusals::Refusals;
-use crate::state::NodeCore;
 use letter_types::{Act, Body, Boxed, Letters, Outgoing, StepOut};
 use std::alloc::Global;
 use tree_home::Answered;
-use tree_step::{Prepared, TreePrepared, kind_of, push_reply};
+use tree_step::{
+    CorePrepared, HoldChange, NodeCore, Prepared, Refusals, TreePrepared, Visited, VoteChange,
+    kind_of, push_reply,
+};
 use tv_base::{ActorNo, NoMemory, NodeNo, TreeNo};
 use tx_trees::{Script, Sub, TreeKind};
 
@@ -111,7 +111,7 @@ fn push_tree_releases(
 
 /// The step of an update or a read tree's letter, with what is sent where the tree is answered: its marks go, and the
 /// client hears.
-pub(crate) fn answered_step(
+pub fn answered_step(
     alloc: Global,
     core: &NodeCore,
     script: &Script,

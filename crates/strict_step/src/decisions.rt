@@ -9,20 +9,20 @@ ghost use Rattle.tx_trees.specs.ScriptData.{client_of, subs_at};
 ghost use Rattle.world_model.specs.Decisions.{can_decide};
 ghost use Rattle.world_model.specs.Named.{is_strict_at};
 ghost use Rattle.world_model.specs.Strict.{acked_core, answer_by, answer_letters, decide_core, release_core};
-ghost use Rattle.strict_step.specs.Changes.{IsCoreStepOf};
-ghost use Rattle.strict_step.specs.State.{CanCoreStep, IsCoreReady, core_of};
+ghost use Rattle.tree_step.specs.CoreChanges.{IsCoreStepOf};
+ghost use Rattle.tree_step.specs.Core.{CanCoreStep, IsCoreReady, core_of};
 ghost use Rattle.strict_step.specs.inside.Decided.{ack_of, completing, dropped};
 
-use crate::change::{CorePrepared, HoldChange, VoteChange};
-use crate::refusals::Refusals;
-use crate::state::NodeCore;
 use commute_ops::copy_values;
 use item_versions::Staged;
 use letter_types::{Act, Acts, Answer, Body, Boxed, Letters, StepOut, one_letter};
 use nc_commit::{Decision, stage_decision};
 use std::alloc::Global;
 use tree_home::{Answered, Held, Homes};
-use tree_step::{Change, Counting, HomeChange, Prepared, TreeChange};
+use tree_step::{
+    Change, CorePrepared, Counting, HoldChange, HomeChange, NodeCore, Prepared, Refusals,
+    TreeChange, VoteChange,
+};
 use tv_base::{ActorNo, NoMemory, NodeNo, TreeNo, Version};
 use tx_trees::Script;
 use world_model::Refusal;

@@ -1,19 +1,10 @@
-//! What a node does where there are strict trees: their votes, the decisions on them, and marks of update trees.
+//! What a node does for strict trees: votes, notices of them, decisions on them, and marks of update trees that go.
 #![tactic(auto)]
 
 mod answers;
-mod change;
 mod decisions;
-mod done;
-mod refusals;
-mod state;
-mod trees;
 mod votes;
 
-pub use change::{CorePrepared, HoldChange, Visited, VoteChange, WantedLocks};
+pub use answers::answered_step;
 pub use decisions::{prepare_acked, prepare_decide, prepare_release};
-pub use done::core_done;
-pub use refusals::Refusals;
-pub use state::NodeCore;
-pub use trees::{prepare_read_tree, prepare_update_tree};
 pub use votes::{prepare_note, prepare_vote};

@@ -16,14 +16,11 @@ ghost use Rattle.world_model.specs.Votes.{wanted_by};
 ghost use Rattle.tree_step.specs.Changes.{IsTreePartOf};
 ghost use Rattle.tree_step.specs.Due.{is_due};
 ghost use Rattle.tree_step.specs.Node.{IsInWindow, data_of};
-ghost use Rattle.strict_step.specs.Changes.{IsCoreStepOf};
-ghost use Rattle.strict_step.specs.State.{IsCoreReady, core_of};
+ghost use Rattle.tree_step.specs.CoreChanges.{IsCoreStepOf};
+ghost use Rattle.tree_step.specs.Core.{IsCoreReady, core_of};
 ghost use Rattle.strict_step.specs.inside.Voting.{change_by, no_by, noted_no, no_in_notice, refusal_there};
 
 use crate::answers::{answered_step, decided_step};
-use crate::change::{CorePrepared, VoteChange, WantedLocks};
-use crate::refusals::Refusals;
-use crate::state::NodeCore;
 use commute_ops::{Values, copy_values};
 use item_versions::Staged;
 use letter_types::{Body, Boxed, Cause, Letter, Notice, Vote};
@@ -32,8 +29,8 @@ use nc_locks::Mode;
 use node_versions::Turns;
 use std::alloc::Global;
 use tree_step::{
-    Effect, InVersion, NodeParts, Request, TreePrepared, asked_ops, asked_version, kind_of,
-    prepare_notice, prepare_tree,
+    CorePrepared, Effect, InVersion, NodeCore, NodeParts, Refusals, Request, TreePrepared,
+    VoteChange, WantedLocks, asked_ops, asked_version, kind_of, prepare_notice, prepare_tree,
 };
 use tv_base::{ItemNo, NoMemory, SubNo, TreeNo, Version};
 use tx_trees::{Script, SubOp, TreeKind};

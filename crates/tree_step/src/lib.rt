@@ -1,22 +1,31 @@
-//! What doing a subtransaction counts, sends and answers, whatever kind of tree it is of.
+//! What a node keeps, how it changes in a step, and what doing a subtransaction counts, sends and answers, whatever kind
+//! of tree it is of.
 #![tactic(auto)]
 
 mod asked;
 mod change;
+mod core_change;
+mod core_steps;
 mod counting;
 mod due;
 mod letters;
 mod lookups;
 mod node;
+mod node_core;
 mod notices;
+mod refusals;
 mod replies;
 mod steps;
 
 pub use asked::{InVersion, Request, asked_ops, asked_version, prepare_tree};
 pub use change::{Change, HomeChange, Prepared, TreeChange, TreePrepared, done, done_twice};
+pub use core_change::{CorePrepared, HoldChange, Visited, VoteChange, WantedLocks};
+pub use core_steps::core_done;
 pub use counting::Counting;
 pub use due::{can_obey, is_due};
 pub use lookups::kind_of;
 pub use node::{Effect, NodeParts};
+pub use node_core::NodeCore;
 pub use notices::prepare_notice;
+pub use refusals::Refusals;
 pub use replies::{push_reply, reply};

@@ -12,7 +12,7 @@ use Rattle.pair_counters.specs.Counts.{Counts, no_counts}
 use Rattle.pair_counters.specs.Rows.{counts_of}
 use Rattle.node_keeping.specs.State.{keeping_of}
 use Rattle.node_keeping.specs.declared.state.KeepingParts.{KeepingParts}
-use Rattle.strict_step.specs.State.{IsApart, core_of}
+use Rattle.tree_step.specs.Core.{IsApart, core_of}
 use Rattle.tree_home.specs.HeldAnswers.{held_answers}
 use Rattle.tree_home.specs.Homes.{no_homes, open_trees}
 use Rattle.tree_home.specs.Maps.{by_tree}

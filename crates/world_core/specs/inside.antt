@@ -1,1 +1,3 @@
 pub mod Actors
+pub mod Stays
+pub mod Bringing

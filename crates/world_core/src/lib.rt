@@ -1,10 +1,17 @@
-//! The actors' states and steps, and the world that runs a script one letter at a time.
+//! What a node does with any letter, put together of its steps; the actors' states and steps; and the world that runs a
+//! script one letter at a time.
 #![tactic(auto)]
 
 mod actor;
+mod keeping;
 mod node;
+mod orders;
+mod plan;
+mod trees;
 mod world;
 
 pub use actor::{ActorPrepared, ActorState, actor_done, actor_prepare, actor_step};
+pub use keeping::prepare_letter;
 pub use node::NodeState;
+pub use plan::plan_core;
 pub use world::World;

@@ -13,19 +13,19 @@ ghost use Rattle.tx_trees.specs.Valid.{IsItem};
 ghost use Rattle.world_model.specs.Keeping.{AreKeptAt, keeping_row, start_keeping};
 ghost use Rattle.world_model.specs.Node.{items_at};
 
+use crate::keeping::prepare_letter;
 use commute_ops::{Kind, Value};
 use item_versions::ItemTable;
 use kept_letters::KeptLetters;
 use letter_types::{Letter, StepOut};
 use nc_locks::Locks;
-use node_keeping::{KeepingParts, KeepingPrepared, keeping_done, prepare_letter};
+use node_keeping::{KeepingParts, KeepingPrepared, keeping_done};
 use node_versions::Turns;
 use pair_counters::Counters;
 use std::alloc::Global;
 use std::marker::Model;
-use strict_step::{NodeCore, Refusals};
 use tree_home::Homes;
-use tree_step::NodeParts;
+use tree_step::{NodeCore, NodeParts, Refusals};
 use tv_base::{ItemNo, NoMemory, NodeNo};
 use tx_trees::{ItemRow, Script};
 

@@ -9,10 +9,10 @@ use Rattle.tree_home.specs.declared.homes.Held.{Held}
 use Rattle.tree_step.specs.declared.change.Change.TheVariants.{Tree}
 use Rattle.tree_step.specs.declared.change.HomeChange.TheVariants as homes
 use Rattle.tree_step.specs.declared.change.Prepared.{Prepared}
-use Rattle.strict_step.specs.declared.change.HoldChange.{HoldChange}
-use Rattle.strict_step.specs.declared.change.HoldChange.TheVariants as holds
-use Rattle.strict_step.specs.declared.change.VoteChange.{VoteChange}
-use Rattle.strict_step.specs.declared.change.VoteChange.TheVariants.{Stay, Drop}
+use Rattle.tree_step.specs.declared.core_change.HoldChange.{HoldChange}
+use Rattle.tree_step.specs.declared.core_change.HoldChange.TheVariants as holds
+use Rattle.tree_step.specs.declared.core_change.VoteChange.{VoteChange}
+use Rattle.tree_step.specs.declared.core_change.VoteChange.TheVariants.{Stay, Drop}
 
 -- a completion is counted, and this goes out
 abbrev pub completing : NodeNo → Version → StepOut → Prepared

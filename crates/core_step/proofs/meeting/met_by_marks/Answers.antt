@@ -2,7 +2,7 @@ use Rattle.std.proofs.Common.{refl, ap, sym, ◌∙◌, List}
 use Rattle.std.proofs.lemmas.List.{drop_all}
 use Rattle.nc_locks.specs.Locks.{met_in}
 use Rattle.tx_trees.specs.declared.parts.SubOp.{SubOp}
-use Rattle.core_step.specs.inside.Keeping.{op_marks}
+use Rattle.core_step.specs.Meeting.{op_marks}
 use Rattle.core_step.proofs.Kept.{met_found, met_passed}
 use Rattle.core_step.proofs.meeting.met_by_marks.Goals as goal
 

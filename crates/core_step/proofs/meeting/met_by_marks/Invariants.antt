@@ -1,6 +1,6 @@
 use Rattle.std.proofs.Common.{◌≡◌, drop}
 use Rattle.nc_locks.specs.Locks.{met_in}
-use Rattle.core_step.specs.inside.Keeping.{op_marks}
+use Rattle.core_step.specs.Meeting.{op_marks}
 use Rattle.core_step.proofs.meeting.met_by_marks.Given as goal
 
 -- what the operations meet, those that are left meet

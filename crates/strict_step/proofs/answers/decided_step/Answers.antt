@@ -5,11 +5,11 @@ use Rattle.tree_home.specs.declared.homes.Answered.{Answered}
 use Rattle.world_model.specs.Strict.{decided, to_each}
 use Rattle.tree_step.specs.Changes.{part_row}
 use Rattle.tree_step.specs.Node.{data_of}
-use Rattle.strict_step.specs.Changes.{IsCoreStepOf, numbers_of_nodes, with_votes}
-use Rattle.strict_step.specs.State.{core_of}
-use Rattle.strict_step.specs.declared.change.CorePrepared.{CorePrepared}
-use Rattle.strict_step.specs.declared.change.HoldChange.TheVariants.{Hold}
-use Rattle.strict_step.specs.inside.Answering.{IsDecidable, MayDecide}
+use Rattle.tree_step.specs.CoreChanges.{IsCoreStepOf, numbers_of_nodes, with_votes}
+use Rattle.tree_step.specs.Core.{core_of}
+use Rattle.tree_step.specs.declared.core_change.CorePrepared.{CorePrepared}
+use Rattle.tree_step.specs.declared.core_change.HoldChange.TheVariants.{Hold}
+use Rattle.strict_step.specs.Answering.{IsDecidable, MayDecide}
 use Rattle.strict_step.proofs.Deciding.{decided_change, decided_step}
 use Rattle.strict_step.proofs.answers.decided_step.Goals as goal
 

@@ -1,6 +1,6 @@
 use Rattle.std.proofs.Common.{◌≡◌, ◌++◌, take}
 use Rattle.world_model.specs.Strict.{to_each}
-use Rattle.strict_step.specs.Changes.{numbers_of_nodes}
+use Rattle.tree_step.specs.CoreChanges.{numbers_of_nodes}
 use Rattle.strict_step.proofs.answers.push_each.Given as goal
 
 -- a letter to each node so far

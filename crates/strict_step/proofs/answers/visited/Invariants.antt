@@ -1,6 +1,6 @@
 use Rattle.std.proofs.Common.{◌≡◌}
 use Rattle.tx_trees.specs.ScriptData.{visited}
-use Rattle.strict_step.specs.Changes.{numbers_of_nodes}
+use Rattle.tree_step.specs.CoreChanges.{numbers_of_nodes}
 use Rattle.strict_step.proofs.answers.visited.Given as goal
 
 -- the nodes so far that the tree visits

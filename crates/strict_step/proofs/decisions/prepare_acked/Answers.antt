@@ -1,9 +1,9 @@
 use Rattle.std.proofs.Common.{◌≡◌, ◌∙◌, subst, sym}
 use Rattle.tree_home.specs.HeldAnswers.{held_answers, held_in}
 use Rattle.world_model.specs.Strict.{acked_core}
-use Rattle.strict_step.specs.Changes.{IsCoreStepOf, prepared_of}
-use Rattle.strict_step.specs.State.{core_of}
-use Rattle.strict_step.specs.declared.change.CorePrepared.{CorePrepared}
+use Rattle.tree_step.specs.CoreChanges.{IsCoreStepOf, prepared_of}
+use Rattle.tree_step.specs.Core.{core_of}
+use Rattle.tree_step.specs.declared.core_change.CorePrepared.{CorePrepared}
 use Rattle.strict_step.specs.inside.Decided.{ack_of, completing, dropped}
 use Rattle.strict_step.proofs.Decided.{acked_step}
 use Rattle.strict_step.proofs.decisions.prepare_acked.Goals as goal

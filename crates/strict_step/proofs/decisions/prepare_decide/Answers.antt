@@ -1,9 +1,9 @@
 use Rattle.std.proofs.Common.{subst, sym}
 use Rattle.tree_step.proofs.Rooted.{home_there}
 use Rattle.world_model.specs.Strict.{decide_core}
-use Rattle.strict_step.specs.Changes.{IsCoreStepOf}
-use Rattle.strict_step.specs.State.{core_of}
-use Rattle.strict_step.specs.declared.change.CorePrepared.{CorePrepared}
+use Rattle.tree_step.specs.CoreChanges.{IsCoreStepOf}
+use Rattle.tree_step.specs.Core.{core_of}
+use Rattle.tree_step.specs.declared.core_change.CorePrepared.{CorePrepared}
 use Rattle.strict_step.proofs.Decided.{decide_step}
 use Rattle.strict_step.proofs.decisions.prepare_decide.Goals as goal
 

@@ -7,8 +7,8 @@ use Rattle.world_model.specs.Done.{note_part}
 use Rattle.world_model.specs.Notices.{values_of}
 use Rattle.tree_step.specs.Changes.{part_row}
 use Rattle.tree_step.specs.Node.{data_of}
-use Rattle.strict_step.specs.Changes.{IsCoreStepOf}
-use Rattle.strict_step.specs.State.{core_of}
+use Rattle.tree_step.specs.CoreChanges.{IsCoreStepOf}
+use Rattle.tree_step.specs.Core.{core_of}
 use Rattle.strict_step.proofs.Apart.{apart_noted, apart_part}
 use Rattle.strict_step.proofs.Voting.{note_answered, note_decided, note_decides}
 use Rattle.strict_step.proofs.votes.prepare_note.Goals as goal

@@ -10,7 +10,7 @@ use Rattle.world_model.specs.Core.{Core}
 use Rattle.world_model.specs.Node.{Effect}
 use Rattle.tree_step.proofs.Dues.{asked_near}
 use Rattle.tree_step.specs.Node.{data_of}
-use Rattle.strict_step.specs.Changes.{IsCoreStepOf}
+use Rattle.tree_step.specs.CoreChanges.{IsCoreStepOf}
 use Rattle.strict_step.proofs.Apart.{apart_part, apart_tree}
 use Rattle.strict_step.proofs.Voting.{vote_decides, vote_row}
 use Rattle.strict_step.proofs.votes.prepare_vote.Goals as goal

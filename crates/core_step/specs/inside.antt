@@ -1,3 +1,0 @@
-pub mod Apt
-pub mod Keeping
-pub mod Stays

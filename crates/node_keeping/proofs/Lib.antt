@@ -1,4 +1,0 @@
-pub mod Behind
-pub mod Brought
-pub mod Rows
-pub mod Woken

@@ -1,0 +1,42 @@
+-- When a step of a tree's letter may be answered, or decided.
+use Rattle.std.specs.Prelude.{◌≡◌, ◌<◌, ⊤, if◌then◌else◌, List, [], length, IsTrue, Option, Some, None}
+use Rattle.tv_base.specs.declared.numbers.TreeNo.{TreeNo}
+use Rattle.item_versions.specs.Window.{in_window}
+use Rattle.letter_types.specs.declared.bodies.Body.TheVariants.{Release}
+use Rattle.letter_types.specs.declared.entries.Outgoing.{Outgoing}
+use Rattle.tree_home.specs.HeldAnswers.{held_answers, held_in}
+use Rattle.tree_home.specs.Homes.{home_in}
+use Rattle.tree_home.specs.declared.homes.Answered.{Answered}
+use Rattle.tx_trees.specs.ScriptData.{ScriptData, subs_at, visited_by}
+use Rattle.world_model.specs.Node.{Node}
+use Rattle.world_model.specs.Strict.{marks, to_each}
+use Rattle.tree_step.specs.Changes.{after_change}
+use Rattle.tree_step.specs.Node.{IsOf, data_of}
+use Rattle.tree_step.specs.declared.change.TreePrepared.{TreePrepared}
+use Rattle.tree_step.specs.Core.{AreApart}
+use Rattle.tree_step.specs.declared.node_core.NodeCore.{NodeCore}
+
+-- the node that commuting trees see, after the step
+abbrev pub node_after : TreePrepared → NodeCore → Node
+node_after p n = after_change p.prepared.change p.prepared.out.sent (data_of n.parts)
+
+-- then of no tree that is open an answer is held
+abbrev pub IsApartAfter : TreePrepared → NodeCore → Type 0
+IsApartAfter p n = AreApart (node_after p n).homes (held_answers n.parts.homes)
+
+-- a tree with this answer may be decided: it is there, isn't open any more, its answer isn't held, and its version is
+-- one that the node counts in
+pub record IsDecidable (s : ScriptData) (p : TreePrepared) (n : NodeCore) (a : Answered) : Type 0 where
+  pub script : IsOf s n.parts
+  pub there : 0 < length (subs_at s a.tree.0)
+  pub gone : home_in a.tree (node_after p n).homes ≡ None
+  pub unheld : held_in a.tree (held_answers n.parts.homes) ≡ None
+  pub near : IsTrue (in_window (node_after p n).turns.low.0 a.version.0)
+
+abbrev pub MayDecide : ScriptData → TreePrepared → NodeCore → Option Answered → Type 0
+MayDecide s p n None = ⊤
+MayDecide s p n (Some a) = IsDecidable s p n a
+
+-- what lets the marks of a tree go
+abbrev pub tree_releases : ScriptData → TreeNo → List Outgoing
+tree_releases s t = if marks s t.0 then to_each (Release t) (visited_by s t.0) else []

@@ -1,0 +1,35 @@
+-- A tree that is to be opened is opened before all else, and the node hears of an epoch after all else. Private code alone
+-- cites these definitions.
+use Rattle.std.specs.Prelude.{Option, Some, None}
+use Rattle.tree_step.specs.declared.change.Change.{Change}
+use Rattle.tree_step.specs.declared.change.Change.TheVariants.{Tree}
+use Rattle.tree_step.specs.declared.change.HomeChange.{HomeChange}
+use Rattle.tree_step.specs.declared.change.HomeChange.TheVariants.{Open, Note}
+use Rattle.tree_step.specs.CoreChanges.{prepared_of}
+use Rattle.tree_step.specs.declared.core_change.CorePrepared.{CorePrepared}
+use Rattle.tree_step.specs.declared.core_change.Opening.{Opening}
+
+-- the tree that is to be opened
+abbrev pub opening_of : HomeChange → Option Opening
+opening_of (Open t n v values) = Some (record { tree = t; subs = n; version = v })
+opening_of _ = None
+
+abbrev pub opening_in : Change → Option Opening
+opening_in (Tree c) = opening_of c.home
+opening_in _ = None
+
+-- what is left once it is open: its root's notice is taken down
+abbrev pub home_once_open : HomeChange → HomeChange
+home_once_open (Open t n v values) = Note t (record { 0 = 0 }) values
+home_once_open home = home
+
+abbrev pub changed_once_open : Change → Change
+changed_once_open (Tree c) = Tree (record c { home = home_once_open c.home })
+changed_once_open change = change
+
+abbrev pub once_open : CorePrepared → CorePrepared
+once_open p = record p { prepared = record { change = changed_once_open p.prepared.change; out = p.prepared.out } }
+
+-- the same step, of which the node hears no epoch
+abbrev pub unheard : CorePrepared → CorePrepared
+unheard p = prepared_of p.prepared p.votes p.holds

@@ -1,0 +1,143 @@
+-- What the tests of notices, decisions and acknowledgements say.
+use Rattle.std.proofs.Common.{◌≡◌, ℕ, ◌<◌, ◌==◌, ◌&&◌, ◌||◌, Bool, true, false, not, List, [], ◌∷◌, length, refl, sym, ap, ◌∙◌, arith, Option, Some, None}
+use Rattle.std.specs.Prelude.{nat_lt}
+use Rattle.std.proofs.lemmas.Bool.Decides.{nat_tests}
+use Rattle.std.proofs.lemmas.Bool.{ltb-true}
+use Rattle.tv_base.specs.declared.numbers.SubNo.{SubNo}
+use Rattle.tv_base.specs.declared.numbers.TreeNo.{TreeNo}
+use Rattle.tv_base.specs.declared.numbers.Version.{Version}
+use Rattle.item_versions.specs.Window.{in_window}
+use Rattle.letter_types.specs.declared.bodies.Body.TheVariants.{Done}
+use Rattle.letter_types.specs.declared.bodies.Notice.{Notice}
+use Rattle.tree_home.specs.Homes.{Gets}
+use Rattle.tree_home.specs.declared.homes.Answered.{Answered}
+use Rattle.tx_trees.specs.Counts.{has_strict}
+use Rattle.tx_trees.specs.ScriptData.{ScriptData, home_of, subs_at, visits}
+use Rattle.tx_trees.specs.declared.parts.Sub.{Sub}
+use Rattle.world_model.specs.Core.{Core}
+use Rattle.world_model.specs.Decisions.{can_decide}
+use Rattle.world_model.specs.Named.{is_near, is_strict_at, suits}
+use Rattle.world_model.specs.Node.{Node}
+use Rattle.world_model.specs.Notices.{answer_noted}
+use Rattle.world_model.specs.Strict.{is_near_answer}
+use Rattle.tree_step.specs.Due.{is_due}
+use Rattle.strict_step.proofs.Apart.{answered_gone}
+use Rattle.tree_step.specs.Core.{IsCoreReady}
+use Rattle.tree_step.specs.declared.node_core.NodeCore.{NodeCore}
+use Rattle.core_step.specs.Apt.{acked_apt, decide_apt, near_if}
+
+-- a notice of a tree that isn't strict decides none
+pub decides_none : (s : ScriptData) (st : Node) (t : TreeNo) (k : SubNo) (values : Gets) → is_strict_at s t.0 ≡ false
+    → true ≡ is_near_answer s st (answer_noted t k values st.homes)
+decides_none s st t k values apart = by (answer_noted t k values st.homes) refl where
+  by : (o : Option Answered) → answer_noted t k values st.homes ≡ o → true ≡ is_near_answer s st o
+  by None is = refl
+  by (Some a) is =
+      let own : a.tree ≡ t = (answered_gone t k values st.homes a is).1 in
+      sym (ap (λ (u : TreeNo). not (is_strict_at s u.0) || is_near st a.version) own
+      ∙ ap (λ (b : Bool). not b || is_near st a.version) apart)
+
+-- one of a strict tree does where there is an answer
+pub decides_if : (s : ScriptData) (st : Node) (t : TreeNo) (k : SubNo) (values : Gets) → is_strict_at s t.0 ≡ true
+    → near_if st (answer_noted t k values st.homes) ≡ is_near_answer s st (answer_noted t k values st.homes)
+decides_if s st t k values strict = by (answer_noted t k values st.homes) refl where
+  by : (o : Option Answered) → answer_noted t k values st.homes ≡ o → near_if st o ≡ is_near_answer s st o
+  by None is = refl
+  by (Some a) is =
+      let own : a.tree ≡ t = (answered_gone t k values st.homes a is).1 in
+      sym (ap (λ (u : TreeNo). not (is_strict_at s u.0) || is_near st a.version) own
+      ∙ ap (λ (b : Bool). not b || is_near st a.version) strict)
+
+some_below : (k n : ℕ) → k < n → 0 < n
+some_below k n lt = omega (arith, lt)
+
+-- a node is ready for what another node of the script sent
+pub ready_from : (s : ScriptData) (p from : ℕ) (n : NodeCore) → IsCoreReady s p n → from < s.nodes → IsCoreReady s from n
+ready_from s p from n ready lt = record {
+  parts = record {
+    there = lt;
+    script = ready.parts.script;
+    small = ready.parts.small;
+    window = ready.parts.window;
+  };
+  apart = ready.apart;
+}
+
+-- what a notice that is due says
+pub record IsNotice (s : ScriptData) (from : ℕ) (st : Node) (t : TreeNo) (v : Version) : Type 0 where
+  pub there : 0 < length (subs_at s t.0)
+  pub sent : from < s.nodes
+  pub near : in_window st.turns.low.0 v.0 ≡ true
+
+notice_tests : (a b d e f : Bool) → (true && ((a && (b && (d && e))) && (true && f))) ≡ true
+    → (b ≡ true) × (d ≡ true) × (f ≡ true)
+notice_tests true true true true true is = (refl, refl, refl)
+notice_tests true true true true false is = absurd (cc)
+notice_tests true true true false f is = absurd (cc)
+notice_tests true true false e f is = absurd (cc)
+notice_tests true false d e f is = absurd (cc)
+notice_tests false b d e f is = absurd (cc)
+
+pub is_notice : (s : ScriptData) (p from : ℕ) (st : Node) (t : TreeNo) (k : SubNo) (v : Version) (notice : Notice)
+    → is_due s p st from (Done t k v notice) ≡ true → IsNotice s from st t v
+is_notice s p from st t k v notice due =
+    let all = notice_tests (home_of s t.0 == p) (nat_lt k.0 (length (subs_at s t.0))) (nat_lt from s.nodes)
+    (suits (is_strict_at s t.0) notice) (is_near st v) due in
+    record {
+      there = some_below k.0 (length (subs_at s t.0)) (ltb-true k.0 (length (subs_at s t.0)) all.0);
+      sent = ltb-true from s.nodes all.1;
+      near = all.2;
+    }
+
+-- what a decision that is apt says
+pub record IsDecision (s : ScriptData) (p from : ℕ) (c : Core) (t : TreeNo) (v : Version) (commit : Bool) : Type 0 where
+  pub there : 0 < length (subs_at s t.0)
+  pub sent : from < s.nodes
+  pub near : in_window c.node.turns.low.0 v.0 ≡ true
+  pub strict : is_strict_at s t.0 ≡ true
+  pub can : can_decide s p t v commit c.node.items ≡ true
+
+visits_some : (xs : List Sub) (p : ℕ) → visits xs p ≡ true → 0 < length xs
+visits_some [] p is = absurd (cc)
+visits_some (x ∷ xs) p is = omega arith
+
+decision_tests : (h a b d e f : Bool) → ((h && (a && b)) && (d && (e && f))) ≡ true
+    → (a ≡ true) × (b ≡ true) × (d ≡ true) × (e ≡ true) × (f ≡ true)
+decision_tests true true true true true true is = (refl, refl, refl, refl, refl)
+decision_tests true true true true true false is = absurd (cc)
+decision_tests true true true true false f is = absurd (cc)
+decision_tests true true true false e f is = absurd (cc)
+decision_tests true true false d e f is = absurd (cc)
+decision_tests true false b d e f is = absurd (cc)
+decision_tests false a b d e f is = absurd (cc)
+
+pub is_decision : (s : ScriptData) (p from : ℕ) (c : Core) (t : TreeNo) (v : Version) (commit : Bool)
+    → decide_apt s p from c t v commit ≡ true → IsDecision s p from c t v commit
+is_decision s p from c t v commit apt =
+    let all = decision_tests (has_strict s) (visits (subs_at s t.0) p) (nat_lt from s.nodes) (is_near c.node v)
+    (is_strict_at s t.0) (can_decide s p t v commit c.node.items) apt in
+    record {
+      there = visits_some (subs_at s t.0) p all.0;
+      sent = ltb-true from s.nodes all.1;
+      near = all.2;
+      strict = all.3;
+      can = all.4;
+    }
+
+-- what an acknowledgement that is apt says
+pub record IsAck (s : ScriptData) (from : ℕ) (c : Core) (v : Version) : Type 0 where
+  pub sent : from < s.nodes
+  pub near : in_window c.node.turns.low.0 v.0 ≡ true
+
+ack_tests : (h a b d : Bool) → ((h && (a && b)) && d) ≡ true → (b ≡ true) × (d ≡ true)
+ack_tests true true true true is = (refl, refl)
+ack_tests true true true false is = absurd (cc)
+ack_tests true true false d is = absurd (cc)
+ack_tests true false b d is = absurd (cc)
+ack_tests false a b d is = absurd (cc)
+
+pub is_ack : (s : ScriptData) (p from : ℕ) (c : Core) (t : TreeNo) (v : Version)
+    → acked_apt s p from c t v ≡ true → IsAck s from c v
+is_ack s p from c t v apt =
+    let all = ack_tests (has_strict s) (home_of s t.0 == p) (nat_lt from s.nodes) (is_near c.node v) apt in
+    record { sent = ltb-true from s.nodes all.0; near = all.1 }

@@ -1,0 +1,38 @@
+use Rattle.std.proofs.Common.{refl, sym}
+use Rattle.letter_types.specs.declared.bodies.Body.TheVariants.{Decided}
+use Rattle.tree_step.specs.Core.{core_of}
+use Rattle.core_step.specs.declared.plans.CorePlan.TheVariants.{Still, Does}
+use Rattle.core_step.proofs.Aptness.{ack_apt}
+use Rattle.world_core.proofs.Decisions.{is_ack, ready_from}
+use Rattle.core_step.proofs.Planned.{plan_one}
+use Rattle.world_core.proofs.plan.plan_acked.Goals as goal
+
+pub returns-then-not-acked_apt : goal.returns-then-not-acked_apt
+returns-then-not-acked_apt c =
+    let s = c.args.script.now in
+    let l = c.args.letter.now in
+    let n = c.args.core.now in
+    plan_one s l n (Decided c.args.tree c.args.version) _ Still c.requires.body
+    (ack_apt s l.to.0 l.from.0 (core_of n) c.args.tree c.args.version) (sym c.if-not-acked_apt.ensures)
+
+pub prepare_acked-requires-clause-ready : goal.prepare_acked-requires-clause-ready
+prepare_acked-requires-clause-ready c =
+    let s = c.args.script.now in
+    let l = c.args.letter.now in
+    let n = c.args.core.now in
+    let is = is_ack s l.to.0 l.from.0 (core_of n) c.args.tree c.args.version (sym c.if-not-acked_apt.ensures) in
+    ready_from s l.to.0 l.from.0 n c.requires.ready is.sent
+
+pub prepare_acked-requires-clause-near : goal.prepare_acked-requires-clause-near
+prepare_acked-requires-clause-near c =
+    (is_ack c.args.script.now c.args.letter.now.to.0 c.args.letter.now.from.0 (core_of c.args.core.now) c.args.tree
+    c.args.version (sym c.if-not-acked_apt.ensures)).near
+
+pub returns : goal.returns
+returns c =
+    let s = c.args.script.now in
+    let l = c.args.letter.now in
+    let n = c.args.core.now in
+    plan_one s l n (Decided c.args.tree c.args.version) _ (Does c.in_ok-prepared.prepared) c.requires.body
+    (ack_apt s l.to.0 l.from.0 (core_of n) c.args.tree c.args.version)
+    (record { apt = sym c.if-not-acked_apt.ensures; free = refl; step = c.in_ok-prepared.ensures })

@@ -1,0 +1,29 @@
+use Rattle.std.proofs.Common.{refl, sym}
+use Rattle.letter_types.specs.declared.bodies.Body.TheVariants.{Wake}
+use Rattle.tree_step.specs.Core.{core_of}
+use Rattle.core_step.specs.declared.plans.CorePlan.TheVariants.{Still, Does}
+use Rattle.core_step.proofs.Aptness.{called_apt}
+use Rattle.world_core.proofs.Ordering.{still_done}
+use Rattle.core_step.proofs.Planned.{plan_one}
+use Rattle.world_core.proofs.plan.plan_wake.Goals as goal
+
+pub returns-then-not-wake_apt : goal.returns-then-not-wake_apt
+returns-then-not-wake_apt c =
+    let s = c.args.script.now in
+    let l = c.args.letter.now in
+    let n = c.args.core.now in
+    plan_one s l n (Wake c.args.tree c.args.sub) _ Still c.requires.body
+    (called_apt s l.to.0 l.from.0 (core_of n) c.args.tree c.args.sub) (sym c.if-not-wake_apt.ensures)
+
+pub returns : goal.returns
+returns c =
+    let s = c.args.script.now in
+    let l = c.args.letter.now in
+    let n = c.args.core.now in
+    plan_one s l n (Wake c.args.tree c.args.sub) _ (Does c.in_ok-still_step.field-0) c.requires.body
+    (called_apt s l.to.0 l.from.0 (core_of n) c.args.tree c.args.sub)
+    (record {
+      apt = sym c.if-not-wake_apt.ensures;
+      free = refl;
+      step = still_done s l.to.0 n c.in_ok-still_step.field-0 c.requires.ready c.in_ok-still_step.ensures;
+    })

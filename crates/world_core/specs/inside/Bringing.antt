@@ -1,0 +1,69 @@
+-- What becomes of the letter that another brings to its node. Private code alone cites these definitions.
+use Rattle.std.specs.Prelude.{if◌then◌else◌, ℕ, ◌≡◌, List, [], ◌∷◌, ◌++◌, Some}
+use Rattle.tv_base.specs.declared.numbers.SubNo.{SubNo}
+use Rattle.tv_base.specs.declared.numbers.TreeNo.{TreeNo}
+use Rattle.tv_base.specs.declared.numbers.Version.{Version}
+use Rattle.letter_types.specs.declared.bodies.Body.{Body}
+use Rattle.letter_types.specs.declared.bodies.Body.TheVariants.{Wake, Order}
+use Rattle.letter_types.specs.declared.bodies.What.{What}
+use Rattle.letter_types.specs.declared.entries.Letter.{Letter}
+use Rattle.letter_types.specs.declared.entries.Outgoing.{Outgoing}
+use Rattle.letter_types.specs.declared.kept.Why.{Why}
+use Rattle.letter_types.specs.Kept.{brought, kept_without, wakes, wakes_by, with_called}
+use Rattle.letter_types.specs.Steps.{Out}
+use Rattle.world_model.specs.Core.{Core}
+use Rattle.world_model.specs.Epochs.{plain_order, is_obeyed_now}
+use Rattle.world_model.specs.Keeping.{AreKeptAt, KeepingNode, woken_by}
+use Rattle.world_model.specs.Strict.{CoreKeeping}
+use Rattle.tree_step.specs.declared.core_change.CorePrepared.{CorePrepared}
+use Rattle.node_keeping.specs.declared.change.Keep.{Keep}
+use Rattle.node_keeping.specs.declared.change.Keep.TheVariants.{New, Again}
+use Rattle.node_keeping.specs.declared.state.KeepingParts.{KeepingParts}
+
+-- letter l brings letter r to a node, and what the node keeps was addressed to it
+pub record IsBroughtBy (l r : Letter) (n : KeepingParts) : Type 0 where
+  pub brings : brought n.kept l l.body ≡ Some r
+  pub kept : AreKeptAt l.to.0 n.kept
+
+-- what came is kept as this subtransaction, for this reason: again, where it is a Wake
+abbrev pub keep_by : Letter → TreeNo → SubNo → Why → Body → Keep
+keep_by l t k why (Wake u j) = Again t k why
+keep_by l t k why _ = New (record { letter = l; tree = t; sub = k; why = why })
+
+-- letter l came and brought letter r, which is kept
+abbrev pub kept_out : Letter → Letter → KeepingNode → CoreKeeping → Out KeepingNode
+kept_out l r n k = record {
+  state = record {
+    core = k.state;
+    kept = kept_without n.kept l.body ++ record { letter = r; tree = k.tree; sub = k.sub; why = k.why } ∷ [];
+  };
+  sent = [];
+  acts = k.acts;
+}
+
+-- or it is done, this came of it at the core, and what waited for it is woken
+abbrev pub done_out : Letter → Letter → KeepingNode → Out Core → Out KeepingNode
+done_out l r n o = record {
+  state = record { core = o.state; kept = with_called (woken_by n.core r.body) (kept_without n.kept l.body) };
+  sent = o.sent ++ wakes (woken_by n.core r.body) (kept_without n.kept l.body);
+  acts = o.acts;
+}
+
+-- the same where a letter of this body brought itself
+abbrev pub waking_out : Body → KeepingNode → Out Core → Out KeepingNode
+waking_out body n o = record {
+  state = record { core = o.state; kept = with_called (wakes_by body) n.kept };
+  sent = o.sent ++ wakes (wakes_by body) n.kept;
+  acts = o.acts;
+}
+
+-- a letter that wakes just what an order of a coordinator that forgets wakes: the order for which it stands, if it takes
+-- effect; else the order itself, which wakes nothing
+abbrev pub waking_order : ℕ → What → Version → Core → Body
+waking_order e what v c = if is_obeyed_now e what v c then plain_order what v else Order e what v
+
+-- the same step, which sends these letters behind its own
+abbrev pub sent_behind : List Outgoing → CorePrepared → CorePrepared
+sent_behind more p = record p {
+  prepared = record p.prepared { out = record p.prepared.out { sent = p.prepared.out.sent ++ more } };
+}

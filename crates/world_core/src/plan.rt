@@ -1,0 +1,400 @@
+// Which letter goes to which step of a core.
+ghost use Rattle.std.specs.Prelude.{◌≡◌, true, IfOk, IsTrue, Some};
+ghost use Rattle.letter_types.specs.declared.bodies.Body.TheVariants.{Decide, Decided, Done, Release, Wake};
+ghost use Rattle.tree_home.specs.HeldAnswers.{held_answers};
+ghost use Rattle.tx_trees.specs.declared.parts.TreeKind.TheVariants.{Read, Strict, Update};
+ghost use Rattle.world_model.specs.Asked.{asked_ops};
+ghost use Rattle.world_model.specs.Epochs.{is_of_coordinator};
+ghost use Rattle.world_model.specs.Named.{tree_kind_at};
+ghost use Rattle.world_model.specs.Reads.{can_read};
+ghost use Rattle.world_model.specs.Strict.{core_by_kind, is_unheld, kept_by_kind, meets, read_core, strict_core, update_core};
+ghost use Rattle.world_model.specs.Updates.{can_update};
+ghost use Rattle.tree_step.specs.Due.{is_due};
+ghost use Rattle.tree_step.specs.Node.{data_of};
+ghost use Rattle.tree_step.specs.Core.{IsCoreReady, core_of};
+ghost use Rattle.core_step.specs.Plans.{IsPlanBy, IsPlanOf};
+ghost use Rattle.core_step.specs.declared.plans.CorePlan.TheVariants.{Does};
+ghost use Rattle.core_step.specs.Apt.{IsOwnPlan, asks_a_sub, makes_by, tree_apt};
+
+use crate::orders::{
+    plan_ask, plan_asked_row, plan_done_row, plan_order, plan_other, plan_plain, still_step,
+};
+use crate::trees::{prepare_read_tree, prepare_update_tree};
+use core_step::{
+    CorePlan, acked_apt, decide_apt, decides_near, is_free, is_of_coordinator, meets, parked,
+    release_apt, root_waiting, waits_for_show, wake_apt,
+};
+use letter_types::{Body, Letter, Notice, What};
+use nc_commit::Decision;
+use nc_locks::Met;
+use std::alloc::Global;
+use strict_step::{prepare_acked, prepare_decide, prepare_note, prepare_release, prepare_vote};
+use tree_step::{NodeCore, Request, is_due, kind_of};
+use tv_base::{NoMemory, NodeNo, SubNo, TreeNo, Version};
+use tx_trees::{Script, TreeKind};
+use update_step::update_part;
+
+/// Whether the operations of a subtransaction of an update tree may be made.
+fn can_update(
+    alloc: Global,
+    core: &NodeCore,
+    letter: &Letter,
+    script: &Script,
+) -> Result<bool, NoMemory>
+    requires ready { IsCoreReady script.now letter.now.to.0 core.now }
+    requires due { IsTrue (is_due script.now letter.now.to.0 (data_of core.now.parts) letter.now.from.0 letter.now.body) }
+    ensures { IfOk result (λ can. can ≡ can_update script.now (data_of core.now.parts) letter.now.body) }
+{
+    let part = update_part(alloc, &core.parts, letter, script)?;
+    Ok(part.is_some())
+}
+
+/// A subtransaction of an update tree that meets a lock: it is parked, if its operations may be made.
+fn plan_parked(
+    alloc: Global,
+    core: &NodeCore,
+    letter: &Letter,
+    script: &Script,
+    tree: TreeNo,
+    met: Met,
+) -> Result<CorePlan, NoMemory>
+    // What the caller knows.
+    requires ready { IsCoreReady script.now letter.now.to.0 core.now }
+    requires asks { IsTrue (asks_a_sub letter.now.body) }
+    requires due { IsTrue (is_due script.now letter.now.to.0 (data_of core.now.parts) letter.now.from.0 letter.now.body) }
+    requires met { meets script.now tree (asked_ops script.now letter.now.body) (core_of core.now) ≡ Some met }
+    // What is planned.
+    ensures { IfOk result (IsPlanBy (can_update script.now (data_of core.now.parts) letter.now.body)
+        (kept_by_kind script.now (core_of core.now) tree letter.now.body (Some Update))
+        (update_core script.now letter.now.to.0 letter.now.from.0 tree letter.now.body (core_of core.now)) core.now) }
+{
+    if !can_update(alloc, core, letter, script)? {
+        return Ok(CorePlan::Still);
+    }
+    let kept = parked(alloc, &core.parts.turns, letter, tree, met)?;
+    Ok(CorePlan::Keeps(kept))
+}
+
+/// A subtransaction of an update tree.
+fn plan_update(
+    alloc: Global,
+    core: &NodeCore,
+    letter: &Letter,
+    script: &Script,
+    tree: TreeNo,
+) -> Result<CorePlan, NoMemory>
+    // What the caller knows.
+    requires ready { IsCoreReady script.now letter.now.to.0 core.now }
+    requires asks { IsTrue (asks_a_sub letter.now.body) }
+    requires due { IsTrue (is_due script.now letter.now.to.0 (data_of core.now.parts) letter.now.from.0 letter.now.body) }
+    requires unheld { IsTrue (is_unheld letter.now.body (held_answers core.now.parts.homes)) }
+    // What is planned.
+    ensures { IfOk result (IsPlanBy (can_update script.now (data_of core.now.parts) letter.now.body)
+        (kept_by_kind script.now (core_of core.now) tree letter.now.body (Some Update))
+        (update_core script.now letter.now.to.0 letter.now.from.0 tree letter.now.body (core_of core.now)) core.now) }
+{
+    if let Some(met) = meets(core, letter, script, tree) {
+        return plan_parked(alloc, core, letter, script, tree, met);
+    }
+    let Some(prepared) = prepare_update_tree(alloc, core, letter, script, tree)? else {
+        return Ok(CorePlan::Still);
+    };
+    Ok(CorePlan::Does(prepared))
+}
+
+/// A subtransaction of a read tree.
+fn plan_read(
+    alloc: Global,
+    core: &NodeCore,
+    letter: &Letter,
+    script: &Script,
+    tree: TreeNo,
+) -> Result<CorePlan, NoMemory>
+    // What the caller knows.
+    requires ready { IsCoreReady script.now letter.now.to.0 core.now }
+    requires due { IsTrue (is_due script.now letter.now.to.0 (data_of core.now.parts) letter.now.from.0 letter.now.body) }
+    requires unheld { IsTrue (is_unheld letter.now.body (held_answers core.now.parts.homes)) }
+    // What is planned.
+    ensures { IfOk result (IsPlanBy (can_read script.now (data_of core.now.parts) letter.now.body)
+        (kept_by_kind script.now (core_of core.now) tree letter.now.body (Some Read))
+        (read_core script.now letter.now.to.0 letter.now.from.0 letter.now.body (core_of core.now)) core.now) }
+{
+    let _ = tree;
+    let Some(prepared) = prepare_read_tree(alloc, core, letter, script)? else {
+        return Ok(CorePlan::Still);
+    };
+    Ok(CorePlan::Does(prepared))
+}
+
+/// A subtransaction of a strict tree: it votes, unless it is a root that has to wait.
+fn plan_strict(
+    alloc: Global,
+    core: &NodeCore,
+    letter: &Letter,
+    script: &Script,
+    tree: TreeNo,
+) -> Result<CorePlan, NoMemory>
+    // What the caller knows.
+    requires ready { IsCoreReady script.now letter.now.to.0 core.now }
+    requires due { IsTrue (is_due script.now letter.now.to.0 (data_of core.now.parts) letter.now.from.0 letter.now.body) }
+    requires unheld { IsTrue (is_unheld letter.now.body (held_answers core.now.parts.homes)) }
+    // What is planned.
+    ensures { IfOk result (IsPlanBy true
+        (kept_by_kind script.now (core_of core.now) tree letter.now.body (Some Strict))
+        (strict_core script.now letter.now.to.0 letter.now.from.0 tree letter.now.body (core_of core.now)) core.now) }
+{
+    if waits_for_show(core, letter) {
+        let kept = root_waiting(alloc, &core.parts.turns, tree)?;
+        return Ok(CorePlan::Keeps(kept));
+    }
+    let prepared = prepare_vote(alloc, core, letter, script, tree)?;
+    Ok(CorePlan::Does(prepared))
+}
+
+/// A subtransaction of a tree of this kind.
+fn plan_kind(
+    alloc: Global,
+    core: &NodeCore,
+    letter: &Letter,
+    script: &Script,
+    tree: TreeNo,
+    kind: Option<TreeKind>,
+) -> Result<CorePlan, NoMemory>
+    // What the caller knows.
+    requires ready { IsCoreReady script.now letter.now.to.0 core.now }
+    requires asks { IsTrue (asks_a_sub letter.now.body) }
+    requires due { IsTrue (is_due script.now letter.now.to.0 (data_of core.now.parts) letter.now.from.0 letter.now.body) }
+    requires unheld { IsTrue (is_unheld letter.now.body (held_answers core.now.parts.homes)) }
+    // What is planned.
+    ensures { IfOk result (IsPlanBy (makes_by script.now (data_of core.now.parts) letter.now.body kind)
+        (kept_by_kind script.now (core_of core.now) tree letter.now.body kind)
+        (core_by_kind script.now letter.now.to.0 letter.now.from.0 tree letter.now.body kind (core_of core.now)) core.now) }
+{
+    let Some(kind) = kind else {
+        return Ok(CorePlan::Still);
+    };
+    match kind {
+        TreeKind::Update => plan_update(alloc, core, letter, script, tree),
+        TreeKind::Read => plan_read(alloc, core, letter, script, tree),
+        TreeKind::Strict => plan_strict(alloc, core, letter, script, tree),
+    }
+}
+
+/// A letter that asks for a subtransaction of a tree.
+#[inline(always)]
+fn plan_tree(
+    alloc: Global,
+    core: &NodeCore,
+    letter: &Letter,
+    script: &Script,
+    tree: TreeNo,
+) -> Result<CorePlan, NoMemory>
+    // What the caller knows.
+    requires ready { IsCoreReady script.now letter.now.to.0 core.now }
+    requires asks { IsTrue (asks_a_sub letter.now.body) }
+    // What is planned.
+    ensures { IfOk result (IsPlanBy
+        (tree_apt script.now letter.now.to.0 letter.now.from.0 (core_of core.now) tree letter.now.body)
+        (kept_by_kind script.now (core_of core.now) tree letter.now.body (tree_kind_at script.now tree.0))
+        (core_by_kind script.now letter.now.to.0 letter.now.from.0 tree letter.now.body (tree_kind_at script.now tree.0)
+        (core_of core.now)) core.now) }
+{
+    if !is_free(core, letter, script) {
+        return Ok(CorePlan::Still);
+    }
+    let kind = kind_of(script, tree);
+    plan_kind(alloc, core, letter, script, tree, kind)
+}
+
+/// A notice at its tree's home.
+fn plan_note(
+    alloc: Global,
+    core: &NodeCore,
+    letter: &Letter,
+    script: &Script,
+    request: Request,
+    notice: &Notice,
+) -> Result<CorePlan, NoMemory>
+    // What the caller knows.
+    requires ready { IsCoreReady script.now letter.now.to.0 core.now }
+    requires body { letter.now.body ≡ Done request.tree request.sub request.version notice.now }
+    requires from { request.from.0 ≡ letter.now.from.0 }
+    // What is planned.
+    ensures { IfOk result (IsOwnPlan script.now letter.now core.now) }
+{
+    if !is_due(&core.parts, letter, script) {
+        return Ok(CorePlan::Still);
+    }
+    if !decides_near(alloc, core, script, request, notice)? {
+        return Ok(CorePlan::Still);
+    }
+    let prepared = prepare_note(alloc, core, script, request, notice)?;
+    Ok(CorePlan::Does(prepared))
+}
+
+/// A decision on a strict tree.
+fn plan_decide(
+    alloc: Global,
+    core: &NodeCore,
+    letter: &Letter,
+    script: &Script,
+    decision: Decision,
+) -> Result<CorePlan, NoMemory>
+    // What the caller knows.
+    requires ready { IsCoreReady script.now letter.now.to.0 core.now }
+    requires body { letter.now.body ≡ Decide decision.tree decision.version decision.commit }
+    // What is planned.
+    ensures { IfOk result (IsOwnPlan script.now letter.now core.now) }
+{
+    if !decide_apt(core, letter, script, decision) {
+        return Ok(CorePlan::Still);
+    }
+    let node = NodeNo(letter.to.0);
+    let from = NodeNo(letter.from.0);
+    let prepared = prepare_decide(alloc, core, script, node, from, decision)?;
+    Ok(CorePlan::Does(prepared))
+}
+
+/// An acknowledgement at a strict tree's home.
+fn plan_acked(
+    alloc: Global,
+    core: &NodeCore,
+    letter: &Letter,
+    script: &Script,
+    tree: TreeNo,
+    version: Version,
+) -> Result<CorePlan, NoMemory>
+    // What the caller knows.
+    requires ready { IsCoreReady script.now letter.now.to.0 core.now }
+    requires body { letter.now.body ≡ Decided tree version }
+    // What is planned.
+    ensures { IfOk result (IsOwnPlan script.now letter.now core.now) }
+{
+    if !acked_apt(core, letter, script, tree, version) {
+        return Ok(CorePlan::Still);
+    }
+    let from = NodeNo(letter.from.0);
+    let prepared = prepare_acked(alloc, core, script, from, tree, version)?;
+    Ok(CorePlan::Does(prepared))
+}
+
+/// Marks of an update tree that go.
+fn plan_release(
+    alloc: Global,
+    core: &NodeCore,
+    letter: &Letter,
+    script: &Script,
+    tree: TreeNo,
+) -> Result<CorePlan, NoMemory>
+    // What the caller knows.
+    requires ready { IsCoreReady script.now letter.now.to.0 core.now }
+    requires body { letter.now.body ≡ Release tree }
+    // What is planned.
+    ensures { IfOk result (IsOwnPlan script.now letter.now core.now) }
+{
+    if !release_apt(script, letter.to, tree) {
+        return Ok(CorePlan::Still);
+    }
+    let prepared = prepare_release(alloc, core, tree)?;
+    Ok(CorePlan::Does(prepared))
+}
+
+/// A Wake, for which a core does nothing.
+fn plan_wake(
+    alloc: Global,
+    core: &NodeCore,
+    letter: &Letter,
+    script: &Script,
+    tree: TreeNo,
+    sub: SubNo,
+) -> Result<CorePlan, NoMemory>
+    // What the caller knows.
+    requires ready { IsCoreReady script.now letter.now.to.0 core.now }
+    requires body { letter.now.body ≡ Wake tree sub }
+    // What is planned.
+    ensures { IfOk result (IsOwnPlan script.now letter.now core.now) }
+{
+    if !wake_apt(script, letter.to, tree, sub) {
+        return Ok(CorePlan::Still);
+    }
+    Ok(CorePlan::Does(still_step(alloc)?))
+}
+
+/// What a core does with a letter that the script's kind of coordinator allows.
+#[inline(always)]
+fn plan_own(
+    alloc: Global,
+    core: &NodeCore,
+    letter: &Letter,
+    script: &Script,
+) -> Result<CorePlan, NoMemory>
+    requires { IsCoreReady script.now letter.now.to.0 core.now }
+    ensures { IfOk result (IsOwnPlan script.now letter.now core.now) }
+{
+    match &letter.body {
+        Body::Root { tree } => plan_tree(alloc, core, letter, script, *tree),
+        Body::Sub { tree, .. } => plan_tree(alloc, core, letter, script, *tree),
+        Body::Done {
+            tree,
+            sub,
+            version,
+            notice,
+        } => {
+            let request = Request {
+                tree: *tree,
+                sub: *sub,
+                version: *version,
+                from: NodeNo(letter.from.0),
+            };
+            plan_note(alloc, core, letter, script, request, notice)
+        }
+        Body::Decide {
+            tree,
+            version,
+            commit,
+        } => {
+            let decision = Decision {
+                tree: *tree,
+                version: *version,
+                commit: *commit,
+            };
+            plan_decide(alloc, core, letter, script, decision)
+        }
+        Body::Decided { tree, version } => plan_acked(alloc, core, letter, script, *tree, *version),
+        Body::Release { tree } => plan_release(alloc, core, letter, script, *tree),
+        Body::Wake { tree, sub } => plan_wake(alloc, core, letter, script, *tree, *sub),
+        Body::Turn { version } => plan_plain(alloc, core, letter, script, What::Turn, *version),
+        Body::Show { version } => plan_plain(alloc, core, letter, script, What::Show, *version),
+        Body::Sweep { version } => plan_plain(alloc, core, letter, script, What::Sweep, *version),
+        Body::Order {
+            epoch,
+            what,
+            version,
+        } => plan_order(alloc, core, letter, script, *epoch, *what, *version),
+        Body::Ask { epoch } => plan_ask(alloc, core, letter, script, *epoch),
+        Body::AskDone { version, round } => {
+            plan_done_row(alloc, core, letter, script, *version, *round)
+        }
+        Body::AskAsked { version, round } => {
+            plan_asked_row(alloc, core, letter, script, *version, *round)
+        }
+        _ => plan_other(alloc, core, letter, script),
+    }
+}
+
+/// What a core does with a letter: nothing where it isn't apt; else it keeps the letter where it has to, and does its row
+/// where not (docs/ALGORITHM.md, "Nodes with strict trees").
+pub fn plan_core(
+    alloc: Global,
+    core: &NodeCore,
+    letter: &Letter,
+    script: &Script,
+) -> Result<CorePlan, NoMemory>
+    requires { IsCoreReady script.now letter.now.to.0 core.now }
+    ensures { IfOk result (IsPlanOf script.now letter.now core.now) }
+{
+    if !is_of_coordinator(script, &letter.body) {
+        return Ok(CorePlan::Still);
+    }
+    plan_own(alloc, core, letter, script)
+}
