@@ -76,6 +76,3 @@ impl<P: PostName> Bag<P> {
         self.envelopes.remove(place % count)
     }
 }
-
-#[cfg(test)]
-mod tests;

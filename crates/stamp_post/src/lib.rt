@@ -10,6 +10,3 @@ mod seats;
 pub use name::PostName;
 pub use post::{Gathered, Post, PostParts};
 pub use seats::{ActorSeat, Envelope, Gatherer, Outbox, Receipt, Receipts, Seats};
-
-#[cfg(test)]
-mod tests;

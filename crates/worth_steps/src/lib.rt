@@ -8,6 +8,3 @@ mod worths;
 
 pub use change::Change;
 pub use worths::Worths;
-
-#[cfg(test)]
-mod tests;

@@ -1,9 +1,9 @@
-use crate::Worths;
 use commute_ops::{Amount, Kind, Op, Value};
 use script_parts::parts::Deed;
 use std::alloc::Global;
 use std::test::Fail;
 use tv_base::Version;
+use worth_steps::Worths;
 
 /// The number of a sum or a top at a version.
 fn number_at(alloc: Global, worths: &Worths, v: u64) -> Result<Amount, Fail> {

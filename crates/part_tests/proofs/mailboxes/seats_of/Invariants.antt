@@ -1,5 +1,5 @@
 use Rattle.std.proofs.Common.{◌≡◌, All}
-use Rattle.message_bag.proofs.tests.seats_of.Given as goal
+use Rattle.part_tests.proofs.mailboxes.seats_of.Given as goal
 
 abbrev pub invariant-loop-cell : goal.invariant-loop-cell
 invariant-loop-cell g l = All (λ s. s.post ≡ g.P.PostName.post) l.seats

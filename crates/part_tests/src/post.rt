@@ -2,8 +2,8 @@ ghost use Rattle.std.specs.Prelude.{◌≡◌, ◌<◌, All, [], ◌∷◌, leng
 ghost use Rattle.stamp_post.specs.Logs.{most};
 ghost use Rattle.stamp_post.specs.Shown.{AreToActors};
 
-use super::*;
 use letter_types::{Body, Letters, Outgoing};
+use stamp_post::{ActorSeat, Envelope, Outbox, Post, PostParts, Receipt, Receipts, Seats};
 use std::alloc::Global;
 use std::test::Fail;
 use tv_base::{ActorNo, NoMemory, Stamp};

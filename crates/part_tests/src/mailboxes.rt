@@ -1,11 +1,11 @@
 ghost use Rattle.std.specs.Prelude.{◌≡◌, ◌<◌, ◌≤◌, All, length, IfOk, IfSome};
 ghost use Rattle.stamp_post.specs.Shown.{AreToActors, new_seats};
 
-use super::*;
 use letter_types::{Body, Letter, Letters, Outgoing};
-use stamp_post::{ActorSeat, Outbox, Post, PostParts, Receipts, Seats};
+use message_bag::Bag;
+use stamp_post::{ActorSeat, Envelope, Outbox, Post, PostName, PostParts, Receipts, Seats};
 use std::alloc::Global;
-use std::marker::Brand;
+use std::marker::{Brand, Model, PhantomData};
 use std::sync::atomic::{AtomicU64, Ordering};
 use std::sync::{Mutex, Wait};
 use std::test::Fail;
