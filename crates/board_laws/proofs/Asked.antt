@@ -36,8 +36,8 @@ use Rattle.tree_laws.proofs.AptStagesOwn.{Doing, asked}
 use Rattle.tree_laws.proofs.AptTurns.{sub_has_turns}
 use Rattle.tree_laws.proofs.AptVersions.{before}
 use Rattle.tree_laws.proofs.Counted.{dids_in, was_done_of}
-use Rattle.run_laws.proofs.EveryDid.{dids_are_turns}
-use Rattle.run_laws.proofs.EveryWhole.{strict_is}
+use Rattle.epoch_laws.proofs.EveryDid.{dids_are_turns}
+use Rattle.epoch_laws.proofs.EveryWhole.{strict_is}
 use Rattle.rule_laws.proofs.Decisions.{no_dids, was_voted_of}
 use Rattle.rule_laws.proofs.Deeds.{turn_sums}
 use Rattle.rule_laws.proofs.Fronts.{front}

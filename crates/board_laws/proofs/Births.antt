@@ -24,8 +24,8 @@ use Rattle.tree_laws.proofs.AptVersions.{before, not_born}
 use Rattle.tree_laws.proofs.Counted.{unborn}
 use Rattle.phase_laws.proofs.Brought.{BringsTo, brought_meant, brought_outstanding}
 use Rattle.phase_laws.proofs.LevelAt.{unread}
-use Rattle.run_laws.proofs.EveryApt.{all_apt}
-use Rattle.run_laws.proofs.EveryWhole.{strict_is}
+use Rattle.epoch_laws.proofs.EveryApt.{all_apt}
+use Rattle.epoch_laws.proofs.EveryWhole.{strict_is}
 use Rattle.rule_laws.proofs.Fronts.{counted_front, front, place_of, placed}
 use Rattle.rule_laws.proofs.Late.{births_once, born_here, no_reader, strict_writes}
 use Rattle.board_laws.proofs.NodeNumbers.{node_numbers}

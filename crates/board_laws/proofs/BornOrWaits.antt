@@ -46,10 +46,10 @@ use Rattle.world_model.proofs.Meant.{letters_are_meant}
 use Rattle.tree_laws.proofs.Histories.{before_more}
 use Rattle.phase_laws.proofs.Brought.{BringsTo, brought_meant}
 use Rattle.phase_laws.proofs.Progress.{brings_to}
-use Rattle.run_laws.proofs.AtOnce.{called_asks}
-use Rattle.run_laws.proofs.EveryApt.{all_apt}
-use Rattle.run_laws.proofs.EveryWhole.{strict_is}
-use Rattle.run_laws.proofs.KeepingActs.{OfKeeping, client_none, coordinator_none, does_none}
+use Rattle.epoch_laws.proofs.AtOnce.{called_asks}
+use Rattle.epoch_laws.proofs.EveryApt.{all_apt}
+use Rattle.epoch_laws.proofs.EveryWhole.{strict_is}
+use Rattle.epoch_laws.proofs.KeepingActs.{OfKeeping, client_none, coordinator_none, does_none}
 use Rattle.rule_laws.proofs.Fronts.{placed}
 use Rattle.board_laws.specs.Waiting.{IsBornOrWaits, IsForRoot, RootsAreBornOrWait, WaitsForRoot, lets_wait, strict_root, waits_among}
 use Rattle.board_laws.proofs.NodeNumbers.{AreNumbers, node_numbers}

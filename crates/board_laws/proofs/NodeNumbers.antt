@@ -41,7 +41,7 @@ use Rattle.board_rules.specs.Histories.{Place, places_at, places_of}
 use Rattle.board_rules.specs.Moves.{number_after, showed_to, swept_to, turned_to, version_or, low_after, read_after, update_after}
 use Rattle.board_rules.proofs.Places.{places_more}
 use Rattle.tree_laws.proofs.AptVersions.{before}
-use Rattle.run_laws.proofs.EveryApt.{all_apt}
+use Rattle.epoch_laws.proofs.EveryApt.{all_apt}
 use Rattle.rule_laws.proofs.Fronts.{placed}
 use Rattle.letter_types.specs.declared.acts.Act.TheVariants as acts
 use Rattle.letter_types.specs.declared.bodies.Notice.TheVariants as notices

@@ -41,7 +41,7 @@ use Rattle.tree_laws.proofs.AptVersions.{before}
 use Rattle.phase_laws.proofs.Brought.{BringsTo}
 use Rattle.phase_laws.proofs.Progress.{brings_to}
 use Rattle.phase_laws.proofs.Working.{reads_by}
-use Rattle.run_laws.proofs.EveryApt.{all_apt}
+use Rattle.epoch_laws.proofs.EveryApt.{all_apt}
 use Rattle.rule_laws.proofs.Fronts.{front}
 
 -- such an act

@@ -24,10 +24,10 @@ use Rattle.phase_laws.specs.Phases.{Stage, ShowStage, SweepStage, TurnStage, sta
 use Rattle.phase_laws.proofs.Advancing.{IsOrderGiven, brought_turned, taken_ahead, taken_given}
 use Rattle.phase_laws.proofs.Brought.{BringsTo, IsAsking}
 use Rattle.phase_laws.proofs.Progress.{itself}
-use Rattle.run_laws.proofs.Closed.{read_there}
-use Rattle.run_laws.proofs.InTime.{advancing_run}
-use Rattle.run_laws.proofs.Reached.{whole_run}
-use Rattle.run_laws.proofs.Woken.{new_ahead}
+use Rattle.epoch_laws.proofs.Closed.{read_there}
+use Rattle.epoch_laws.proofs.InTime.{advancing_run}
+use Rattle.epoch_laws.proofs.Reached.{whole_run}
+use Rattle.epoch_laws.proofs.Woken.{new_ahead}
 use Rattle.rule_laws.proofs.Fronts.{front}
 use Rattle.rule_laws.proofs.Late.{no_reader, writer_there}
 use Rattle.board_laws.proofs.NodeNumbers.{node_numbers}

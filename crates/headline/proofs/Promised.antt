@@ -9,7 +9,7 @@ use Rattle.headline.proofs.Finished.{whole_at_end}
 use Rattle.headline.proofs.Settled.{settled}
 use Rattle.letter_types.specs.declared.entries.Entry.{Entry}
 use Rattle.headline.proofs.BoardRuns.{board_run}
-use Rattle.run_laws.proofs.AtOnce.{all_at_once}
+use Rattle.epoch_laws.proofs.AtOnce.{all_at_once}
 use Rattle.run_laws.proofs.Taken.{taken_run}
 use Rattle.worth_laws.proofs.CommittedGets.{gets_are_the_fold}
 use Rattle.worth_laws.proofs.Right.{right_run}

@@ -17,7 +17,7 @@ use Rattle.board_rules.specs.Right.{HasFinished}
 use Rattle.board_rules.specs.Worth.{is_written, worth}
 use Rattle.tree_laws.specs.SeenAt.{seen_at}
 use Rattle.world_model.specs.Runs.{IsStepRun, node_in}
-use Rattle.run_laws.specs.Shown.{WritersAreWhole}
+use Rattle.epoch_laws.specs.Shown.{WritersAreWhole}
 use Rattle.worth_laws.proofs.OwnWorth.{own_is_worth, shown_is_closed}
 use Rattle.worth_laws.specs.Written.{holds_of}
 use Rattle.worth_laws.proofs.HeldWritten.{held_is_written}

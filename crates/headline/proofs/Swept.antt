@@ -27,8 +27,8 @@ use Rattle.world_model.proofs.Epochs.{Anew, Orders, Plainly}
 use Rattle.world_model.proofs.Every.{node_kept}
 use Rattle.world_model.proofs.Cases.{Case, Coordinates, Does, Keeps, NodeDoes, NodeKeeps, Submits, case}
 use Rattle.world_model.proofs.Keepings.{of_kept}
-use Rattle.run_laws.proofs.EveryApt.{all_apt}
-use Rattle.run_laws.proofs.InTime.{advancing_run}
+use Rattle.epoch_laws.proofs.EveryApt.{all_apt}
+use Rattle.epoch_laws.proofs.InTime.{advancing_run}
 use Rattle.phase_laws.proofs.Brought.{BringsTo}
 use Rattle.phase_laws.proofs.Progress.{brings_to}
 use Rattle.tree_laws.proofs.AptItems.{Applies, Changes, Collects, Follows, Raises, Rests, Shows, Touches, core_changes, raised_to}

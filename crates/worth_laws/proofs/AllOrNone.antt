@@ -22,8 +22,8 @@ use Rattle.tree_laws.proofs.AptApplied.{applied_where_decided}
 use Rattle.tree_laws.proofs.AptDecided.{Once, once_in_run}
 use Rattle.tree_laws.proofs.AptVersions.{before}
 use Rattle.tree_laws.proofs.Counts.{zero_or}
-use Rattle.run_laws.proofs.EveryApt.{all_apt}
-use Rattle.run_laws.proofs.EveryWhole.{applied_in, applies_here, strict_is}
+use Rattle.epoch_laws.proofs.EveryApt.{all_apt}
+use Rattle.epoch_laws.proofs.EveryWhole.{applied_in, applies_here, strict_is}
 use Rattle.rule_laws.proofs.Rules.{follows_rules}
 use Rattle.worth_laws.specs.AllOrNone.{IsAllOrNone}
 

@@ -23,7 +23,7 @@ use Rattle.tree_laws.proofs.AptStagesOwn.{Doing}
 use Rattle.tree_laws.proofs.AptVersions.{DoneIn, before, is_version, version_is}
 use Rattle.tree_laws.proofs.AptWindows.{apt_timely}
 use Rattle.tree_laws.proofs.Turns.{kind_version, work_version}
-use Rattle.run_laws.proofs.InTime.{advancing_run}
+use Rattle.epoch_laws.proofs.InTime.{advancing_run}
 use Rattle.rule_laws.proofs.Fronts.{front, placed}
 use Rattle.rule_laws.proofs.Lasts.{AsksIn, OfRoot, OfSub}
 use Rattle.rule_laws.proofs.YesVotes.{front_version}

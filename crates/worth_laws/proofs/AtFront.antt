@@ -22,9 +22,9 @@ use Rattle.board_rules.proofs.Wholes.{version_more, whole_more}
 use Rattle.board_rules.proofs.Places.{places_more}
 use Rattle.tree_laws.proofs.AptVersions.{before}
 use Rattle.value_laws.proofs.RowActs.{is_lasting, lasting}
-use Rattle.run_laws.proofs.Closed.{none_came}
-use Rattle.run_laws.proofs.Reached.{now_below}
-use Rattle.run_laws.proofs.Wholes.{born_with}
+use Rattle.epoch_laws.proofs.Closed.{none_came}
+use Rattle.epoch_laws.proofs.Reached.{now_below}
+use Rattle.epoch_laws.proofs.Wholes.{born_with}
 use Rattle.rule_laws.proofs.Fronts.{first_places, front, placed}
 use Rattle.rule_laws.proofs.InEntries.{in_second}
 use Rattle.rule_laws.proofs.Late.{no_reader, writer_there}

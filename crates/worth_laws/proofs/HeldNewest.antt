@@ -47,7 +47,7 @@ use Rattle.tree_laws.proofs.AptSteps.{enters}
 use Rattle.tree_laws.proofs.AptVersions.{before}
 use Rattle.value_laws.proofs.Newest.{both}
 use Rattle.value_laws.proofs.RowActs.{lasting, lasting_acts, row_lasts}
-use Rattle.run_laws.proofs.EveryApt.{all_apt}
+use Rattle.epoch_laws.proofs.EveryApt.{all_apt}
 use Rattle.rule_laws.proofs.Lasts.{AsksIn, OfRoot, OfSub}
 use Rattle.rule_laws.proofs.Turns.{carried}
 use Rattle.rule_laws.proofs.Writes.{asked_born}

@@ -48,7 +48,7 @@ use Rattle.tree_laws.proofs.Turns.{work_version}
 use Rattle.value_laws.proofs.Newest.{agreed_here}
 use Rattle.value_laws.proofs.RowActs.{is_lasting, keeping_lasts, lasting, lasting_acts, row_lasts}
 use Rattle.value_laws.proofs.SeenByActs.{apt_can, later_dated, ops_read, sees_by_acts}
-use Rattle.run_laws.proofs.EveryApt.{all_apt}
+use Rattle.epoch_laws.proofs.EveryApt.{all_apt}
 use Rattle.rule_laws.proofs.Turns.{carried}
 use Rattle.worth_laws.specs.Held.{HoldsWritten}
 use Rattle.worth_laws.specs.Written.{holds_in, was_written, act_writes, writes_in}

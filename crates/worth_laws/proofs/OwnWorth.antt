@@ -20,8 +20,8 @@ use Rattle.tree_laws.specs.SeenAt.{seen_at}
 use Rattle.tree_laws.proofs.AptVersions.{before}
 use Rattle.value_laws.proofs.OtherValues.{values_are_made}
 use Rattle.value_laws.proofs.SeenByActs.{sees_by_acts}
-use Rattle.run_laws.specs.Shown.{WritersAreWhole}
-use Rattle.run_laws.proofs.EveryApt.{all_apt}
+use Rattle.epoch_laws.specs.Shown.{WritersAreWhole}
+use Rattle.epoch_laws.proofs.EveryApt.{all_apt}
 use Rattle.rule_laws.proofs.Late.{no_reader, writer_there}
 use Rattle.rule_laws.proofs.Rules.{follows_rules}
 

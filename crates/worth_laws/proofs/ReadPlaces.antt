@@ -16,10 +16,10 @@ use Rattle.board_rules.specs.Rules.{is_writer}
 use Rattle.board_rules.specs.Worth.{worth, worth_in}
 use Rattle.board_rules.proofs.Wholes.{version_more}
 use Rattle.tree_laws.proofs.AptVersions.{before}
-use Rattle.run_laws.proofs.Reached.{now_below}
-use Rattle.run_laws.proofs.InTime.{acted_run}
+use Rattle.epoch_laws.proofs.Reached.{now_below}
+use Rattle.epoch_laws.proofs.InTime.{acted_run}
 use Rattle.phase_laws.specs.Phases.{ShowStage}
-use Rattle.run_laws.proofs.Wholes.{born_with}
+use Rattle.epoch_laws.proofs.Wholes.{born_with}
 use Rattle.rule_laws.proofs.Fronts.{act_of_place, front, in_both, one_by_one}
 use Rattle.rule_laws.proofs.InEntries.{entry_run, in_entry}
 use Rattle.worth_laws.proofs.AtFront.{front_is}

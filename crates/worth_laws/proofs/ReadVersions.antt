@@ -9,12 +9,12 @@ use Rattle.board_rules.specs.Histories.{places_at, version_in}
 use Rattle.board_rules.proofs.Places.{places_more}
 use Rattle.world_model.specs.Runs.{IsStepRun}
 use Rattle.tree_laws.proofs.AptVersions.{before}
-use Rattle.run_laws.specs.Shown.{WritersAreWhole}
-use Rattle.run_laws.proofs.Closed.{rises}
-use Rattle.run_laws.proofs.EveryBirth.{birth_at}
-use Rattle.run_laws.proofs.Reached.{now_below, whole_run}
+use Rattle.epoch_laws.specs.Shown.{WritersAreWhole}
+use Rattle.epoch_laws.proofs.Closed.{rises}
+use Rattle.epoch_laws.proofs.EveryBirth.{birth_at}
+use Rattle.epoch_laws.proofs.Reached.{now_below, whole_run}
 use Rattle.rule_laws.proofs.Late.{read_below}
-use Rattle.run_laws.proofs.Wholes.{born_split, born_with}
+use Rattle.epoch_laws.proofs.Wholes.{born_split, born_with}
 
 below_by : (s : ScriptData) (past : List Entry) (e : Entry) (t : ℕ) (w : Version) → IsValid s → IsStepRun s (e ∷ past)
     → reads s t ≡ true → (born_with past t ≡ Some w → w.0 < now_below false s past)

@@ -38,7 +38,7 @@ use Rattle.tree_laws.proofs.Seen.{gets_valued}
 use Rattle.tree_laws.specs.Carried.{CarriesVersion}
 use Rattle.value_laws.proofs.RowActs.{asked_acts, is_lasting, lasting, lasting_acts, row_lasts}
 use Rattle.value_laws.proofs.SeenByActs.{apt_can}
-use Rattle.run_laws.proofs.Reached.{now_below}
+use Rattle.epoch_laws.proofs.Reached.{now_below}
 use Rattle.rule_laws.proofs.Fronts.{front, one_lasts, placed}
 use Rattle.rule_laws.proofs.Lasts.{AsksIn, OfRoot, OfSub, same_act}
 use Rattle.rule_laws.proofs.Turns.{born_before, carried, is_there}

@@ -49,7 +49,7 @@ use Rattle.tree_laws.proofs.AptWindows.{tables_ascend}
 use Rattle.tree_laws.proofs.Histories.{at_each_act_more}
 use Rattle.value_laws.proofs.HeldItems.{greatest_from}
 use Rattle.value_laws.proofs.RowActs.{is_lasting, lasting}
-use Rattle.run_laws.proofs.EveryApt.{all_apt}
+use Rattle.epoch_laws.proofs.EveryApt.{all_apt}
 use Rattle.rule_laws.proofs.Deeds.{conflict_front}
 use Rattle.rule_laws.proofs.Fronts.{act_of_place, front, one_by_one}
 use Rattle.rule_laws.proofs.Lasts.{Applies, AsksIn, Frees, Lasts, Reads, Updates, Votes, cause_there, lasts}

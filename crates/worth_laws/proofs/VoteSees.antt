@@ -35,7 +35,7 @@ use Rattle.tree_laws.proofs.Acts.{of_act}
 use Rattle.tree_laws.proofs.AptStagesOwn.{Doing}
 use Rattle.tree_laws.proofs.AptVersions.{before}
 use Rattle.value_laws.proofs.VoteLocks.{has_some}
-use Rattle.run_laws.proofs.EveryWhole.{strict_is}
+use Rattle.epoch_laws.proofs.EveryWhole.{strict_is}
 use Rattle.rule_laws.proofs.Lasts.{AsksIn}
 use Rattle.rule_laws.proofs.Rules.{follows_rules}
 use Rattle.rule_laws.proofs.Turns.{is_there, not_voted, turn_once}

@@ -26,9 +26,9 @@ use Rattle.board_rules.proofs.TreeSubs.{touches}
 use Rattle.board_rules.proofs.Wholes.{version_more, whole_all, whole_applied, whole_done, whole_later}
 use Rattle.board_rules.proofs.Places.{places_more}
 use Rattle.tree_laws.proofs.AptVersions.{before}
-use Rattle.run_laws.proofs.Closed.{none_came, run_before}
-use Rattle.run_laws.proofs.Reached.{now_below}
-use Rattle.run_laws.proofs.Wholes.{born_with}
+use Rattle.epoch_laws.proofs.Closed.{none_came, run_before}
+use Rattle.epoch_laws.proofs.Reached.{now_below}
+use Rattle.epoch_laws.proofs.Wholes.{born_with}
 use Rattle.rule_laws.proofs.Late.{no_reader, writer_there}
 use Rattle.rule_laws.proofs.Rules.{follows_rules}
 use Rattle.worth_laws.proofs.ReadVersions.{whole_to}

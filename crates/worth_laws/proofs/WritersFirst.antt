@@ -17,7 +17,7 @@ use Rattle.board_rules.specs.Worth.{worth_in}
 use Rattle.board_rules.proofs.AtPositions.{at_position}
 use Rattle.board_rules.proofs.Wholes.{version_more}
 use Rattle.tree_laws.proofs.AptVersions.{before}
-use Rattle.run_laws.proofs.Wholes.{born_with}
+use Rattle.epoch_laws.proofs.Wholes.{born_with}
 use Rattle.worth_laws.specs.Stays.{AreWritersWhole, ComesAfterWriters, WritersAreFirst}
 use Rattle.worth_laws.proofs.ReadPlaces.{ShownAt, each_in_place, shown_at, take_next, whole_there}
 use Rattle.worth_laws.proofs.Right.{right_run}

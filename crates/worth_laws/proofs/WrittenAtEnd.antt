@@ -34,7 +34,7 @@ use Rattle.world_model.specs.Named.{is_strict_at}
 use Rattle.world_model.specs.Runs.{IsStepRun}
 use Rattle.world_model.proofs.Scripts.{get_below}
 use Rattle.tree_laws.proofs.NodeLoads.{StrictTree, strict_there}
-use Rattle.run_laws.proofs.EveryWhole.{strict_is}
+use Rattle.epoch_laws.proofs.EveryWhole.{strict_is}
 use Rattle.rule_laws.proofs.Rules.{follows_rules}
 use Rattle.rule_laws.proofs.Writes.{changes_at}
 use Rattle.worth_laws.specs.Held.{AreAllWhole, IsWrittenAtEnd}

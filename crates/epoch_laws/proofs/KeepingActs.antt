@@ -35,7 +35,7 @@ use Rattle.world_model.proofs.Cases.{Does, Keeps}
 use Rattle.world_model.proofs.Every.{each_append, each_map, each_none}
 use Rattle.world_model.proofs.Keepings.{of_kept}
 use Rattle.tree_laws.proofs.AptRulings.{client_acts}
-use Rattle.run_laws.specs.Parks.{parks_for, shown_as, waits_for}
+use Rattle.epoch_laws.specs.Parks.{parks_for, shown_as, waits_for}
 use Rattle.world_model.proofs.Epochs.{order_each, ask_each}
 use Rattle.letter_types.specs.Steps.{Out}
 use Rattle.world_model.proofs.Coordination.{IsCoordinated}

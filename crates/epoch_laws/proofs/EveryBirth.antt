@@ -34,7 +34,7 @@ use Rattle.tree_laws.proofs.AptVersions.{DoneIn, before, dated_run, done_dated, 
 use Rattle.tree_laws.proofs.Staging.{told_one}
 use Rattle.tree_laws.proofs.Turns.{kind_version, work_version}
 use Rattle.tree_laws.proofs.Counted.{unborn}
-use Rattle.run_laws.proofs.EveryApt.{all_apt}
+use Rattle.epoch_laws.proofs.EveryApt.{all_apt}
 
 -- who bears tree t, and in which version
 pub record IsBornAt (s : ScriptData) (past : List Entry) (e : Entry) (t : ℕ) (w : Version) : Type 0 where

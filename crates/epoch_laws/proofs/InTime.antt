@@ -25,7 +25,7 @@ use Rattle.phase_laws.proofs.GivenInPhase.{advancing}
 use Rattle.phase_laws.proofs.Balance.{apt_parts, counts_are_small}
 use Rattle.phase_laws.proofs.Below.{balanced}
 use Rattle.phase_laws.proofs.Shows.{given_in_quiet}
-use Rattle.run_laws.proofs.EveryApt.{all_apt as every_apt, governed, lawful as every_lawful}
+use Rattle.epoch_laws.proofs.EveryApt.{all_apt as every_apt, governed, lawful as every_lawful}
 use Rattle.script_parts.specs.Counts.{is_lossy}
 use Rattle.world_model.specs.Epochs.{is_core_timely}
 

@@ -47,9 +47,9 @@ use Rattle.tree_laws.proofs.AptVersions.{before}
 use Rattle.tree_laws.proofs.Counts.{zero_or}
 use Rattle.tree_laws.proofs.Counted.{all_done_of, births_in, dids_in, unborn, was_done_of}
 use Rattle.tree_laws.proofs.AptMakes.{visits_there}
-use Rattle.run_laws.proofs.EveryApt.{all_apt}
-use Rattle.run_laws.proofs.EveryDecided.{decided_when_gone}
-use Rattle.run_laws.proofs.EveryDid.{dids_are_turns}
+use Rattle.epoch_laws.proofs.EveryApt.{all_apt}
+use Rattle.epoch_laws.proofs.EveryDecided.{decided_when_gone}
+use Rattle.epoch_laws.proofs.EveryDid.{dids_are_turns}
 
 -- a Sub, a notice, a decision or an acknowledgement of tree t
 abbrev counts_for : ℕ → Body → ℕ

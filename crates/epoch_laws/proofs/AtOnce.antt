@@ -43,10 +43,10 @@ use Rattle.phase_laws.proofs.Brought.{brought_meant}
 use Rattle.phase_laws.proofs.Progress.{brings_to}
 use Rattle.tree_laws.proofs.AptRulings.{client_acts}
 use Rattle.tree_laws.proofs.Histories.{before_more, first_of, run_before}
-use Rattle.run_laws.proofs.EveryApt.{all_apt}
-use Rattle.run_laws.specs.Waiting.{IsHolder}
-use Rattle.run_laws.proofs.EveryDid.{is_vote_of, none_votes}
-use Rattle.run_laws.proofs.Holders.{holders}
+use Rattle.epoch_laws.proofs.EveryApt.{all_apt}
+use Rattle.epoch_laws.specs.Waiting.{IsHolder}
+use Rattle.epoch_laws.proofs.EveryDid.{is_vote_of, none_votes}
+use Rattle.epoch_laws.proofs.Holders.{holders}
 
 -- In a script without strict trees nothing votes.
 no_vote : (a : Act) → ((t k : ℕ) → is_vote_of t k a ≡ 0) → IsNoVote a

@@ -13,10 +13,10 @@ use Rattle.phase_laws.specs.Given.{greatest_given}
 use Rattle.phase_laws.specs.Phases.{ShowStage, SweepStage}
 use Rattle.phase_laws.specs.Quiet.{IsSilent}
 use Rattle.phase_laws.proofs.Advancing.{IsAdvancing, shown_next, swept_next}
-use Rattle.run_laws.proofs.EveryBirth.{IsBornAt, birth_at}
-use Rattle.run_laws.proofs.EveryWhole.{whole_when_silent}
-use Rattle.run_laws.proofs.InTime.{advancing_run, anew_run}
-use Rattle.run_laws.proofs.Wholes.{AreWhole, born_split, born_with, is_of_kind, turn_of}
+use Rattle.epoch_laws.proofs.EveryBirth.{IsBornAt, birth_at}
+use Rattle.epoch_laws.proofs.EveryWhole.{whole_when_silent}
+use Rattle.epoch_laws.proofs.InTime.{advancing_run, anew_run}
+use Rattle.epoch_laws.proofs.Wholes.{AreWhole, born_split, born_with, is_of_kind, turn_of}
 
 -- the version up to which trees of the kind are whole now: writers up to the version that was last told to be shown, and read
 -- trees below the version to which nodes were last told to sweep

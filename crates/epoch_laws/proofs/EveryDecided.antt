@@ -48,7 +48,7 @@ use Rattle.tree_laws.proofs.AptStagesOwn.{Doing, ack_home, home_here, note_at, r
 use Rattle.tree_laws.proofs.AptStagesSteps.{Beside, does_beside}
 use Rattle.tree_laws.proofs.Noting.{Last, More, Noting, noting}
 use Rattle.tree_laws.proofs.Staging.{told_none}
-use Rattle.run_laws.proofs.EveryApt.{all_apt}
+use Rattle.epoch_laws.proofs.EveryApt.{all_apt}
 
 -- A tree that was open and isn't after a notice is answered by that.
 record AnswersNow (t : TreeNo) (k : SubNo) (values : Gets) (hs : OpenTrees) : Type 0 where

@@ -18,10 +18,10 @@ use Rattle.world_model.proofs.Every.{each_map}
 use Rattle.world_model.proofs.Scripts.{get_below}
 use Rattle.phase_laws.specs.Phases.{ShowStage, SweepStage}
 use Rattle.phase_laws.proofs.Advancing.{IsOrderGiven, given_rises}
-use Rattle.run_laws.specs.Shown.{IsBackedBy, IsClosedBy, NoReadCame, NoWriterCame, ReadsAreWhole, WritersAreWhole}
-use Rattle.run_laws.proofs.InTime.{advancing_run}
-use Rattle.run_laws.proofs.Reached.{born_above, now_below, whole_run}
-use Rattle.run_laws.proofs.Wholes.{born_split, born_with, is_of_kind}
+use Rattle.epoch_laws.specs.Shown.{IsBackedBy, IsClosedBy, NoReadCame, NoWriterCame, ReadsAreWhole, WritersAreWhole}
+use Rattle.epoch_laws.proofs.InTime.{advancing_run}
+use Rattle.epoch_laws.proofs.Reached.{born_above, now_below, whole_run}
+use Rattle.epoch_laws.proofs.Wholes.{born_split, born_with, is_of_kind}
 
 pub read_there : (s : ScriptData) (t : ℕ) (found : Option Tree) → slice_get s.trees t ≡ found
     → (elim found [ Some tree ↦ is_read tree.kind | None ↦ false ]) ≡ true → t < length s.trees

@@ -43,7 +43,7 @@ use Rattle.tree_laws.proofs.AptStagesOwn.{Doing, asked, turned_here}
 use Rattle.tree_laws.proofs.AptStagesRun.{stages_of_trees}
 use Rattle.tree_laws.proofs.AptSteps.{enters}
 use Rattle.tree_laws.proofs.AptTurns.{no_turn_yet, turns_below_root}
-use Rattle.run_laws.specs.Waiting.{IsHolder}
+use Rattle.epoch_laws.specs.Waiting.{IsHolder}
 
 -- how often what was decided of tree t was applied at node p
 abbrev pub applied_any : List Entry → ℕ → ℕ → ℕ

@@ -29,7 +29,7 @@ use Rattle.tree_laws.proofs.AptItems.{Applies, Collects, Follows, NodeChanges, R
 use Rattle.phase_laws.proofs.Advancing.{taken_ahead}
 use Rattle.phase_laws.proofs.Progress.{brings_to, itself}
 use Rattle.phase_laws.proofs.Brought.{IsAsking}
-use Rattle.run_laws.proofs.InTime.{advancing_run}
+use Rattle.epoch_laws.proofs.InTime.{advancing_run}
 
 -- An order wakes as the one does for which it stands, where it takes effect.
 pub holder_woken : (c : Core) (body : Body) (h : TreeNo) → woken_by c body (ForHolder h) ≡ wakes_by body (ForHolder h)

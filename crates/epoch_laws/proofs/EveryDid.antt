@@ -35,7 +35,7 @@ use Rattle.tree_laws.specs.Dids.{dids, is_did_act}
 use Rattle.tree_laws.specs.Turns.{has_turn, turns}
 use Rattle.tree_laws.proofs.AptRulings.{client_acts, keeping_acts}
 use Rattle.tree_laws.proofs.Turns.{OfTreeActs, Works, core_works, work_version}
-use Rattle.run_laws.proofs.EveryApt.{all_apt}
+use Rattle.epoch_laws.proofs.EveryApt.{all_apt}
 
 -- the vote of subtransaction k of tree t
 abbrev pub is_vote_of : ℕ → ℕ → Act → ℕ
