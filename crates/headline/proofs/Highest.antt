@@ -44,7 +44,7 @@ use Rattle.tree_laws.proofs.AptWindows.{apt_timely}
 use Rattle.epoch_laws.proofs.EveryApt.{all_apt}
 use Rattle.run_laws.proofs.KeptWhy.{keeps_rises}
 use Rattle.value_laws.proofs.HeldItems.{collected_most}
-use Rattle.worth_laws.proofs.MostHeld.{put_most, touched_most}
+use Rattle.rule_laws.proofs.MostHeld.{put_most, touched_most}
 use Rattle.headline.proofs.Voters.{commits_below, raises}
 
 -- A table.

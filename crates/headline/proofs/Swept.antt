@@ -36,7 +36,7 @@ use Rattle.tree_laws.proofs.Seen.{raised_low}
 use Rattle.tree_laws.proofs.Counted.{placed}
 use Rattle.board_rules.proofs.Wholes.{any_more}
 use Rattle.board_rules.proofs.Places.{places_more}
-use Rattle.board_laws.proofs.Raised.{ordered_given, sweeps_ahead}
+use Rattle.rule_laws.proofs.Raised.{ordered_given, sweeps_ahead}
 
 -- What was collected, with more acts.
 swept_more : (p v : ℕ) (xs ys : List Place) → was_swept p v xs ≡ true → was_swept p v (xs ++ ys) ≡ true
