@@ -34,3 +34,16 @@ pub mod Prices
 pub mod Floors
 pub mod Refunds
 pub mod CostsSent
+pub mod EveryApt
+pub mod InTime
+pub mod EveryDid
+pub mod EveryDecided
+pub mod EveryWhole
+pub mod EveryBirth
+pub mod Holders
+pub mod AtOnce
+pub mod Wholes
+pub mod Reached
+pub mod Closed
+pub mod Woken
+pub mod KeepingActs

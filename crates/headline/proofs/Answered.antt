@@ -27,9 +27,9 @@ use Rattle.tree_laws.proofs.AptStagesOwn.{sub_of_node}
 use Rattle.tree_laws.proofs.AptStagesRun.{stages_of_trees}
 use Rattle.tree_laws.proofs.AptTurns.{births_are_turns}
 use Rattle.tree_laws.proofs.Counted.{all_done_of, births_in, dids_in, was_done_of}
-use Rattle.run_laws.proofs.EveryApt.{all_apt}
-use Rattle.run_laws.proofs.EveryDid.{dids_are_turns}
-use Rattle.run_laws.proofs.EveryWhole.{all_applied_of, strict_is, was_applied_of}
+use Rattle.epoch_laws.proofs.EveryApt.{all_apt}
+use Rattle.epoch_laws.proofs.EveryDid.{dids_are_turns}
+use Rattle.epoch_laws.proofs.EveryWhole.{all_applied_of, strict_is, was_applied_of}
 use Rattle.rule_laws.proofs.Releases.{born_some}
 
 -- What the client has heard.

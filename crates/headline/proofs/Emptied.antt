@@ -11,7 +11,7 @@ use Rattle.phase_laws.proofs.Small.{rounds_by_trees}
 use Rattle.run_laws.proofs.Bounds.{entries_few}
 use Rattle.run_laws.proofs.Ends.{no_run_stalls}
 use Rattle.run_laws.proofs.Entries.{entries_counted}
-use Rattle.run_laws.proofs.EveryApt.{all_apt, lawful}
+use Rattle.epoch_laws.proofs.EveryApt.{all_apt, lawful}
 use Rattle.headline.proofs.Promised.{headline_past}
 use Rattle.run_laws.proofs.NoRounds.{no_rounds}
 use Rattle.headline.specs.Ended.{HasEnded}

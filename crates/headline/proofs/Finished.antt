@@ -16,7 +16,7 @@ use Rattle.phase_laws.proofs.Advancing.{IsAdvancing}
 use Rattle.tree_laws.specs.Ends.{is_finish}
 use Rattle.tree_laws.proofs.Acts.{any_counted, finish_marks, of_act}
 use Rattle.tree_laws.proofs.Finishes.{finishes_of, is_true_of}
-use Rattle.run_laws.proofs.InTime.{advancing_run}
+use Rattle.epoch_laws.proofs.InTime.{advancing_run}
 use Rattle.headline.proofs.Answered.{answered_whole, answered_yet}
 use Rattle.headline.proofs.Finishing.{finishing_run}
 use Rattle.headline.proofs.Opens.{answered_at}

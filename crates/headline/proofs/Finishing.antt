@@ -41,7 +41,7 @@ use Rattle.phase_laws.proofs.ClientSteps.{Aside, Begins, ClientStep, Ends, Hears
 use Rattle.tree_laws.specs.Ends.{is_finish}
 use Rattle.tree_laws.proofs.AptRulings.{keeping_acts}
 use Rattle.tree_laws.proofs.Client.{IsOver, finish_count, finishes_once, over_then}
-use Rattle.run_laws.proofs.EveryApt.{all_apt}
+use Rattle.epoch_laws.proofs.EveryApt.{all_apt}
 use Rattle.headline.proofs.Passes.{answer_ended, end_ended, passed_run}
 
 -- No act of a row of a core is the end.

@@ -52,7 +52,7 @@ use Rattle.tree_laws.proofs.AptTurns.{core_turns}
 use Rattle.tree_laws.proofs.AptVersions.{DoneIn, before, is_version, version_is}
 use Rattle.tree_laws.proofs.NodeLoads.{strict_there}
 use Rattle.tree_laws.proofs.Turns.{kind_version, work_version}
-use Rattle.run_laws.proofs.EveryApt.{all_apt}
+use Rattle.epoch_laws.proofs.EveryApt.{all_apt}
 use Rattle.run_laws.proofs.KeptWhy.{keeps_rises}
 
 -- The version that is updated never falls.

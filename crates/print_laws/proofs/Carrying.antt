@@ -56,7 +56,7 @@ use Rattle.strict_laws.proofs.Parkings.{kind_updates_by}
 use Rattle.phase_laws.proofs.Brought.{brought_meant, each_of_brought}
 use Rattle.phase_laws.proofs.Progress.{brings_to}
 use Rattle.tree_laws.proofs.NodeLoads.{kind_here, ops_fit_kind}
-use Rattle.run_laws.proofs.AtOnce.{no_votes}
+use Rattle.epoch_laws.proofs.AtOnce.{no_votes}
 use Rattle.history_text.specs.Printable.{IsSubOf}
 use Rattle.print_laws.specs.OfScript.{IsActOf}
 use Rattle.print_laws.proofs.Bounded.{bounded_items}

@@ -49,9 +49,9 @@ use Rattle.tree_laws.proofs.AptSteps.{enters}
 use Rattle.tree_laws.proofs.AptVersions.{before}
 use Rattle.tree_laws.proofs.AptVotes.{decided_by_votes}
 use Rattle.value_laws.proofs.RowActs.{is_lasting, lasting}
-use Rattle.run_laws.proofs.EveryApt.{all_apt}
-use Rattle.run_laws.proofs.EveryDid.{is_vote_of}
-use Rattle.run_laws.proofs.EveryWhole.{applied_in, applies_here, strict_is}
+use Rattle.epoch_laws.proofs.EveryApt.{all_apt}
+use Rattle.epoch_laws.proofs.EveryDid.{is_vote_of}
+use Rattle.epoch_laws.proofs.EveryWhole.{applied_in, applies_here, strict_is}
 use Rattle.rule_laws.proofs.Deeds.{at_least, turn_sums}
 use Rattle.rule_laws.proofs.Fronts.{act_of_place, counted_front, front, none_found, place_of, placed}
 use Rattle.rule_laws.proofs.InEntries.{InEntry, entry_run, in_entry}

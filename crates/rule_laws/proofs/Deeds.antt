@@ -32,8 +32,8 @@ use Rattle.tree_laws.specs.Dids.{is_did_act}
 use Rattle.tree_laws.proofs.Acts.{of_act}
 use Rattle.tree_laws.proofs.AptStagesOwn.{Doing}
 use Rattle.tree_laws.proofs.AptVersions.{before}
-use Rattle.run_laws.proofs.AtOnce.{no_votes}
-use Rattle.run_laws.proofs.EveryDid.{is_vote_of, turn_is}
+use Rattle.epoch_laws.proofs.AtOnce.{no_votes}
+use Rattle.epoch_laws.proofs.EveryDid.{is_vote_of, turn_is}
 use Rattle.tree_laws.specs.Turns.{has_turn}
 use Rattle.rule_laws.proofs.Fronts.{first_places, front}
 use Rattle.rule_laws.proofs.Lasts.{AsksIn, OfRoot, OfSub}

@@ -10,7 +10,7 @@ use Rattle.world_model.specs.Runs.{IsStepRun}
 use Rattle.board_rules.specs.Histories.{Place, places_at}
 use Rattle.board_rules.proofs.Places.{places_more}
 use Rattle.tree_laws.proofs.AptVersions.{before}
-use Rattle.run_laws.proofs.Closed.{run_before}
+use Rattle.epoch_laws.proofs.Closed.{run_before}
 
 -- the second of two lists, from a place in both
 pub record InSecond {X : Type 0} (a b : List X) (i : ℕ) (x : X) : Type 0 where

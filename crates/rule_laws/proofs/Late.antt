@@ -27,13 +27,13 @@ use Rattle.tree_laws.proofs.Acts.{of_act}
 use Rattle.tree_laws.proofs.AptTurns.{births_are_turns, turns_at_most_once}
 use Rattle.tree_laws.proofs.AptVersions.{before}
 use Rattle.tree_laws.proofs.Counted.{births_in}
-use Rattle.run_laws.proofs.Closed.{none_came}
-use Rattle.run_laws.proofs.EveryApt.{all_apt}
-use Rattle.run_laws.proofs.EveryBirth.{IsBornAt, birth_at}
-use Rattle.run_laws.proofs.EveryWhole.{strict_is}
-use Rattle.run_laws.proofs.Reached.{now_below, whole_run}
-use Rattle.run_laws.proofs.InTime.{advancing_run}
-use Rattle.run_laws.proofs.Wholes.{is_of_kind}
+use Rattle.epoch_laws.proofs.Closed.{none_came}
+use Rattle.epoch_laws.proofs.EveryApt.{all_apt}
+use Rattle.epoch_laws.proofs.EveryBirth.{IsBornAt, birth_at}
+use Rattle.epoch_laws.proofs.EveryWhole.{strict_is}
+use Rattle.epoch_laws.proofs.Reached.{now_below, whole_run}
+use Rattle.epoch_laws.proofs.InTime.{advancing_run}
+use Rattle.epoch_laws.proofs.Wholes.{is_of_kind}
 use Rattle.rule_laws.proofs.InEntries.{InEntry, entry_run, in_entry}
 
 -- A tree that is born once is born with the version of its Born.

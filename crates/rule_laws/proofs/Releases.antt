@@ -50,9 +50,9 @@ use Rattle.tree_laws.proofs.AptTurns.{births_are_turns}
 use Rattle.tree_laws.proofs.AptVersions.{before}
 use Rattle.tree_laws.proofs.Counted.{all_done_of, births_in, dids_in, was_done_of}
 use Rattle.tree_laws.proofs.AptApplied.{same_at}
-use Rattle.run_laws.proofs.EveryApt.{all_apt}
-use Rattle.run_laws.proofs.EveryDid.{dids_are_turns}
-use Rattle.run_laws.proofs.EveryWhole.{strict_is}
+use Rattle.epoch_laws.proofs.EveryApt.{all_apt}
+use Rattle.epoch_laws.proofs.EveryDid.{dids_are_turns}
+use Rattle.epoch_laws.proofs.EveryWhole.{strict_is}
 use Rattle.rule_laws.proofs.Fronts.{counted_front, front, none_found, place_of, placed}
 use Rattle.rule_laws.proofs.ReleaseRows.{has_freed, none_to, released_to, releases_of, row_few, row_frees}
 use Rattle.phase_laws.proofs.Progress.{brings_to}

@@ -38,7 +38,7 @@ use Rattle.tree_laws.proofs.AptVersions.{before}
 use Rattle.phase_laws.proofs.Brought.{each_of_brought}
 use Rattle.phase_laws.proofs.Progress.{brings_to}
 use Rattle.value_laws.proofs.RowActs.{is_lasting}
-use Rattle.run_laws.proofs.EveryApt.{all_apt}
+use Rattle.epoch_laws.proofs.EveryApt.{all_apt}
 use Rattle.rule_laws.proofs.Fronts.{born_first, counted_front, front, none_found, place_of, placed}
 use Rattle.rule_laws.proofs.Lasts.{AsksIn, OfRoot, OfSub}
 

@@ -53,8 +53,8 @@ use Rattle.tree_laws.proofs.AptStagesOwn.{Doing}
 use Rattle.tree_laws.proofs.AptVersions.{DoneIn, before, is_version, version_is}
 use Rattle.tree_laws.proofs.Turns.{kind_version, work_version}
 use Rattle.value_laws.proofs.RowActs.{is_lasting}
-use Rattle.run_laws.proofs.EveryApt.{all_apt}
-use Rattle.run_laws.proofs.EveryWhole.{strict_is}
+use Rattle.epoch_laws.proofs.EveryApt.{all_apt}
+use Rattle.epoch_laws.proofs.EveryWhole.{strict_is}
 use Rattle.rule_laws.proofs.Fronts.{act_of_place}
 use Rattle.rule_laws.proofs.InEntries.{in_second}
 use Rattle.rule_laws.proofs.Lasts.{Applies, AsksIn, Frees, Lasts, OfRoot, OfSub, Reads, Updates, Votes, lasts, vote_there}

@@ -51,8 +51,8 @@ use Rattle.tree_laws.proofs.Tables.{ItemIn}
 use Rattle.value_laws.proofs.HeldItems.{none_newer}
 use Rattle.value_laws.proofs.RowActs.{lasting}
 use Rattle.value_laws.proofs.VoteLocks.{has_some}
-use Rattle.run_laws.proofs.EveryApt.{all_apt}
-use Rattle.run_laws.proofs.EveryWhole.{strict_is}
+use Rattle.epoch_laws.proofs.EveryApt.{all_apt}
+use Rattle.epoch_laws.proofs.EveryWhole.{strict_is}
 use Rattle.rule_laws.proofs.Deeds.{conflict_front}
 use Rattle.rule_laws.proofs.Fronts.{first_places, front, placed}
 use Rattle.rule_laws.proofs.InEntries.{in_second}

@@ -36,7 +36,7 @@ use Rattle.tree_laws.proofs.AptStagesRun.{stages_of_trees}
 use Rattle.tree_laws.proofs.AptStagesSteps.{all_in_flight, decides_no_asking, tells_no_asking}
 use Rattle.tree_laws.proofs.AptTurns.{parent_before, roots_have_turns, sub_has_turns, turns_below_root, turns_come_once}
 use Rattle.tree_laws.proofs.Sent.{rooted_once, tally_take_le, tally_take_more}
-use Rattle.run_laws.proofs.EveryApt.{all_apt}
+use Rattle.epoch_laws.proofs.EveryApt.{all_apt}
 use Rattle.run_laws.proofs.Measures.{busy, left, left_of, nudges, of_trees, unanswered}
 
 -- Rows more.

@@ -38,7 +38,7 @@ use Rattle.tree_laws.proofs.Entries.{taken_in}
 use Rattle.tx_trees.proofs.Rebuilding.{loses_in-append}
 use Rattle.epoch_laws.proofs.Few.{lost_most}
 use Rattle.epoch_laws.proofs.Prices.{done_pays, price, put_all, to_nodes_price}
-use Rattle.run_laws.proofs.EveryApt.{all_apt, lawful}
+use Rattle.epoch_laws.proofs.EveryApt.{all_apt, lawful}
 use Rattle.phase_laws.proofs.Heeds.{AreWakes, IsWake}
 
 -- a letter of advancements

@@ -29,7 +29,7 @@ use Rattle.epoch_laws.proofs.CostsSent.{priced, priced_away, priced_here, priced
 use Rattle.epoch_laws.proofs.Few.{few, lost_for, lost_most}
 use Rattle.epoch_laws.proofs.Prices.{price}
 use Rattle.run_laws.proofs.Costs.{apart_trees, is_apart, more_asked, more_lost, order_pays, price_trees, rows_price, tells_price, wakes_price}
-use Rattle.run_laws.proofs.EveryApt.{all_apt, tree_lawful}
+use Rattle.epoch_laws.proofs.EveryApt.{all_apt, tree_lawful}
 
 -- what was taken, and what letters in flight cost, is no more than what the client asked for and the coordinator sent
 abbrev pub AreCovered : ScriptData → List Entry → Type 0

@@ -36,7 +36,7 @@ use Rattle.tree_laws.proofs.AptTurns.{roots_have_turns}
 use Rattle.tree_laws.proofs.Client.{finish_count}
 use Rattle.tree_laws.proofs.Finishes.{all_answered_of, at_end, finishes_of, none_left}
 use Rattle.run_laws.proofs.Pauses.{coordinator_steady}
-use Rattle.run_laws.proofs.EveryApt.{all_apt, lawful}
+use Rattle.epoch_laws.proofs.EveryApt.{all_apt, lawful}
 use Rattle.run_laws.proofs.Resting.{IsSettled, nothing_waits, settled}
 use Rattle.run_laws.proofs.Stopping.{stopping}
 use Rattle.run_laws.proofs.RoundsOver.{heard_now, no_round, tree_in}

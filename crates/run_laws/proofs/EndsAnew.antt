@@ -33,7 +33,7 @@ use Rattle.epoch_laws.proofs.Orderly.{orderly_in}
 use Rattle.epoch_laws.proofs.Recovers.{never_waits}
 use Rattle.epoch_laws.proofs.RestartCounts.{IsNewCount, counting_is, pace_of, restart_count, restarting_counts, versioned}
 use Rattle.epoch_laws.proofs.Wanting.{all_wanted}
-use Rattle.run_laws.proofs.EveryApt.{all_apt, tree_lawful}
+use Rattle.epoch_laws.proofs.EveryApt.{all_apt, tree_lawful}
 use Rattle.run_laws.proofs.Exacts.{order_counts}
 use Rattle.run_laws.proofs.Pauses.{IsSteady}
 use Rattle.run_laws.proofs.RoundsOver.{no_round}

@@ -50,7 +50,7 @@ use Rattle.run_laws.proofs.Busy.{no_nudge}
 use Rattle.epoch_laws.proofs.Prices.{price}
 use Rattle.run_laws.proofs.Costs.{is_apart, paid, stages, unasked}
 use Rattle.run_laws.proofs.Ends.{all_rows, answered_now, ended_all, idle}
-use Rattle.run_laws.proofs.EveryApt.{all_apt, lawful}
+use Rattle.epoch_laws.proofs.EveryApt.{all_apt, lawful}
 use Rattle.run_laws.proofs.Measures.{nudges}
 use Rattle.run_laws.proofs.SentFew.{taken_sent}
 use Rattle.run_laws.proofs.WakesFew.{sent_in}

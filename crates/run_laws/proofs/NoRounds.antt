@@ -17,7 +17,7 @@ use Rattle.phase_laws.specs.Advances.{running}
 use Rattle.phase_laws.proofs.Progress.{Begins, Coordinates, Ends, Hears, Obeys, Progress, Works, progress}
 use Rattle.phase_laws.proofs.Small.{small}
 use Rattle.tree_laws.specs.Entries.{rounds_in}
-use Rattle.run_laws.proofs.EveryApt.{all_apt, lawful}
+use Rattle.epoch_laws.proofs.EveryApt.{all_apt, lawful}
 
 -- Nothing is asked for, so no phase runs.
 none_runs : (s : ScriptData) (past : List Entry) → IsValid s → is_lossy s ≡ false → IsStepRun s past → advances_in s.rows ≡ 0

@@ -54,7 +54,7 @@ use Rattle.run_laws.proofs.Balancing.{balances}
 use Rattle.run_laws.proofs.Measures.{busy, nudges, of_trees}
 use Rattle.run_laws.proofs.Busy.{born_heard, busy_step, no_nudge, trees_rest}
 use Rattle.run_laws.proofs.Exacts.{Counts, Exact, ExactBody, Frozen, Pausing, SentExact, all_agree, asked_put, client_exact, done_put, exact_on, frozen_away, kept_is, order_counts, order_exact, orders_exact}
-use Rattle.run_laws.proofs.EveryApt.{lawful}
+use Rattle.epoch_laws.proofs.EveryApt.{lawful}
 use Rattle.world_model.specs.Keeping.{woken_by}
 use Rattle.script_parts.specs.Counts.{is_lossy}
 use Rattle.world_model.proofs.Bags.{one_if_both}

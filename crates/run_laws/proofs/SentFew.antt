@@ -53,7 +53,7 @@ use Rattle.tree_laws.proofs.AptStagesRun.{stages_of_trees}
 use Rattle.tree_laws.proofs.AptSteps.{wakes_none}
 use Rattle.tree_laws.proofs.Entries.{taken_in}
 use Rattle.tree_laws.proofs.Turns.{each_told}
-use Rattle.run_laws.proofs.EveryApt.{all_apt}
+use Rattle.epoch_laws.proofs.EveryApt.{all_apt}
 use Rattle.run_laws.proofs.WakesFew.{sent_in}
 use Rattle.world_model.specs.Keeping.{woken_by}
 

@@ -5,7 +5,7 @@ ghost use Rattle.letter_types.specs.declared.entries.Letter.{Letter};
 ghost use Rattle.letter_types.specs.declared.entries.Outgoing.{Outgoing};
 ghost use Rattle.phase_laws.specs.Given.{IsGivenAnew};
 ghost use Rattle.phase_laws.specs.Quiet.{IsGivenInQuiet};
-ghost use Rattle.run_laws.specs.Shown.{IsBackedBy, IsClosedBy};
+ghost use Rattle.epoch_laws.specs.Shown.{IsBackedBy, IsClosedBy};
 ghost use Rattle.script_parts.specs.Counts.{is_lossy};
 ghost use Rattle.tx_trees.specs.ScriptData.{ScriptData};
 ghost use Rattle.tx_trees.specs.Valid.{IsValid};

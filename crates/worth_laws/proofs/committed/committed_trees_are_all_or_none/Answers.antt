@@ -1,5 +1,0 @@
-use Rattle.worth_laws.proofs.AllOrNone.{all_or_none}
-use Rattle.worth_laws.proofs.committed.committed_trees_are_all_or_none.Goals as goal
-
-pub returns : goal.returns
-returns c = all_or_none

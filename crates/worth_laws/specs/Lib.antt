@@ -1,6 +1,0 @@
-pub mod AllOrNone
-pub mod Causes
-pub mod Gets
-pub mod Written
-pub mod Held
-pub mod Stays
