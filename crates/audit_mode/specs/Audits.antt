@@ -7,7 +7,7 @@ use Rattle.tx_trees.specs.ScriptData.{ScriptData}
 use Rattle.script_parts.specs.declared.why.Why.TheVariants as why
 use Rattle.script_reader.specs.Reading.{fault, read_of}
 use Rattle.script_reader.specs.declared.reading.ScriptFault.{ScriptFault}
-use Rattle.report_text.specs.Parts.{count_text}
+use Rattle.history_text.specs.Values.{count_text}
 use Rattle.history_audit.specs.Verdicts.{Verdict}
 use Rattle.history_audit.specs.declared.rules.AuditRule.{AuditRule}
 use Rattle.audit_mode.specs.declared.judging.AuditStop.{AuditStop}

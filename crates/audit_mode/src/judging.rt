@@ -5,7 +5,7 @@ ghost use Rattle.audit_mode.specs.Audits.{HasAuditCause, IsAuditOf, accepted_lin
 
 use crate::dividing::divide;
 use history_audit::{AuditRefusal, AuditRule, audit};
-use report_text::push_count;
+use history_text::push_count;
 use script_reader::{ScriptFault, ScriptRefusal, read_script};
 use std::alloc::Global;
 use tv_base::{NoMemory, ReadEnd, Source, Text, read_all};
