@@ -1,10 +1,11 @@
 // An audit of what a source has.
 ghost use Rattle.std.specs.Prelude.{ℕ, ◌≡◌, ◌+◌, Ok, IfErr, IfOk};
 ghost use Rattle.tv_base.specs.Outside.{HasTaken, Rose};
-ghost use Rattle.audit_mode.specs.Audits.{HasAuditCause, IsAuditOf, accepted_line};
+ghost use Rattle.history_audit.specs.Audits.{HasAuditCause, IsAuditOf, accepted_line};
 
+use crate::auditor::{AuditRefusal, audit};
 use crate::dividing::divide;
-use history_audit::{AuditRefusal, AuditRule, audit};
+use crate::rules::AuditRule;
 use history_text::push_count;
 use script_reader::{ScriptFault, ScriptRefusal, read_script};
 use std::alloc::Global;
@@ -37,7 +38,7 @@ pub enum AuditStop {
 }
 
 impl From<NoMemory> for AuditStop {
-    ghost use Rattle.audit_mode.specs.declared.judging.AuditStop.TheVariants as stops;
+    ghost use Rattle.history_audit.specs.declared.source_audit.AuditStop.TheVariants as stops;
 
     ghost from_gives = { λ _ stop. stop ≡ stops.NoMemory };
 
@@ -47,7 +48,7 @@ impl From<NoMemory> for AuditStop {
 }
 
 impl From<ReadEnd> for AuditStop {
-    ghost use Rattle.audit_mode.specs.inside.Stops.{by_reading};
+    ghost use Rattle.history_audit.specs.inside.Stops.{by_reading};
 
     ghost from_gives = { λ end stop. stop ≡ by_reading end };
 
@@ -64,7 +65,7 @@ impl From<ReadEnd> for AuditStop {
 }
 
 impl From<ScriptRefusal> for AuditStop {
-    ghost use Rattle.audit_mode.specs.inside.Stops.{by_script};
+    ghost use Rattle.history_audit.specs.inside.Stops.{by_script};
 
     ghost from_gives = { λ refusal stop. stop ≡ by_script refusal };
 
@@ -77,7 +78,7 @@ impl From<ScriptRefusal> for AuditStop {
 }
 
 impl From<AuditRefusal> for AuditStop {
-    ghost use Rattle.audit_mode.specs.inside.Stops.{by_history};
+    ghost use Rattle.history_audit.specs.inside.Stops.{by_history};
 
     ghost from_gives = { λ refusal stop. stop ≡ by_history refusal };
 

@@ -10,9 +10,9 @@ use Rattle.script_reader.specs.declared.reading.ScriptFault.{ScriptFault}
 use Rattle.history_text.specs.Values.{count_text}
 use Rattle.history_audit.specs.Verdicts.{Verdict}
 use Rattle.history_audit.specs.declared.rules.AuditRule.{AuditRule}
-use Rattle.audit_mode.specs.declared.judging.AuditStop.{AuditStop}
-use Rattle.audit_mode.specs.declared.judging.AuditStop.TheVariants as stops
-use Rattle.audit_mode.specs.declared.judging.TheConstants.{MOST_AUDIT_BYTES}
+use Rattle.history_audit.specs.declared.source_audit.AuditStop.{AuditStop}
+use Rattle.history_audit.specs.declared.source_audit.AuditStop.TheVariants as stops
+use Rattle.history_audit.specs.declared.source_audit.TheConstants.{MOST_AUDIT_BYTES}
 
 -- these are all the bytes that the source had, and they were read to their end
 abbrev pub ReadsAll : Option (List ℕ) → Option (List ℕ) → List ℕ → Type 0

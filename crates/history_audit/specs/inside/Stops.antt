@@ -7,8 +7,8 @@ use Rattle.script_reader.specs.declared.reading.ScriptRefusal.{ScriptRefusal}
 use Rattle.script_reader.specs.declared.reading.ScriptRefusal.TheVariants as scripts
 use Rattle.history_audit.specs.declared.auditor.AuditRefusal.{AuditRefusal}
 use Rattle.history_audit.specs.declared.auditor.AuditRefusal.TheVariants as audits
-use Rattle.audit_mode.specs.declared.judging.AuditStop.{AuditStop}
-use Rattle.audit_mode.specs.declared.judging.AuditStop.TheVariants as stops
+use Rattle.history_audit.specs.declared.source_audit.AuditStop.{AuditStop}
+use Rattle.history_audit.specs.declared.source_audit.AuditStop.TheVariants as stops
 
 abbrev pub by_reading : ReadEnd → AuditStop
 by_reading ends.TooLong = stops.Script (fault 0 why.TooLong)

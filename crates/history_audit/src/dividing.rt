@@ -1,6 +1,6 @@
 // The two parts of a text that is audited.
 ghost use Rattle.std.specs.Prelude.{◌≡◌, drop, true};
-ghost use Rattle.audit_mode.specs.Audits.{begins_history, divided, ends_line};
+ghost use Rattle.history_audit.specs.Audits.{begins_history, divided, ends_line};
 
 // Whether a text is at its end or at the end of a line.
 fn ends_line(text: &[u8]) -> bool

@@ -2,7 +2,7 @@
 use Rattle.std.proofs.Common.{◌≡◌, ◌<◌, ◌≤◌, ◌+◌, ◌==◌, ◌&&◌, ℕ, zero, suc, Bool, true, false, List, [], ◌∷◌, ◌++◌, length, get_or, take, drop, drop-cons, add-one, refl, sym, ap, subst, ◌∙◌, arith, append_assoc, append-nil}
 use Rattle.std.specs.Prelude.{if◌then◌else◌}
 use Rattle.std.proofs.lemmas.List.{take_all, take_more}
-use Rattle.audit_mode.specs.Audits.{begins_history, divided}
+use Rattle.history_audit.specs.Audits.{begins_history, divided}
 
 -- the text from a place on, where there is a byte
 opened : (text : List ℕ) (i b : ℕ) → i < length text → b ≡ get_or text i b → drop i text ≡ b ∷ drop (i + 1) text
