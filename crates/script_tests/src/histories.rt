@@ -1,4 +1,5 @@
-use crate::reading::{HistoryRefusal, read_history};
+use history_reader::read_entry;
+use history_walk::{HistoryRefusal, read_history};
 use std::alloc::Global;
 use std::test::Fail;
 use tv_base::{Name, NoMemory, NodeNo};
@@ -37,6 +38,44 @@ fn script(alloc: Global) -> Result<Option<Script>, NoMemory> {
         return Ok(None);
     }
     Ok(Some(script))
+}
+
+// How many bytes the lines of the entry have that begins at a place of the text, its stamp, and how many letters and
+// acts it has; zeros where there is none.
+fn counts(alloc: Global, text: &[u8], place: usize) -> Result<[usize; 4], NoMemory> {
+    let none = [0; 4];
+    let Some(script) = script(alloc)? else {
+        return Ok(none);
+    };
+    let Some(left) = text.get(place..) else {
+        return Ok(none);
+    };
+    let Some(heard) = read_entry(alloc, &script, left)? else {
+        return Ok(none);
+    };
+    let sent = heard.entry.sent.items().len();
+    let acts = heard.entry.acts.items().len();
+    Ok([heard.length, heard.entry.stamp.0 as usize, sent, acts])
+}
+
+#[test]
+fn entries_are_read_one_after_the_other(rt: HostRuntime) -> Result<(), Fail> {
+    let alloc = rt.alloc();
+    assert_eq!(rt; counts(alloc, SIX, 0)?, [39, 1, 1, 0]);
+    assert_eq!(rt; counts(alloc, SIX, 39)?, [79, 2, 1, 2]);
+    assert_eq!(rt; counts(alloc, SIX, 118)?, [59, 3, 1, 1]);
+    assert_eq!(rt; counts(alloc, SIX, 177)?, [50, 4, 1, 0]);
+    assert_eq!(rt; counts(alloc, SIX, 227)?, [60, 5, 1, 1]);
+    assert_eq!(rt; counts(alloc, SIX, 287)?, [29, 6, 0, 0]);
+    Ok(())
+}
+
+#[test]
+fn a_leading_zero_is_refused(rt: HostRuntime) -> Result<(), Fail> {
+    let alloc = rt.alloc();
+    let read = counts(alloc, b"entry 10 n0 took 9.00\n", 0)?;
+    assert_eq!(rt; read, [0; 4]);
+    Ok(())
 }
 
 // How many entries the history has that the text is of; else the number of the entry whose text is at fault, or of the
