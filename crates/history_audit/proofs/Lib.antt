@@ -1,3 +1,4 @@
 pub mod OneVerdict
 pub mod Taken
 pub mod Auditing
+pub mod Divided

@@ -19,13 +19,13 @@ use Rattle.letter_types.specs.declared.votes.Vote.TheVariants as votes
 use Rattle.tx_trees.specs.ScriptData.{ScriptData, is_strict}
 use Rattle.tx_trees.specs.Valid.{IsValid}
 use Rattle.tx_trees.specs.declared.parts.Tree.{Tree}
-use Rattle.report_text.specs.Names.{cause_text, item_text, tree_text}
-use Rattle.report_text.specs.Parts.{count_text}
+use Rattle.history_text.specs.TreeNames.{cause_text, item_text, tree_text}
+use Rattle.history_text.specs.Values.{count_text}
 use Rattle.history_text.specs.Acts.{act_text}
 use Rattle.history_text.specs.Bodies.{at_version, body_text, numbers_text, what_word}
 use Rattle.history_text.specs.Names.{answer_text, commit_word, notice_text, vote_text, whole_word}
 use Rattle.history_text.specs.Printable.{IsAct, IsAnswer, IsBody, IsCause, IsItemOf, IsNotice, IsSubOf, IsTreeOf, IsVote, IsWord}
-use Rattle.history_words.specs.Words.{cause_words}
+use Rattle.history_text.specs.Words.{cause_words}
 use Rattle.history_reader.specs.inside.ActWords.{act_words}
 use Rattle.history_reader.specs.inside.BodyWords.{answer_words, body_words, commit_word_of, notice_words, number_words, order_word, version_words, vote_words, whole_words}
 use Rattle.history_reader.proofs.ListsRead.{answer_there}

@@ -3,9 +3,9 @@ use Rattle.std.proofs.Common.{◌≡◌, ◌<◌, ◌^◌, ◌∙◌, ◌∷◌,
 use Rattle.std.specs.Prelude.{decimal}
 use Rattle.letter_types.specs.declared.entries.LetterId.{LetterId}
 use Rattle.history_text.specs.Printable.{IsHalfWord, IsWord}
-use Rattle.history_words.specs.Parts.{lacks}
-use Rattle.history_words.proofs.Cuts.{one_cut}
-use Rattle.history_words.proofs.Lacking.{decimal_lacks}
+use Rattle.history_text.specs.Parts.{lacks}
+use Rattle.history_text.proofs.Cuts.{one_cut}
+use Rattle.history_text.proofs.Lacking.{decimal_lacks}
 use Rattle.history_reader.specs.inside.Heads.{IsId, id_word}
 
 -- the two numbers of an id that is cut so

@@ -4,8 +4,8 @@ use Rattle.std.specs.Prelude.{◌&&◌}
 use Rattle.std.specs.List.{AllByRecursion, list_all}
 use Rattle.std.proofs.lemmas.List.Folds.{list_all-append}
 use Rattle.tv_base.proofs.Truths.{right_true}
-use Rattle.history_words.specs.Parts.{lacks, parts_at}
-use Rattle.history_words.proofs.Cuts.{one_cut}
+use Rattle.history_text.specs.Parts.{lacks, parts_at}
+use Rattle.history_text.proofs.Cuts.{one_cut}
 use Rattle.history_reader.specs.inside.Lines.{begins}
 use Rattle.history_reader.proofs.Spelling.{IsLine, one_text}
 

@@ -17,9 +17,9 @@ use Rattle.tx_trees.specs.ScriptData.{ScriptData, is_strict}
 use Rattle.tx_trees.specs.Valid.{IsValid}
 use Rattle.tx_trees.specs.declared.parts.Tree.{Tree}
 use Rattle.history_text.specs.Printable.{AreGot, HasStrictness, IsCause, IsAnswer, IsNotice, IsRow, IsTreeOf, IsVote}
-use Rattle.history_words.specs.Exact.{IsReadBack}
-use Rattle.history_words.specs.Words.{HasTree, cause_words, got_words, name_of_tree}
-use Rattle.history_words.proofs.OneToOne.{tree_one}
+use Rattle.history_text.specs.Exact.{IsReadBack}
+use Rattle.history_text.specs.Words.{HasTree, cause_words, got_words, name_of_tree}
+use Rattle.history_text.proofs.OneToOne.{tree_one}
 use Rattle.history_reader.specs.inside.BodyWords.{IsAnswerRead, IsNoticeRead, answer_words, notice_words, number_words, vote_words, whole_words}
 
 -- a row of another length isn't the one that is printed so

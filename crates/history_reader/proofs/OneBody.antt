@@ -13,7 +13,7 @@ use Rattle.letter_types.specs.declared.bodies.Notice.{Notice}
 use Rattle.letter_types.specs.declared.bodies.What.{What}
 use Rattle.tx_trees.specs.ScriptData.{ScriptData}
 use Rattle.tx_trees.specs.Valid.{IsValid}
-use Rattle.report_text.specs.Names.{tree_text}
+use Rattle.history_text.specs.TreeNames.{tree_text}
 use Rattle.history_text.specs.Printable.{IsAnswer, IsBody, IsNotice, IsSubOf, IsTreeOf, IsWord}
 use Rattle.history_reader.specs.inside.BodyWords.{answer_words, body_words}
 use Rattle.history_reader.proofs.ListsRead.{answer_there}

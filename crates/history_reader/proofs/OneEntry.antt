@@ -10,9 +10,9 @@ use Rattle.tx_trees.specs.ScriptData.{ScriptData}
 use Rattle.tx_trees.specs.Valid.{IsValid}
 use Rattle.history_text.specs.History.{act_line, act_lines, sent_line, sent_lines}
 use Rattle.history_text.specs.Printable.{Begins, IsAct, IsSent}
-use Rattle.history_words.specs.Parts.{parts_at}
-use Rattle.history_words.proofs.Cuts.{one_cut}
-use Rattle.history_words.proofs.Lacking.{decimal_lacks}
+use Rattle.history_text.specs.Parts.{parts_at}
+use Rattle.history_text.proofs.Cuts.{one_cut}
+use Rattle.history_text.proofs.Lacking.{decimal_lacks}
 use Rattle.history_reader.specs.OneEntry.{TellTheSame}
 use Rattle.history_reader.specs.inside.Heads.{IsId, act_line_words, head_words, id_word, sent_words}
 use Rattle.history_reader.proofs.LineLists.{same_lines, same_rest}

@@ -28,18 +28,18 @@ use Rattle.tx_trees.specs.Valid.{IsValid}
 use Rattle.tx_trees.specs.declared.parts.ItemRow.{ItemRow}
 use Rattle.tx_trees.specs.declared.parts.Tree.{Tree}
 use Rattle.tx_trees.proofs.SubsOf.{few_nodes}
-use Rattle.report_text.specs.Names.{item_text, tree_text}
-use Rattle.report_text.specs.Parts.{bag_text, count_text, more_numbers, value_text}
+use Rattle.history_text.specs.TreeNames.{item_text, tree_text}
+use Rattle.history_text.specs.Values.{bag_text, count_text, more_numbers, value_text}
 use Rattle.history_text.specs.Names.{actor_text}
 use Rattle.history_text.specs.Printable.{AreGot, HasStrictness, IsActor, IsAnswer, IsAmount, IsCause, IsGot, IsNotice, IsOfKind, IsVote, IsWord}
-use Rattle.history_words.specs.Parts.{parts_at}
-use Rattle.history_words.specs.Words.{AllAmounts, amount_words, cause_words, got_in_words, got_words}
-use Rattle.history_words.proofs.Bags.{bag_parts, within}
-use Rattle.history_words.proofs.Digits.{decimal_one, prints_plain}
-use Rattle.history_words.proofs.Each.{each_one}
-use Rattle.history_words.proofs.Gots.{cut_got, item_lacks, of_item}
-use Rattle.history_words.proofs.OneToOne.{item_one, signed_one, tree_one}
-use Rattle.history_words.specs.Numbers.{is_plain_number}
+use Rattle.history_text.specs.Parts.{parts_at}
+use Rattle.history_text.specs.Words.{AllAmounts, amount_words, cause_words, got_in_words, got_words}
+use Rattle.history_text.proofs.Bags.{bag_parts, within}
+use Rattle.history_text.proofs.Digits.{decimal_one, prints_plain}
+use Rattle.history_text.proofs.Each.{each_one}
+use Rattle.history_text.proofs.Gots.{cut_got, item_lacks, of_item}
+use Rattle.history_text.proofs.OneToOne.{item_one, signed_one, tree_one}
+use Rattle.history_text.specs.Numbers.{is_plain_number}
 use Rattle.history_reader.specs.inside.BodyWords.{AreLineWords, answer_words, commit_word_of, notice_words, number_words, order_word, vote_words, whole_words}
 use Rattle.history_reader.proofs.ListsRead.{strictness_one, whole_strict}
 

@@ -11,7 +11,7 @@ use Rattle.history_text.specs.Bodies.{body_text}
 use Rattle.history_text.specs.History.{act_line, act_lines, sent_line, sent_lines}
 use Rattle.history_text.specs.Names.{actor_text}
 use Rattle.history_text.specs.Printable.{IsAct, IsSent}
-use Rattle.history_words.specs.Parts.{lacks, parts_at}
+use Rattle.history_text.specs.Parts.{lacks, parts_at}
 use Rattle.history_reader.specs.inside.Heads.{act_line_words, sent_words}
 use Rattle.history_reader.specs.inside.Lines.{begins}
 use Rattle.history_reader.proofs.Forms.{act_tail, body_tail}

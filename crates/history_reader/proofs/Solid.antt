@@ -14,15 +14,15 @@ use Rattle.tx_trees.specs.Names.{is_name}
 use Rattle.tx_trees.specs.ScriptData.{ScriptData, client_of}
 use Rattle.tx_trees.specs.Valid.{IsValid}
 use Rattle.tx_trees.proofs.SubsOf.{few_nodes}
-use Rattle.report_text.specs.Names.{got_text, item_text, tree_text}
-use Rattle.report_text.specs.Parts.{bag_text, count_text, more_numbers, value_text}
+use Rattle.history_text.specs.TreeNames.{got_text, item_text, tree_text}
+use Rattle.history_text.specs.Values.{bag_text, count_text, more_numbers, value_text}
 use Rattle.history_text.specs.Names.{actor_text}
 use Rattle.history_text.specs.Printable.{AreGot, IsActor, IsAmount, IsGot, IsOfKind}
-use Rattle.history_words.specs.Parts.{lacks}
-use Rattle.history_words.specs.Words.{AllAmounts, got_in_words, got_words}
-use Rattle.history_words.proofs.Gots.{of_item}
-use Rattle.history_words.proofs.Lacking.{amount_lacks, decimal_lacks, name_lacks}
-use Rattle.history_words.proofs.Named.{item_there, tree_there}
+use Rattle.history_text.specs.Parts.{lacks}
+use Rattle.history_text.specs.Words.{AllAmounts, got_in_words, got_words}
+use Rattle.history_text.proofs.Gots.{of_item}
+use Rattle.history_text.proofs.Lacking.{amount_lacks, decimal_lacks, name_lacks}
+use Rattle.history_text.proofs.Named.{item_there, tree_there}
 use Rattle.history_reader.proofs.Spelling.{IsSolid, IsTail, both, none_more, word}
 
 lacks-append : (b : ℕ) (x y : List ℕ) → lacks b x ≡ true → lacks b y ≡ true → lacks b (x ++ y) ≡ true

@@ -6,8 +6,8 @@ use Rattle.std.specs.List.{AllByRecursion, join_with_byte, list_all}
 use Rattle.std.proofs.lemmas.List.{append-nil}
 use Rattle.std.proofs.lemmas.List.Folds.{list_all-append}
 use Rattle.std.proofs.lemmas.List.Splits.{join_with_byte-slice_split}
-use Rattle.history_words.specs.Parts.{lacks, parts_at}
-use Rattle.history_words.proofs.Cuts.{first_part_is, one_part}
+use Rattle.history_text.specs.Parts.{lacks, parts_at}
+use Rattle.history_text.proofs.Cuts.{first_part_is, one_part}
 
 -- neither a space nor a line's end
 pub record IsSolid (w : List ℕ) : Type 0 where

@@ -11,9 +11,9 @@ use Rattle.tx_trees.specs.declared.parts.Sub.{Sub}
 use Rattle.tx_trees.specs.declared.parts.Tree.{Tree}
 use Rattle.tx_trees.proofs.SubsOf.{few_subs, found_subs}
 use Rattle.history_text.specs.Printable.{IsHalfWord, IsSubOf}
-use Rattle.history_words.specs.Words.{HasTree, name_of_tree}
-use Rattle.history_words.proofs.Digits.{decimal_one}
-use Rattle.history_words.proofs.OneToOne.{tree_one}
+use Rattle.history_text.specs.Words.{HasTree, name_of_tree}
+use Rattle.history_text.proofs.Digits.{decimal_one}
+use Rattle.history_text.proofs.OneToOne.{tree_one}
 
 -- what is at a place, by the length
 is_there : {X : Type 0} (xs : List X) (k : ℕ) → nat_lt k (length xs) ≡ is_some (slice_get xs k)

@@ -14,8 +14,8 @@ use Rattle.tx_trees.specs.Valid.{IsValid}
 use Rattle.history_text.specs.History.{act_line, act_lines, entry_line, entry_lines, sent_line, sent_lines, took_text}
 use Rattle.history_text.specs.Names.{actor_text}
 use Rattle.history_text.specs.Printable.{Begins, EndsEntry, IsAct, IsPrintable, IsSent}
-use Rattle.history_words.specs.Parts.{lacks, parts_at}
-use Rattle.history_words.proofs.Cuts.{one_cut}
+use Rattle.history_text.specs.Parts.{lacks, parts_at}
+use Rattle.history_text.proofs.Cuts.{one_cut}
 use Rattle.history_reader.specs.declared.heads.Head.{Head}
 use Rattle.history_reader.specs.inside.Heads.{IsHead, IsId, act_line_words, head_words, id_word, sent_words}
 use Rattle.history_reader.specs.inside.Lines.{begins, ends_so}

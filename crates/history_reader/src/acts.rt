@@ -1,14 +1,14 @@
 // What actors do.
 ghost use Rattle.std.specs.Prelude.{◌≡◌, ◌∷◌, codes, IfOk};
 ghost use Rattle.history_text.specs.Printable.{IsAct};
-ghost use Rattle.history_words.specs.Exact.{IsReadBack};
+ghost use Rattle.history_text.specs.Exact.{IsReadBack};
 ghost use Rattle.history_reader.specs.inside.ActWords.{act_words};
 
 use crate::nexts::{
     next_commit, next_item, next_number, next_sub, next_tree, next_version, number_behind,
 };
 use crate::votes::read_vote;
-use history_words::{Parts, read_values};
+use history_text::{Parts, read_values};
 use letter_types::{Act, Boxed};
 use std::alloc::Global;
 use tv_base::{NoMemory, Version};

@@ -1,13 +1,13 @@
 // What letters say.
 ghost use Rattle.std.specs.Prelude.{◌∷◌, codes, IfOk};
 ghost use Rattle.history_text.specs.Printable.{IsBody};
-ghost use Rattle.history_words.specs.Exact.{IsReadBack};
+ghost use Rattle.history_text.specs.Exact.{IsReadBack};
 ghost use Rattle.history_reader.specs.inside.BodyWords.{body_words};
 
 use crate::letters::tree_letter;
 use crate::nexts::{next_round, next_sub, next_tree, next_version};
 use crate::votes::{read_answer, read_notice, read_row};
-use history_words::Parts;
+use history_text::Parts;
 use letter_types::Body;
 use std::alloc::Global;
 use tv_base::NoMemory;

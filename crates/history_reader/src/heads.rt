@@ -1,16 +1,16 @@
 // The line that begins an entry, and the lines of letters and acts.
 ghost use Rattle.std.specs.Prelude.{◌≡◌, IfOk};
 ghost use Rattle.history_text.specs.Printable.{IsAct, IsSent};
-ghost use Rattle.history_words.specs.Exact.{IsReadBack};
-ghost use Rattle.history_words.specs.Parts.{parts_at};
-ghost use Rattle.history_words.specs.Words.{HasActor, name_of_actor};
+ghost use Rattle.history_text.specs.Exact.{IsReadBack};
+ghost use Rattle.history_text.specs.Parts.{parts_at};
+ghost use Rattle.history_text.specs.Words.{HasActor, name_of_actor};
 ghost use Rattle.history_reader.specs.inside.Heads.{IsHead, IsId, act_line_words, head_words, id_word, last_id_words, sent_words};
 ghost use Rattle.history_reader.specs.inside.Next.{IsNext};
 
 use crate::acts::read_act;
 use crate::bodies::read_body;
 use crate::nexts::{next_number, next_word};
-use history_words::{Parts, cut, read_actor, read_half, read_number};
+use history_text::{Parts, cut, read_actor, read_half, read_number};
 use letter_types::{Act, LetterId, Outgoing};
 use std::alloc::Global;
 use tv_base::{ActorNo, NoMemory, Stamp};

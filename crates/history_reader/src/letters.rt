@@ -1,14 +1,14 @@
 // Letters without lists, by their heads.
 ghost use Rattle.std.specs.Prelude.{◌∷◌, [], codes, decimal};
 ghost use Rattle.history_text.specs.Printable.{IsBody};
-ghost use Rattle.history_words.specs.Exact.{IsReadBack};
+ghost use Rattle.history_text.specs.Exact.{IsReadBack};
 ghost use Rattle.history_reader.specs.inside.BodyWords.{IsReadFrom, body_words};
 
 use crate::nexts::{
     last_order, next_commit, next_half, next_number, next_sub, next_tree, next_version,
     number_behind,
 };
-use history_words::Parts;
+use history_text::Parts;
 use letter_types::Body;
 use tv_base::Version;
 use tx_trees::Script;

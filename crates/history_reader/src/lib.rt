@@ -10,8 +10,6 @@ mod letters;
 mod line_lists;
 mod lines;
 mod nexts;
-#[cfg(test)]
-mod tests;
 mod votes;
 
 pub use entries::{Heard, read_entry};

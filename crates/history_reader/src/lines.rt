@@ -1,9 +1,9 @@
 // What is left of a text, line by line.
 ghost use Rattle.std.specs.Prelude.{◌≡◌, ◌++◌, ◌∷◌, true, length, IfSome, IsNone};
-ghost use Rattle.history_words.specs.Parts.{lacks};
+ghost use Rattle.history_text.specs.Parts.{lacks};
 ghost use Rattle.history_reader.specs.inside.Lines.{begins, ends_so};
 
-use history_words::cut;
+use history_text::cut;
 use std::marker::Model;
 
 // What is left of a text, seen by contracts as its bytes.

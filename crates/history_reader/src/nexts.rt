@@ -1,12 +1,12 @@
 // The next words of a line.
 ghost use Rattle.std.specs.Prelude.{ℕ, List, ◌≡◌, ◌∷◌, [], codes, decimal, is_some, IfSome, IsNone, MatchOption};
 ghost use Rattle.history_text.specs.Printable.{IsHalfWord, IsSubOf, IsWord};
-ghost use Rattle.history_words.specs.Words.{HasItem, HasTree, name_of_item, name_of_tree};
+ghost use Rattle.history_text.specs.Words.{HasItem, HasTree, name_of_item, name_of_tree};
 ghost use Rattle.tx_trees.specs.ScriptData.{sub_at};
 ghost use Rattle.history_reader.specs.inside.BodyWords.{commit_word_of, order_word};
 ghost use Rattle.history_reader.specs.inside.Next.{IsNext};
 
-use history_words::{Parts, read_half, read_item, read_number, read_tree};
+use history_text::{Parts, read_half, read_item, read_number, read_tree};
 use letter_types::What;
 use tv_base::{ItemNo, SubNo, TreeNo, Version};
 use tx_trees::Script;

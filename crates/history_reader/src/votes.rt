@@ -2,18 +2,18 @@
 ghost use Rattle.std.specs.Prelude.{◌∷◌, true, codes, IfOk, slice_get};
 ghost use Rattle.std.specs.List.{AllByRecursion};
 ghost use Rattle.history_text.specs.Printable.{HasStrictness, IsAnswer, IsNotice, IsRow, IsVote, IsWord};
-ghost use Rattle.history_words.specs.Exact.{IsReadBack};
-ghost use Rattle.history_words.specs.Words.{HasTree};
+ghost use Rattle.history_text.specs.Exact.{IsReadBack};
+ghost use Rattle.history_text.specs.Words.{HasTree};
 ghost use Rattle.history_reader.specs.inside.BodyWords.{AreLineWords, IsAnswerRead, IsNoticeRead, answer_words, notice_words, number_words, vote_words};
 
-use history_words::{Parts, read_cause, read_number, read_values};
+use history_text::{Parts, read_cause, read_number, read_values};
 use letter_types::{Answer, Boxed, Notice, Row, Vote};
 use std::alloc::Global;
 use tv_base::{NoMemory, TreeNo};
 use tx_trees::{Script, TreeKind};
 
 // Numbers, each of which is one word.
-#[tactic(auto, using(history_words::proofs::Each::each_fails, history_words::proofs::Each::one_more))]
+#[tactic(auto, using(history_text::proofs::Each::each_fails, history_text::proofs::Each::one_more))]
 fn read_numbers(alloc: Global, words: &mut Parts) -> Result<Option<Row>, NoMemory>
     ensures { IfOk result (λ read. IsReadBack number_words AreLineWords words.old read) }
 {

@@ -3,9 +3,9 @@ use Rattle.std.specs.Prelude.{ℕ, List, ◌++◌, codes}
 use Rattle.letter_types.specs.declared.acts.Act.{Act}
 use Rattle.letter_types.specs.declared.acts.Act.TheVariants.{Born, Did, Turned, Showed, Swept, Finished, Waits, Parked, Voted, Freed, Decided, Applied}
 use Rattle.tx_trees.specs.ScriptData.{ScriptData}
-use Rattle.report_text.specs.Parts.{count_text}
+use Rattle.history_text.specs.Values.{count_text}
 use Rattle.history_text.specs.Bodies.{at_version}
-use Rattle.report_text.specs.Names.{got_text, item_word, word_and_tree}
+use Rattle.history_text.specs.TreeNames.{got_text, item_word, word_and_tree}
 use Rattle.history_text.specs.Names.{commit_word, sub_word, vote_text}
 
 -- the text of an act: its word, and what it is about

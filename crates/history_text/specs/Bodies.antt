@@ -5,8 +5,8 @@ use Rattle.letter_types.specs.declared.bodies.Body.TheVariants.{Go, Root, Sub, D
 use Rattle.letter_types.specs.declared.bodies.What.{What}
 use Rattle.letter_types.specs.declared.bodies.What.TheVariants as whats
 use Rattle.tx_trees.specs.ScriptData.{ScriptData}
-use Rattle.report_text.specs.Parts.{count_text}
-use Rattle.report_text.specs.Names.{word_and_tree}
+use Rattle.history_text.specs.Values.{count_text}
+use Rattle.history_text.specs.TreeNames.{word_and_tree}
 use Rattle.history_text.specs.Names.{answer_text, commit_word, notice_text, sub_word}
 
 -- a version after its word

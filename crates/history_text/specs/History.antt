@@ -5,7 +5,7 @@ use Rattle.letter_types.specs.declared.entries.Entry.{Entry}
 use Rattle.letter_types.specs.declared.entries.LetterId.{LetterId}
 use Rattle.letter_types.specs.declared.entries.Outgoing.{Outgoing}
 use Rattle.tx_trees.specs.ScriptData.{ScriptData}
-use Rattle.report_text.specs.Parts.{count_text}
+use Rattle.history_text.specs.Values.{count_text}
 use Rattle.history_text.specs.Acts.{act_text}
 use Rattle.history_text.specs.Bodies.{body_text}
 use Rattle.history_text.specs.Names.{actor_text}

@@ -1,5 +1,11 @@
+pub mod Values
+pub mod TreeNames
 pub mod Names
 pub mod Bodies
 pub mod Acts
 pub mod History
 pub mod Printable
+pub mod Exact
+pub mod Parts
+pub mod Numbers
+pub mod Words

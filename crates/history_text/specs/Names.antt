@@ -11,8 +11,8 @@ use Rattle.letter_types.specs.declared.votes.Vote.{Vote}
 use Rattle.letter_types.specs.declared.votes.Vote.TheVariants as votes
 use Rattle.tx_trees.specs.ScriptData.{ScriptData, client_of, is_strict}
 use Rattle.tx_trees.specs.declared.parts.Tree.{Tree}
-use Rattle.report_text.specs.Names.{cause_text, got_text, word_and_tree}
-use Rattle.report_text.specs.Parts.{count_text}
+use Rattle.history_text.specs.TreeNames.{cause_text, got_text, word_and_tree}
+use Rattle.history_text.specs.Values.{count_text}
 
 -- the nodes come first, then the coordinator, then the client
 abbrev pub actor_text : ScriptData → ℕ → List ℕ

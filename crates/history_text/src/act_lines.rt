@@ -2,11 +2,13 @@
 ghost use Rattle.std.specs.Prelude.{◌≡◌, ◌++◌, OnOk};
 ghost use Rattle.history_text.specs.Acts.{act_text};
 
+use crate::actor_names::push_sub_word;
+use crate::causes_text::push_got;
+use crate::counts::push_count;
 use crate::letter_lines::push_version;
-use crate::naming::push_sub_word;
+use crate::tree_names::{push_item_word, push_tree_word};
 use crate::votes_text::{push_commit, push_vote};
 use letter_types::Act;
-use report_text::{push_count, push_got, push_item_word, push_tree_word};
 use tv_base::{NoMemory, Text};
 use tx_trees::Script;
 

@@ -3,10 +3,10 @@ ghost use Rattle.std.specs.Prelude.{◌≡◌, ◌++◌, IfOk, OnOk};
 ghost use Rattle.history_text.specs.History.{act_line, act_lines, entry_line, entry_lines, history_lines_of, sent_line, sent_lines, took_text};
 
 use crate::act_lines::push_act;
+use crate::actor_names::push_actor;
+use crate::counts::push_count;
 use crate::letter_lines::push_body;
-use crate::naming::push_actor;
 use letter_types::{Act, Entry, History, LetterId, Outgoing};
-use report_text::push_count;
 use std::alloc::Global;
 use tv_base::{NoMemory, Text};
 use tx_trees::Script;

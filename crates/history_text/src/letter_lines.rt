@@ -3,10 +3,11 @@ ghost use Rattle.std.specs.Prelude.{◌≡◌, ◌++◌, OnOk};
 ghost use Rattle.std.specs.Str.{IsAscii};
 ghost use Rattle.history_text.specs.Bodies.{at_version, body_text, numbers_text, order_text, round_text, three_text};
 
-use crate::naming::push_sub_word;
+use crate::actor_names::push_sub_word;
+use crate::counts::push_count;
+use crate::tree_names::push_tree_word;
 use crate::votes_text::{push_answer, push_commit, push_notice};
 use letter_types::{Body, Row, What};
-use report_text::{push_count, push_tree_word};
 use tv_base::{NoMemory, Text, Version};
 use tx_trees::Script;
 

@@ -1,12 +1,12 @@
 // What votes, notices and answers say.
 ghost use Rattle.std.specs.Prelude.{◌≡◌, ◌++◌, OnOk, slice_get};
 ghost use Rattle.std.specs.Str.{IsAscii};
-ghost use Rattle.report_text.specs.Names.{cause_text, got_text};
+ghost use Rattle.history_text.specs.TreeNames.{cause_text, got_text};
 ghost use Rattle.history_text.specs.Names.{answer_text, cause_word, commit_word, notice_text, vote_text, whole_word, yes_text};
 
+use crate::causes_text::{push_cause, push_got};
 use commute_ops::Values;
 use letter_types::{Answer, Cause, Notice, Vote};
-use report_text::{push_cause, push_got};
 use tv_base::{NoMemory, Text, TreeNo};
 use tx_trees::{Script, TreeKind};
 

@@ -5,8 +5,6 @@
 mod in_flight;
 mod laws;
 mod reading;
-#[cfg(test)]
-mod tests;
 mod walk;
 
 pub use laws::a_text_has_one_reading;

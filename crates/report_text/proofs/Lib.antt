@@ -1,7 +1,6 @@
 pub mod Counts
 pub mod ItemLines
 pub mod OutcomeLines
-pub mod Plain
 pub mod Serving
 pub mod SmallWorths
 pub mod TreeLines

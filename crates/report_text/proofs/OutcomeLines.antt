@@ -11,9 +11,9 @@ use Rattle.tx_trees.specs.ScriptData.{ScriptData}
 use Rattle.tx_trees.specs.declared.parts.Sub.{Sub}
 use Rattle.board_model.specs.Ballots.{decision_in, tells_of, vote_in}
 use Rattle.board_model.proofs.Voting.{decisions_kept, votes_kept}
-use Rattle.report_text.specs.Names.{got_text, item_text}
+use Rattle.history_text.specs.TreeNames.{got_text, item_text}
 use Rattle.report_text.specs.Outcomes.{cause_by, cause_from, got_by, got_from, outcome_of, outcome_text, why_text}
-use Rattle.report_text.specs.Parts.{get_text}
+use Rattle.history_text.specs.Values.{get_text}
 
 pub got_text-append : (s : ScriptData) (vs more : List (ItemNo × Value)) → got_text s (vs ++ more) ≡ got_text s vs ++ got_text s more
 got_text-append s [] more = refl

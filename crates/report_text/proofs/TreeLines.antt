@@ -25,7 +25,7 @@ use Rattle.report_text.specs.inside.Lines.{born_line, found_text, ops_texts, sub
 use Rattle.report_text.specs.inside.Served.{AreRead}
 use Rattle.report_text.specs.Outcomes.{outcome_of, strict_line}
 use Rattle.report_text.proofs.OutcomeLines.{outcome_kept}
-use Rattle.report_text.specs.Parts.{get_text}
+use Rattle.history_text.specs.Values.{get_text}
 use Rattle.report_text.specs.Report.{gets_of, gets_text, item_name, read_line, tree_line, trees_text, values_text}
 
 -- the value of an item that is there, by number

@@ -1,5 +1,4 @@
 pub mod Parts
-pub mod Names
 pub mod Outcomes
 pub mod Report
 pub mod Lines

@@ -3,7 +3,7 @@
 use Rattle.std.specs.Prelude.{List, ℕ, ◌++◌, length, codes}
 use Rattle.tx_trees.specs.Adding.{all_subs}
 use Rattle.tx_trees.specs.ScriptData.{ScriptData}
-use Rattle.report_text.specs.Parts.{count_text}
+use Rattle.history_text.specs.Values.{count_text}
 use Rattle.report_text.specs.Report.{advances}
 
 -- how many nodes, items, trees, subtransactions and advancements a script has; roots are subtransactions too

@@ -11,7 +11,7 @@ use Rattle.tx_trees.specs.ScriptData.{ScriptData}
 use Rattle.tx_trees.specs.declared.parts.Sub.{Sub}
 use Rattle.board_model.specs.Ballots.{decision_in, vote_in}
 use Rattle.board_rules.specs.Stands.{refusal_in}
-use Rattle.report_text.specs.Names.{cause_text, got_text}
+use Rattle.history_text.specs.TreeNames.{cause_text, got_text}
 use Rattle.report_text.specs.Parts.{version_text}
 
 -- the values that a vote gives

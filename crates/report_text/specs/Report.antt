@@ -18,7 +18,8 @@ use Rattle.board_rules.specs.Histories.{places_of, version_of}
 use Rattle.board_rules.specs.Right.{shown}
 use Rattle.board_rules.specs.Worth.{worth, is_written}
 use Rattle.report_text.specs.Outcomes.{outcome_of, strict_line}
-use Rattle.report_text.specs.Parts.{get_text, value_text, version_text}
+use Rattle.history_text.specs.Values.{get_text, value_text}
+use Rattle.report_text.specs.Parts.{version_text}
 
 -- how many advancements a script asks for
 abbrev pub advances : ScriptData → ℕ

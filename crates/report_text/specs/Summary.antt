@@ -14,7 +14,7 @@ use Rattle.tx_trees.specs.declared.parts.Tree.{Tree}
 use Rattle.tx_trees.specs.declared.parts.TreeKind.{TreeKind}
 use Rattle.tx_trees.specs.declared.parts.TreeKind.TheVariants.{Update, Read, Strict}
 use Rattle.board_rules.specs.Worth.{worth}
-use Rattle.report_text.specs.Parts.{count_text}
+use Rattle.history_text.specs.Values.{count_text}
 use Rattle.report_text.specs.Report.{advances}
 
 -- how many trees are update trees

@@ -3,8 +3,8 @@ ghost use Rattle.std.specs.Prelude.{◌≡◌, ◌<◌, ◌^◌, IfOk};
 ghost use Rattle.tx_trees.specs.Adding.{all_subs};
 ghost use Rattle.report_text.specs.Lines.{check_line_of};
 
-use crate::parts::push_count;
 use crate::run_report::advances;
+use history_text::push_count;
 use std::alloc::Global;
 use tv_base::{NoMemory, Text};
 use tx_trees::{Script, Tree};

@@ -1,11 +1,12 @@
 // The lines of items.
 ghost use Rattle.std.specs.Prelude.{◌≡◌, ◌++◌, ◌+◌, OnOk, length};
 ghost use Rattle.std.specs.Str.{IsAscii};
+ghost use Rattle.report_text.specs.Report.{balance};
 ghost use Rattle.report_text.specs.inside.Lines.{values_line, rows_lines, two_balances};
 ghost use Rattle.tx_trees.specs.AsciiNames.{AreAsciiItems};
 
-use crate::values::push_balance;
-use commute_ops::Value;
+use commute_ops::{Value, push_number};
+use history_text::push_value;
 use tv_base::{NoMemory, Text, Version};
 use tx_trees::ItemRow;
 
@@ -71,4 +72,14 @@ fn push_balances(
         push_balance(text, Version(version.0 + 1), later)?;
     }
     Ok(())
+}
+
+// A version and the value there.
+pub(crate) fn push_balance(text: &mut Text, version: Version, value: &Value) -> Result<(), NoMemory>
+    ensures { OnOk result (text.new ≡ text.old ++ balance version.0 value.now) }
+{
+    text.push_all(b" ")?;
+    push_number(text, version.0)?;
+    text.push_all(b":")?;
+    push_value(text, value)
 }

@@ -2,12 +2,12 @@
 ghost use Rattle.std.specs.Prelude.{◌≡◌, ◌++◌, OnOk, codes};
 ghost use Rattle.std.specs.Option.{option_copied};
 ghost use Rattle.std.specs.Str.{IsAscii};
-ghost use Rattle.report_text.specs.Names.{got_text};
+ghost use Rattle.history_text.specs.TreeNames.{got_text};
 ghost use Rattle.report_text.specs.Outcomes.{cause_by, cause_from, decided_text, got_by, got_from, outcome_of, strict_line, why_text};
 
 use crate::parts::push_version;
-use crate::votes::{push_cause, push_got};
 use board_model::Ballot;
+use history_text::{push_cause, push_got};
 use letter_types::{Cause, Vote};
 use tv_base::{NoMemory, SubNo, Text, TreeNo, Version};
 use tx_trees::{Script, Tree};

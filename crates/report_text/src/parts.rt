@@ -1,20 +1,10 @@
 // Parts of lines.
 ghost use Rattle.std.specs.Prelude.{◌≡◌, ◌++◌, OnOk};
 ghost use Rattle.std.specs.Str.{IsAscii};
-ghost use Rattle.report_text.specs.Parts.{count_text};
 ghost use Rattle.report_text.specs.Parts.{version_text};
 
 use commute_ops::push_number;
 use tv_base::{Name, NoMemory, Text, Version};
-
-/// A word and a number.
-pub fn push_count(text: &mut Text, word: &[u8], count: u64) -> Result<(), NoMemory>
-    requires { IsAscii word.now }
-    ensures { OnOk result (text.new ≡ text.old ++ count_text word.now count) }
-{
-    text.push_all(word)?;
-    push_number(text, count)
-}
 
 // A word, a name and its version.
 pub(crate) fn push_version(

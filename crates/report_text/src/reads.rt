@@ -4,10 +4,10 @@ ghost use Rattle.std.specs.Str.{IsAscii};
 ghost use Rattle.board_model.specs.inside.Balances.{subs_in};
 ghost use Rattle.report_text.specs.inside.Lines.{found_text, ops_texts, subs_texts};
 ghost use Rattle.tx_trees.specs.AsciiNames.{AreAsciiItems};
-ghost use Rattle.report_text.specs.Parts.{get_text};
+ghost use Rattle.history_text.specs.Values.{get_text};
 
-use crate::values::push_value;
 use commute_ops::Value;
+use history_text::push_value;
 use std::alloc::Global;
 use tv_base::{ItemNo, Name, NoMemory, Seq, Text, TreeNo};
 use tx_trees::{ItemRow, Sub, SubOp, Tree};
@@ -91,7 +91,7 @@ fn push_ops(
 }
 
 // The item's value after its name, where both are there.
-#[tactic(auto, using(crate::proofs::Plain::item_ascii))]
+#[tactic(auto, using(history_text::proofs::Plain::item_ascii))]
 fn push_found(
     text: &mut Text,
     rows: &[ItemRow],

@@ -8,10 +8,10 @@ ghost use Rattle.report_text.specs.Summary.{counts_line, number_of, one_read, ki
 ghost use Rattle.report_text.specs.inside.Totals.{AreAmounts, kind_total};
 
 use crate::check_text::count_subs;
-use crate::parts::push_count;
 use crate::run_report::advances;
 use board_model::{Balances, carry, outcomes_of, start};
 use commute_ops::{Amount, Kind, Value, push_amount};
+use history_text::push_count;
 use letter_types::History;
 use std::alloc::Global;
 use tv_base::{NoMemory, Text, Version};

@@ -15,9 +15,9 @@ use Rattle.script_reader.specs.Reading.{Gives, read_of}
 use Rattle.script_reader.specs.declared.reading.ScriptRefusal.{ScriptRefusal}
 use Rattle.script_reader.specs.declared.reading.ScriptRefusal.TheVariants as refusals
 use Rattle.tx_trees.specs.ScriptData.{ScriptData}
-use Rattle.audit_mode.specs.Audits.{HasAuditCause, ReadsAll}
-use Rattle.audit_mode.specs.declared.judging.AuditStop.{AuditStop}
-use Rattle.audit_mode.specs.declared.judging.AuditStop.TheVariants as audits
+use Rattle.history_audit.specs.Audits.{HasAuditCause, ReadsAll}
+use Rattle.history_audit.specs.declared.source_audit.AuditStop.{AuditStop}
+use Rattle.history_audit.specs.declared.source_audit.AuditStop.TheVariants as audits
 use Rattle.threev_top.specs.Calls.{HasCause, IsText, IsTextOf}
 use Rattle.threev_top.specs.inside.Calls.{audit_stop, reading_stop, script_stop, words_stop}
 

@@ -3,7 +3,7 @@ use Rattle.std.proofs.Common.{◌≡◌, ◌≢◌, ◌≤◌, ◌+◌, ◌⊎�
 use Rattle.std.specs.Prelude.{IsTrue}
 use Rattle.std.specs.Io.KnownBytes.{Appends}
 use Rattle.tv_base.specs.Outside.{AppendsFront, HasTaken, Rose}
-use Rattle.audit_mode.specs.declared.judging.HistoryFault.{HistoryFault}
+use Rattle.history_audit.specs.declared.source_audit.HistoryFault.{HistoryFault}
 use Rattle.command_words.specs.declared.Line.{Line}
 use Rattle.command_words.specs.declared.Line.TheVariants as lines
 use Rattle.letter_types.specs.declared.entries.Entry.{Entry}

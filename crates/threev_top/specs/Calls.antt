@@ -3,9 +3,9 @@ use Rattle.std.specs.Prelude.{ℕ, Bool, true, false, ◌≡◌, ◌≢◌, ◌+
 use Rattle.std.specs.Io.KnownBytes.{Appends}
 use Rattle.tv_base.specs.Outside.{AppendsFront, HasMoreThan, HasTaken, Rose}
 use Rattle.tv_base.specs.declared.moving.TheConstants.{MOST_BYTES}
-use Rattle.audit_mode.specs.Audits.{IsAuditOf, ReadsAll, RefusesPart, accepted_line}
-use Rattle.audit_mode.specs.declared.judging.HistoryFault.{HistoryFault}
-use Rattle.audit_mode.specs.declared.judging.TheConstants.{MOST_AUDIT_BYTES}
+use Rattle.history_audit.specs.Audits.{IsAuditOf, ReadsAll, RefusesPart, accepted_line}
+use Rattle.history_audit.specs.declared.source_audit.HistoryFault.{HistoryFault}
+use Rattle.history_audit.specs.declared.source_audit.TheConstants.{MOST_AUDIT_BYTES}
 use Rattle.command_words.specs.declared.Line.{Line}
 use Rattle.command_words.specs.declared.Line.TheVariants as lines
 use Rattle.command_words.specs.declared.Mode.{Mode}

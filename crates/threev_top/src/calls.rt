@@ -2,7 +2,7 @@
 ghost use Rattle.std.specs.Prelude.{◌≡◌, ◌≤◌, ◌⊎◌, ◌≢◌, map, string_bytes, IsTrue, None, Option, Some};
 ghost use Rattle.std.specs.Io.KnownBytes.{Appends};
 ghost use Rattle.command_words.specs.Grammar.{line_of};
-ghost use Rattle.audit_mode.specs.declared.judging.HistoryFault.{HistoryFault};
+ghost use Rattle.history_audit.specs.declared.source_audit.HistoryFault.{HistoryFault};
 ghost use Rattle.script_reader.specs.declared.reading.ScriptFault.{ScriptFault};
 ghost use Rattle.threev_top.specs.Calls.{EndsAs, FailsAudit, reads_script, Refuses, Tells, TellsEnd};
 ghost use Rattle.threev_top.specs.Texts.{line_told};
@@ -15,8 +15,8 @@ use crate::making::made_by_words;
 use crate::modes::Made;
 use crate::stops::Stop;
 use crate::texts::{entry_line, fault_line};
-use audit_mode::HistoryFault;
 use command_words::WordsError;
+use history_audit::HistoryFault;
 use letter_types::History;
 use script_reader::ScriptFault;
 use std::alloc::Global;

@@ -13,8 +13,8 @@ ghost use Rattle.tv_base.specs.declared.moving.TheConstants.{MOST_BYTES};
 
 use crate::modes::{Made, Output, made_of_script};
 use crate::stops::Stop;
-use audit_mode::audit_source;
 use command_words::{Line, Mode, read_words};
+use history_audit::audit_source;
 use node_threads::run;
 use report_text::summary;
 use script_gen::generate;

@@ -2,8 +2,8 @@
 ghost use Rattle.std.specs.Prelude.{◌≡◌, Some};
 ghost use Rattle.threev_top.specs.Texts.{status_of};
 
-use audit_mode::{AuditStop, HistoryFault};
 use command_words::WordsError;
+use history_audit::{AuditStop, HistoryFault};
 use script_reader::{ScriptFault, ScriptRefusal};
 use tv_base::{NoMemory, ReadEnd};
 use tx_trees::Why;

@@ -4,7 +4,7 @@ ghost use Rattle.history_audit.specs.Names.{audit_rule_name};
 ghost use Rattle.threev_top.specs.Texts.{entry_fault_line, row_line};
 ghost use Rattle.tx_trees.specs.Why.{why_name};
 
-use audit_mode::HistoryFault;
+use history_audit::HistoryFault;
 use script_reader::ScriptFault;
 use std::alloc::{AllocError, Global};
 

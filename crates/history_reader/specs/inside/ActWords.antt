@@ -3,8 +3,8 @@ use Rattle.std.specs.Prelude.{ℕ, List, [], ◌∷◌, codes, decimal}
 use Rattle.letter_types.specs.declared.acts.Act.{Act}
 use Rattle.letter_types.specs.declared.acts.Act.TheVariants.{Born, Did, Turned, Showed, Swept, Finished, Waits, Parked, Voted, Freed, Decided, Applied}
 use Rattle.tx_trees.specs.ScriptData.{ScriptData}
-use Rattle.report_text.specs.Names.{item_text, tree_text}
-use Rattle.history_words.specs.Words.{got_words}
+use Rattle.history_text.specs.TreeNames.{item_text, tree_text}
+use Rattle.history_text.specs.Words.{got_words}
 use Rattle.history_reader.specs.inside.BodyWords.{commit_word_of, version_words, vote_words}
 
 abbrev pub act_words : ScriptData → Act → List (List ℕ)

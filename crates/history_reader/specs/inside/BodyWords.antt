@@ -14,9 +14,9 @@ use Rattle.letter_types.specs.declared.votes.Vote.{Vote}
 use Rattle.letter_types.specs.declared.votes.Vote.TheVariants as votes
 use Rattle.tx_trees.specs.ScriptData.{ScriptData, is_strict}
 use Rattle.tx_trees.specs.declared.parts.Tree.{Tree}
-use Rattle.report_text.specs.Names.{tree_text}
+use Rattle.history_text.specs.TreeNames.{tree_text}
 use Rattle.history_text.specs.Printable.{IsAnswer, IsBody, IsNotice, IsWord}
-use Rattle.history_words.specs.Words.{cause_words, got_words, name_of_tree}
+use Rattle.history_text.specs.Words.{cause_words, got_words, name_of_tree}
 
 abbrev pub vote_words : ScriptData → Vote → List (List ℕ)
 vote_words s (votes.Yes vs) = codes "yes" ∷ got_words s vs

@@ -13,7 +13,7 @@ use Rattle.tx_trees.specs.declared.parts.TreeKind.{TreeKind}
 use Rattle.tx_trees.specs.declared.parts.TreeKind.TheVariants.{Update, Read, Strict}
 use Rattle.board_model.specs.declared.standings.Standing.{Standing}
 use Rattle.report_text.specs.Outcomes.{outcome_of, strict_line}
-use Rattle.report_text.specs.Parts.{get_text}
+use Rattle.history_text.specs.Values.{get_text}
 use Rattle.report_text.specs.Report.{balance, read_line, update_line}
 
 -- a value after the name of its item, where both are there

@@ -8,8 +8,8 @@ use Rattle.tx_trees.specs.declared.why.Why.TheVariants as why
 use Rattle.script_reader.specs.Reading.{fault}
 use Rattle.script_reader.specs.declared.reading.ScriptRefusal.{ScriptRefusal}
 use Rattle.script_reader.specs.declared.reading.ScriptRefusal.TheVariants as refusals
-use Rattle.audit_mode.specs.declared.judging.AuditStop.{AuditStop}
-use Rattle.audit_mode.specs.declared.judging.AuditStop.TheVariants as audits
+use Rattle.history_audit.specs.declared.source_audit.AuditStop.{AuditStop}
+use Rattle.history_audit.specs.declared.source_audit.AuditStop.TheVariants as audits
 use Rattle.threev_top.specs.declared.modes.Output.{Output}
 use Rattle.threev_top.specs.declared.modes.Output.TheVariants as outputs
 use Rattle.threev_top.specs.declared.stops.Stop.{Stop}

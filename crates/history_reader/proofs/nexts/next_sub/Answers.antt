@@ -1,5 +1,5 @@
 use Rattle.std.proofs.Common.{◌∙◌, ◌∷◌, List, ℕ, ap, sym}
-use Rattle.history_words.specs.Words.{name_of_tree}
+use Rattle.history_text.specs.Words.{name_of_tree}
 use Rattle.history_reader.proofs.SubsThere.{not_there}
 use Rattle.history_reader.proofs.nexts.next_sub.Goals as goal
 

@@ -6,7 +6,7 @@ use Rattle.tx_trees.specs.ScriptData.{ScriptData}
 use Rattle.tx_trees.specs.declared.parts.Sub.{Sub}
 use Rattle.board_model.specs.Ballots.{vote_in}
 use Rattle.board_model.proofs.Walk.{opened}
-use Rattle.report_text.specs.Names.{got_text}
+use Rattle.history_text.specs.TreeNames.{got_text}
 use Rattle.report_text.specs.Outcomes.{got_by, got_from}
 use Rattle.report_text.proofs.OutcomeLines.{got_text-append}
 use Rattle.report_text.proofs.outcomes.push_all_got.Goals as goal

@@ -1,7 +1,7 @@
 use Rattle.std.proofs.Common.{refl}
 use Rattle.std.proofs.lemmas.Result.{err_from_is_err_and}
 use Rattle.tv_base.specs.Outside.{Rose}
-use Rattle.audit_mode.specs.Audits.{ReadsAll}
+use Rattle.history_audit.specs.Audits.{ReadsAll}
 use Rattle.threev_top.specs.inside.Calls.{bytes_of}
 use Rattle.threev_top.proofs.Causes.{reading_cause, script_cause, text_of_source}
 use Rattle.threev_top.proofs.making.made_of_source.Goals as goal

@@ -1,2 +1,0 @@
-pub mod Audits
-pub mod inside

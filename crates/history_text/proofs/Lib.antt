@@ -1,0 +1,13 @@
+pub mod Plain
+pub mod Actors
+pub mod Cuts
+pub mod Digits
+pub mod Each
+pub mod Bags
+pub mod ByKind
+pub mod Gots
+pub mod Lacking
+pub mod Named
+pub mod OneToOne
+pub mod Readings
+pub mod Sizes

@@ -1,0 +1,130 @@
+// Numbers and amounts.
+ghost use Rattle.std.specs.Prelude.{◌≡◌, ◌≤◌, ◌<◌, ◌^◌, ◌∷◌, true, false, decimal, length};
+ghost use Rattle.std.specs.Char.{is_ascii_digit};
+ghost use Rattle.std.specs.Fmt.{signed_decimal};
+ghost use Rattle.std.specs.List.{list_all};
+ghost use Rattle.tv_base.specs.Digits.{decimal_value};
+ghost use Rattle.history_text.specs.Printable.{IsAmount, IsHalfWord, IsWord};
+ghost use Rattle.history_text.specs.Exact.{IsReadBack};
+ghost use Rattle.history_text.specs.Numbers.{IsSize, begins_with_minus, is_plain_number};
+
+use commute_ops::{Amount, MOST_AMOUNT};
+
+// The most digits of a number of 64 bits.
+const MOST_DIGITS: usize = 20;
+
+// The most digits of an amount.
+const MOST_DIGITS_OF_AMOUNT: usize = 31;
+
+/// The number of 64 bits whose decimal digits these are. A leading zero is none of them.
+
+#[tactic(auto, using(crate::proofs::Readings::none_other))]
+pub fn read_number(field: &[u8]) -> Option<u64>
+    ensures { IsReadBack decimal IsWord field.now result }
+{
+    let number = plain_number(field, MOST_DIGITS)?;
+    if number > u64::MAX as u128 {
+        return None;
+    }
+    Some(number as u64)
+}
+
+/// The number of 32 bits whose decimal digits these are.
+#[tactic(auto, using(crate::proofs::Readings::none_other))]
+pub fn read_half(field: &[u8]) -> Option<u32>
+    ensures { IsReadBack decimal IsHalfWord field.now result }
+{
+    let number = read_number(field)?;
+    if number > u32::MAX as u64 {
+        return None;
+    }
+    Some(number as u32)
+}
+
+/// The amount whose decimal digits these are, behind a minus if it is negative.
+pub fn read_amount(field: &[u8]) -> Option<Amount>
+    ensures { IsReadBack signed_decimal IsAmount field.now result }
+{
+    match field {
+        [b'-', digits @ ..] => negative(digits),
+        _ => positive(field),
+    }
+}
+
+// The amount below zero of this size.
+#[tactic(auto, using(crate::proofs::Readings::none_negative, crate::proofs::Readings::minus_zero))]
+fn negative(digits: &[u8]) -> Option<Amount>
+    ensures { IsReadBack signed_decimal IsAmount (45 ∷ digits.now) result }
+{
+    let size = read_size(digits)?;
+    if size == 0 {
+        return None;
+    }
+    Some(-(size as Amount))
+}
+
+// The amount of this size.
+fn positive(digits: &[u8]) -> Option<Amount>
+    requires { begins_with_minus digits.now ≡ false }
+    ensures { IsReadBack signed_decimal IsAmount digits.now result }
+{
+    let size = read_size(digits)?;
+    Some(size as Amount)
+}
+
+// The size of an amount.
+#[tactic(auto, using(crate::proofs::Readings::none_other))]
+fn read_size(digits: &[u8]) -> Option<u128>
+    ensures { IsReadBack decimal IsSize digits.now result }
+{
+    let number = plain_number(digits, MOST_DIGITS_OF_AMOUNT)?;
+    if number > MOST_AMOUNT {
+        return None;
+    }
+    Some(number)
+}
+
+// The number of at most so many digits, without a leading zero.
+#[tactic(auto, using(crate::proofs::Readings::too_long, crate::proofs::Readings::not_plain, crate::proofs::Readings::is_plain, crate::proofs::Readings::plain_digits))]
+fn plain_number(digits: &[u8], most: usize) -> Option<u128>
+    requires { (0 < most) × (most ≤ 31) }
+    ensures { IsReadBack decimal (λ n. n < 10 ^ most) digits.now result }
+{
+    if digits.len() > most {
+        return None;
+    }
+    if !is_plain_number(digits) {
+        return None;
+    }
+    Some(value(digits))
+}
+
+// Whether these are decimal digits without a leading zero.
+fn is_plain_number(bytes: &[u8]) -> bool
+    ensures { result ≡ is_plain_number bytes.now }
+{
+    match bytes {
+        [] => false,
+        [first, more @ ..] => all_digits(bytes) && (*first != b'0' || more.len() == 0),
+    }
+}
+
+fn all_digits(bytes: &[u8]) -> bool
+    ensures { result ≡ list_all is_ascii_digit bytes.now }
+{
+    bytes.iter().all(|b| b'0' <= *b && *b <= b'9')
+}
+
+// The number that these digits spell.
+#[tactic(auto, using(crate::proofs::Sizes::has_room))]
+fn value(digits: &[u8]) -> u128
+    requires few { length digits.now ≤ 31 }
+    requires digits { list_all is_ascii_digit digits.now ≡ true }
+    ensures { result ≡ decimal_value digits.now }
+{
+    let mut value: u128 = 0;
+    for digit in digits {
+        value = value * 10 + (*digit).saturating_sub(b'0') as u128;
+    }
+    value
+}

@@ -1,0 +1,58 @@
+// Trees and items by number. What the script doesn't have is printed by its number.
+ghost use Rattle.std.specs.Prelude.{◌≡◌, ◌++◌, OnOk};
+ghost use Rattle.std.specs.Str.{IsAscii};
+ghost use Rattle.history_text.specs.TreeNames.{item_text, item_word, tree_text, word_and_tree};
+
+use commute_ops::push_number;
+use tv_base::{ItemNo, NoMemory, Text, TreeNo};
+use tx_trees::Script;
+
+// A tree.
+#[tactic(auto, using(crate::proofs::Plain::tree_named))]
+fn push_tree(text: &mut Text, script: &Script, tree: TreeNo) -> Result<(), NoMemory>
+    ensures { OnOk result (text.new ≡ text.old ++ tree_text script.now tree.0) }
+{
+    match script.trees().get(tree.0 as usize) {
+        Some(row) => text.push_all(row.name.bytes()),
+        None => push_number(text, tree.0 as u64),
+    }
+}
+
+// An item.
+#[tactic(auto, using(crate::proofs::Plain::item_named))]
+pub(crate) fn push_item(text: &mut Text, script: &Script, item: ItemNo) -> Result<(), NoMemory>
+    ensures { OnOk result (text.new ≡ text.old ++ item_text script.now item.0) }
+{
+    match script.items().get(item.0 as usize) {
+        Some(row) => text.push_all(row.name.bytes()),
+        None => push_number(text, item.0 as u64),
+    }
+}
+
+// A word, and the name of a tree after it. A tree that the script doesn't have is printed by its number.
+pub(crate) fn push_tree_word(
+    text: &mut Text,
+    script: &Script,
+    word: &[u8],
+    tree: TreeNo,
+) -> Result<(), NoMemory>
+    requires { IsAscii word.now }
+    ensures { OnOk result (text.new ≡ text.old ++ word_and_tree script.now word.now tree.0) }
+{
+    text.push_all(word)?;
+    push_tree(text, script, tree)
+}
+
+// A word, and the name of an item after it. An item that the script doesn't have is printed by its number.
+pub(crate) fn push_item_word(
+    text: &mut Text,
+    script: &Script,
+    word: &[u8],
+    item: ItemNo,
+) -> Result<(), NoMemory>
+    requires { IsAscii word.now }
+    ensures { OnOk result (text.new ≡ text.old ++ item_word script.now word.now item.0) }
+{
+    text.push_all(word)?;
+    push_item(text, script, item)
+}

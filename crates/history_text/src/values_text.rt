@@ -1,0 +1,56 @@
+// Values.
+ghost use Rattle.std.specs.Prelude.{◌≡◌, ◌++◌, OnOk, ◌∷◌, codes};
+ghost use Rattle.std.specs.Fmt.{signed_decimal};
+ghost use Rattle.history_text.specs.Values.{bag_text, more_numbers, value_text};
+
+use commute_ops::{Amount, Value, push_amount};
+use tv_base::{NoMemory, Text};
+
+/// A number in decimal, or a bag's numbers between braces.
+pub fn push_value(text: &mut Text, value: &Value) -> Result<(), NoMemory>
+    ensures { OnOk result (text.new ≡ text.old ++ value_text value.now) }
+{
+    match value {
+        Value::Sum(sum) => push_amount(text, sum.0),
+        Value::Top(top) => push_amount(text, top.0),
+        Value::Bag(bag) => push_bag(text, bag.items()),
+    }
+}
+
+// Numbers in order between braces.
+fn push_bag(text: &mut Text, numbers: &[Amount]) -> Result<(), NoMemory>
+    ensures { OnOk result (text.new ≡ text.old ++ bag_text numbers.now) }
+{
+    match numbers {
+        [] => text.push_all(b"{}"),
+        [first, more @ ..] => push_some(text, *first, more),
+    }
+}
+
+// A number and more of them between braces.
+fn push_some(text: &mut Text, first: Amount, more: &[Amount]) -> Result<(), NoMemory>
+    ensures { OnOk result (text.new ≡ text.old ++ bag_text (first ∷ more.now)) }
+{
+    text.push_all(b"{")?;
+    push_amount(text, first)?;
+    push_more(text, more)?;
+    text.push_all(b"}")
+}
+
+// Numbers in order, each after a comma.
+fn push_more(text: &mut Text, numbers: &[Amount]) -> Result<(), NoMemory>
+    ensures { OnOk result (text.new ≡ text.old ++ more_numbers numbers.now) }
+{
+    for number in numbers {
+        push_next(text, *number)?;
+    }
+    Ok(())
+}
+
+// A number after a comma.
+fn push_next(text: &mut Text, number: Amount) -> Result<(), NoMemory>
+    ensures { OnOk result (text.new ≡ text.old ++ (codes "," ++ signed_decimal number)) }
+{
+    text.push_all(b",")?;
+    push_amount(text, number)
+}

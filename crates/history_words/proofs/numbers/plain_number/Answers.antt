@@ -1,7 +1,0 @@
-use Rattle.std.proofs.Common.{arith}
-use Rattle.history_words.proofs.Readings.{is_plain}
-use Rattle.history_words.proofs.numbers.plain_number.Goals as goal
-
-pub returns : goal.returns
-returns c =
-    is_plain c.args.digits.now c.args.most c.value.result c.value.ensures (omega arith) (omega arith) (cc)

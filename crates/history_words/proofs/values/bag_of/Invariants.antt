@@ -1,6 +1,0 @@
-use Rattle.std.proofs.Common.{◌≡◌, take}
-use Rattle.history_words.specs.Numbers.{ascending_of}
-use Rattle.history_words.proofs.values.bag_of.Given as goal
-
-abbrev pub invariant-loop-number : goal.invariant-loop-number
-invariant-loop-number l = l.bag ≡ ascending_of (take l.number-index l.numbers)

@@ -1,4 +1,0 @@
-pub mod Exact
-pub mod Parts
-pub mod Numbers
-pub mod Words

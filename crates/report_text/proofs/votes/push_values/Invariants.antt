@@ -1,6 +1,0 @@
-use Rattle.std.proofs.Common.{◌≡◌, ◌++◌, drop}
-use Rattle.report_text.specs.Names.{got_text}
-use Rattle.report_text.proofs.votes.push_values.Given as goal
-
-abbrev pub invariant-loop-one : goal.invariant-loop-one
-invariant-loop-one l = l.text ++ got_text l.script (drop l.one-index l.got) ≡ l.initial.text ++ got_text l.script l.got
