@@ -7,11 +7,11 @@ use Rattle.tx_trees.specs.ScriptData.{ScriptData}
 use Rattle.tx_trees.specs.Valid.{IsValid}
 use Rattle.world_model.specs.Runs.{IsStepRun, in_flight}
 use Rattle.world_model.proofs.Bridge.{coordinator_after}
-use Rattle.phase_laws.proofs.Small.{rounds_by_trees}
+use Rattle.advance_laws.proofs.Small.{rounds_by_trees}
 use Rattle.run_laws.proofs.Bounds.{entries_few}
 use Rattle.run_laws.proofs.Ends.{no_run_stalls}
 use Rattle.run_laws.proofs.Entries.{entries_counted}
-use Rattle.epoch_laws.proofs.EveryApt.{all_apt, lawful}
+use Rattle.run_laws.proofs.EveryApt.{all_apt, lawful}
 use Rattle.headline.proofs.Promised.{headline_past}
 use Rattle.run_laws.proofs.NoRounds.{no_rounds}
 use Rattle.headline.specs.Ended.{HasEnded}

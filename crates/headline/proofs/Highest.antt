@@ -41,10 +41,10 @@ use Rattle.world_model.proofs.Every.{node_kept}
 use Rattle.world_model.proofs.KeptThere.{IsCoreKeeping, OfKeeping, core_keeps}
 use Rattle.tree_laws.proofs.AptItems.{Applies, Changes, Collects, Follows, Raises, Rests, Shows, Touches, core_changes, raised_to}
 use Rattle.tree_laws.proofs.AptWindows.{apt_timely}
-use Rattle.epoch_laws.proofs.EveryApt.{all_apt}
+use Rattle.run_laws.proofs.EveryApt.{all_apt}
 use Rattle.run_laws.proofs.KeptWhy.{keeps_rises}
-use Rattle.value_laws.proofs.HeldItems.{collected_most}
-use Rattle.rule_laws.proofs.MostHeld.{put_most, touched_most}
+use Rattle.run_laws.proofs.HeldItems.{collected_most}
+use Rattle.run_laws.proofs.MostHeld.{put_most, touched_most}
 use Rattle.headline.proofs.Voters.{commits_below, raises}
 
 -- A table.

@@ -31,15 +31,15 @@ use Rattle.tree_laws.specs.Ends.{is_finish}
 use Rattle.tree_laws.proofs.Acts.{any_counted, finish_marks, of_act}
 use Rattle.tree_laws.proofs.AptTurns.{roots_have_turns}
 use Rattle.tree_laws.proofs.Finishes.{finishes_of, is_true_of}
-use Rattle.epoch_laws.proofs.EveryApt.{all_apt}
-use Rattle.epoch_laws.proofs.InTime.{advancing_run}
-use Rattle.phase_laws.specs.Given.{greatest_given}
-use Rattle.phase_laws.specs.Phases.{TurnStage}
-use Rattle.phase_laws.proofs.Brought.{BringsTo, brought_outstanding}
-use Rattle.phase_laws.proofs.ClientSteps.{Aside, Begins, ClientStep, Ends, Hears, Tells, client_step}
-use Rattle.rule_laws.proofs.NodeNumbers.{node_numbers}
-use Rattle.rule_laws.proofs.Openings.{OpensFor, opens, opens_as}
-use Rattle.rule_laws.proofs.Raised.{raised_most}
+use Rattle.run_laws.proofs.EveryApt.{all_apt}
+use Rattle.run_laws.proofs.InTime.{advancing_run}
+use Rattle.advance_laws.specs.Given.{greatest_given}
+use Rattle.advance_laws.specs.Phases.{TurnStage}
+use Rattle.advance_laws.proofs.Brought.{BringsTo, brought_outstanding}
+use Rattle.advance_laws.proofs.ClientSteps.{Aside, Begins, ClientStep, Ends, Hears, Tells, client_step}
+use Rattle.run_laws.proofs.NodeNumbers.{node_numbers}
+use Rattle.run_laws.proofs.Openings.{OpensFor, opens, opens_as}
+use Rattle.run_laws.proofs.Raised.{raised_most}
 use Rattle.tree_laws.proofs.Counted.{placed}
 use Rattle.headline.proofs.Answered.{answered_before, answered_whole}
 use Rattle.headline.proofs.Finished.{AreAtRest, over_run}

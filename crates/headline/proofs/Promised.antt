@@ -9,12 +9,12 @@ use Rattle.headline.proofs.Finished.{whole_at_end}
 use Rattle.headline.proofs.Settled.{settled}
 use Rattle.letter_types.specs.declared.entries.Entry.{Entry}
 use Rattle.headline.proofs.BoardRuns.{board_run}
-use Rattle.epoch_laws.proofs.AtOnce.{all_at_once}
+use Rattle.run_laws.proofs.AtOnce.{all_at_once}
 use Rattle.run_laws.proofs.Taken.{taken_run}
-use Rattle.rule_laws.proofs.CommittedGets.{gets_are_the_fold}
-use Rattle.rule_laws.proofs.Right.{right_run}
-use Rattle.rule_laws.proofs.ShownStays.{shown_stays}
-use Rattle.rule_laws.proofs.WritersFirst.{writers_first}
+use Rattle.run_laws.proofs.CommittedGets.{gets_are_the_fold}
+use Rattle.run_laws.proofs.Right.{right_run}
+use Rattle.run_laws.proofs.ShownStays.{shown_stays}
+use Rattle.run_laws.proofs.WritersFirst.{writers_first}
 use Rattle.headline.proofs.Undone.{nothing_undone}
 use Rattle.tx_trees.specs.ScriptData.{ScriptData}
 use Rattle.tx_trees.specs.Valid.{IsValid}

@@ -34,9 +34,9 @@ use Rattle.board_rules.proofs.Places.{at_each_act_map}
 use Rattle.board_rules.specs.Serial.{serial_to}
 use Rattle.board_rules.specs.Worth.{after_deed, after_ops, after_subs, after_tree, first_value, worth}
 use Rattle.world_model.specs.Runs.{IsStepRun}
-use Rattle.rule_laws.specs.Stays.{Shows}
+use Rattle.run_laws.specs.Stays.{Shows}
 use Rattle.headline.specs.Undone.{ShowsNothingUndone, is_undone, worth_kept}
-use Rattle.rule_laws.proofs.ShownStays.{same_worths, shown_stays}
+use Rattle.run_laws.proofs.ShownStays.{same_worths, shown_stays}
 
 -- What `add` operations make of a value.
 

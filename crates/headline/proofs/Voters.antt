@@ -33,8 +33,8 @@ use Rattle.world_model.specs.Strict.{core_by_kind, core_row}
 use Rattle.world_model.proofs.Cases.{Case, Coordinates, Does, NodeDoes, NodeKeeps, Submits, case, apt_named}
 use Rattle.world_model.proofs.Every.{node_kept}
 use Rattle.world_model.proofs.Scripts.{get_below}
-use Rattle.phase_laws.proofs.Brought.{brought_outstanding, each_of_brought}
-use Rattle.phase_laws.proofs.Progress.{brings_to}
+use Rattle.advance_laws.proofs.Brought.{brought_outstanding, each_of_brought}
+use Rattle.advance_laws.proofs.Progress.{brings_to}
 use Rattle.tree_laws.specs.Applied.{decided_as, decisions_to}
 use Rattle.tree_laws.specs.Carried.{CarriesVersion}
 use Rattle.tree_laws.specs.Dids.{asks}
@@ -52,7 +52,7 @@ use Rattle.tree_laws.proofs.AptTurns.{core_turns}
 use Rattle.tree_laws.proofs.AptVersions.{DoneIn, before, is_version, version_is}
 use Rattle.tree_laws.proofs.NodeLoads.{strict_there}
 use Rattle.tree_laws.proofs.Turns.{kind_version, work_version}
-use Rattle.epoch_laws.proofs.EveryApt.{all_apt}
+use Rattle.run_laws.proofs.EveryApt.{all_apt}
 use Rattle.run_laws.proofs.KeptWhy.{keeps_rises}
 
 -- The version that is updated never falls.

@@ -13,8 +13,8 @@ use Rattle.board_rules.specs.Moves.{IsBoardRun}
 use Rattle.board_rules.specs.Right.{HasFinished, IsAtOnce, IsRight}
 use Rattle.world_model.specs.Runs.{IsWorldRun}
 use Rattle.run_laws.specs.Taken.{TakesWhatIsApt}
-use Rattle.rule_laws.specs.Gets.{GetsAreTheFoldBefore}
-use Rattle.rule_laws.specs.Stays.{ReadsStayRight, WritersAreFirst}
+use Rattle.run_laws.specs.Gets.{GetsAreTheFoldBefore}
+use Rattle.run_laws.specs.Stays.{ReadsStayRight, WritersAreFirst}
 use Rattle.headline.specs.Undone.{ShowsNothingUndone}
 use Rattle.headline.specs.Held.{HasHeldThree, HoldsBalances}
 

@@ -5,7 +5,7 @@ use Rattle.letter_types.specs.declared.entries.Entry.{Entry}
 use Rattle.tx_trees.specs.ScriptData.{ScriptData}
 use Rattle.board_rules.specs.Serial.{serial_to}
 use Rattle.board_rules.specs.Worth.{worth_after}
-use Rattle.rule_laws.specs.Stays.{ReadsShow}
+use Rattle.run_laws.specs.Stays.{ReadsShow}
 
 -- tree t is there, and was undone: a subtransaction of what was written failed
 abbrev pub is_undone : ScriptData → ℕ → Bool

@@ -15,7 +15,7 @@ use Rattle.board_rules.specs.Moves.{OneByOne}
 use Rattle.board_rules.specs.Right.{IsShown}
 use Rattle.board_rules.specs.Worth.{worth}
 use Rattle.headline.specs.Headline.{HasHeadline}
-use Rattle.rule_laws.specs.Stays.{Shows}
+use Rattle.run_laws.specs.Stays.{Shows}
 
 -- what holds of each of an entry's acts holds of one that is at a place
 act_at : (Q : Act → Type 0) (node : ℕ) (xs : List Place) (acts : List Act) (k : ℕ) (a : Act)

@@ -53,10 +53,10 @@ use Rattle.strict_laws.proofs.AtHome.{all_append}
 use Rattle.strict_laws.proofs.DoneOrParked.{meets_way}
 use Rattle.world_model.proofs.MeantRows.{strict_below}
 use Rattle.strict_laws.proofs.Parkings.{kind_updates_by}
-use Rattle.phase_laws.proofs.Brought.{brought_meant, each_of_brought}
-use Rattle.phase_laws.proofs.Progress.{brings_to}
+use Rattle.advance_laws.proofs.Brought.{brought_meant, each_of_brought}
+use Rattle.advance_laws.proofs.Progress.{brings_to}
 use Rattle.tree_laws.proofs.NodeLoads.{kind_here, ops_fit_kind}
-use Rattle.epoch_laws.proofs.AtOnce.{no_votes}
+use Rattle.run_laws.proofs.AtOnce.{no_votes}
 use Rattle.history_text.specs.Printable.{IsSubOf}
 use Rattle.print_laws.specs.OfScript.{IsActOf}
 use Rattle.print_laws.proofs.Bounded.{bounded_items}

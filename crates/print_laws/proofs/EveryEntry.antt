@@ -27,7 +27,7 @@ use Rattle.world_model.specs.Meant.{IsLetterMeant, IsMeant}
 use Rattle.strict_laws.proofs.AtHome.{all_append}
 use Rattle.world_model.proofs.Meant.{letters_are_meant}
 use Rattle.world_model.proofs.MeantRows.{strict_below}
-use Rattle.epoch_laws.proofs.EveryApt.{all_apt}
+use Rattle.run_laws.proofs.EveryApt.{all_apt}
 use Rattle.history_text.specs.Printable.{IsSubOf, IsTreeOf}
 use Rattle.print_laws.specs.OfScript.{IsAnswerOf, IsBodyOf, IsOfScript, IsSentOf}
 use Rattle.print_laws.proofs.Carrying.{IsEntryOf, all_carried, next_entry}

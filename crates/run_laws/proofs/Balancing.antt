@@ -10,9 +10,9 @@ use Rattle.world_model.specs.Counts.{tally}
 use Rattle.world_model.specs.Kept.{outstanding}
 use Rattle.world_model.specs.Runs.{node_in, IsStepRun}
 use Rattle.world_model.proofs.Every.{each_map, each_none, each_zero}
-use Rattle.phase_laws.specs.Balance.{goes_between, out, version_is}
-use Rattle.phase_laws.proofs.Moves.{uncounted_goes}
-use Rattle.epoch_laws.proofs.EveryApt.{all_apt, governed}
+use Rattle.advance_laws.specs.Balance.{goes_between, out, version_is}
+use Rattle.advance_laws.proofs.Moves.{uncounted_goes}
+use Rattle.run_laws.proofs.EveryApt.{all_apt, governed}
 use Rattle.run_laws.proofs.Measures.{of_trees}
 
 -- a letter that isn't of a tree that is born isn't counted

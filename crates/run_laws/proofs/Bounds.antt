@@ -43,8 +43,8 @@ use Rattle.world_model.specs.Meant.{IsMeant}
 use Rattle.world_model.proofs.MeantRows.{strict_below}
 use Rattle.world_model.proofs.RowSends.{OfChildren, OfRow, OfTree, core_each}
 use Rattle.world_model.proofs.Meant.{took_meant}
-use Rattle.phase_laws.specs.Advances.{asked_for, running}
-use Rattle.phase_laws.proofs.Small.{rounds_by_trees, small}
+use Rattle.advance_laws.specs.Advances.{asked_for, running}
+use Rattle.advance_laws.proofs.Small.{rounds_by_trees, small}
 use Rattle.tree_laws.specs.Dids.{asks, is_go, letters_asking, replies_to, tells_done}
 use Rattle.tree_laws.specs.Entries.{entries_most, entries_of, if_strict, lossy_entries, strict_entries, strict_subs}
 use Rattle.tree_laws.specs.Turns.{turns}
@@ -57,7 +57,7 @@ use Rattle.tree_laws.proofs.Entries.{all_subs_here, is_reply, is_work, some_subs
 use Rattle.tree_laws.proofs.Sums.{over, over_hit, over_none}
 use Rattle.run_laws.proofs.Costs.{is_apart, paid, stages}
 use Rattle.run_laws.proofs.CostsAnew.{aparts_anew}
-use Rattle.epoch_laws.proofs.EveryApt.{all_apt, lawful}
+use Rattle.run_laws.proofs.EveryApt.{all_apt, lawful}
 use Rattle.run_laws.proofs.SentFew.{ack_of, acks_few, answered_once, decide_of, decides_few, release_of, releases_few, taken_sent}
 use Rattle.run_laws.proofs.WakesFew.{over_most, read_wakes, root_wakes, sent_in, strict_wakes, update_wakes, wake_of}
 use Rattle.world_model.specs.Keeping.{woken_by}

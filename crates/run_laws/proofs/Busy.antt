@@ -27,7 +27,7 @@ use Rattle.world_model.proofs.Bags.{one_if_same, one_if_both}
 use Rattle.world_model.specs.Meant.{IsLetterMeant, IsMeant}
 use Rattle.world_model.proofs.Meant.{letters_are_meant}
 use Rattle.world_model.proofs.MeantRows.{strict_below}
-use Rattle.phase_laws.proofs.ClientSteps.{Aside, Begins, ClientStep, Ends, Hears, Tells, client_step}
+use Rattle.advance_laws.proofs.ClientSteps.{Aside, Begins, ClientStep, Ends, Hears, Tells, client_step}
 use Rattle.tree_laws.specs.Dids.{letters_asking, asks, answers, is_row_of, notices, roots_sent, tells_done}
 use Rattle.tree_laws.specs.Stages.{StageAt, Answered, Gathers, Holds, Unborn, decides, decisions}
 use Rattle.tree_laws.specs.Turns.{has_turn, turns}
@@ -36,7 +36,7 @@ use Rattle.tree_laws.proofs.AptStagesRun.{stages_of_trees}
 use Rattle.tree_laws.proofs.AptStagesSteps.{all_in_flight, decides_no_asking, tells_no_asking}
 use Rattle.tree_laws.proofs.AptTurns.{parent_before, roots_have_turns, sub_has_turns, turns_below_root, turns_come_once}
 use Rattle.tree_laws.proofs.Sent.{rooted_once, tally_take_le, tally_take_more}
-use Rattle.epoch_laws.proofs.EveryApt.{all_apt}
+use Rattle.run_laws.proofs.EveryApt.{all_apt}
 use Rattle.run_laws.proofs.Measures.{busy, left, left_of, nudges, of_trees, unanswered}
 
 -- Rows more.

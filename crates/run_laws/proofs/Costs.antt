@@ -28,18 +28,18 @@ use Rattle.world_model.proofs.Flows.{client_kept, flow}
 use Rattle.world_model.proofs.Nexts.{MadeByClient, MadeByCoordinator, Order, Turns as TurnsTo, Shows, Sweeps, TellsDone, TellsAsked, Tells}
 use Rattle.world_model.proofs.Orders.{coordinator_nodes}
 use Rattle.world_model.proofs.Sends.{advance_each, on}
-use Rattle.phase_laws.specs.Advances.{asked_for}
-use Rattle.phase_laws.specs.Phases.{count_in_flight}
-use Rattle.phase_laws.proofs.Letters.{NoTrees, all_sent_none, none_of_trees}
-use Rattle.phase_laws.proofs.Outcomes.{Outcome, Rests, Queues, Flags, Turns, Acks, LastTurned, LastShown, Finishes, GoesOn, Resumes, KeepsDone, KeepsAsked, Agrees, Recounts, Pauses, asked_kept, round_begun}
-use Rattle.phase_laws.proofs.Progress.{Begins, Coordinates, Ends, Hears, Obeys, Progress, Works, are_wakes, progress}
-use Rattle.phase_laws.proofs.Small.{outcome_in}
+use Rattle.advance_laws.specs.Advances.{asked_for}
+use Rattle.advance_laws.specs.Phases.{count_in_flight}
+use Rattle.advance_laws.proofs.Letters.{NoTrees, all_sent_none, none_of_trees}
+use Rattle.advance_laws.proofs.Outcomes.{Outcome, Rests, Queues, Flags, Turns, Acks, LastTurned, LastShown, Finishes, GoesOn, Resumes, KeepsDone, KeepsAsked, Agrees, Recounts, Pauses, asked_kept, round_begun}
+use Rattle.advance_laws.proofs.Progress.{Begins, Coordinates, Ends, Hears, Obeys, Progress, Works, are_wakes, progress}
+use Rattle.advance_laws.proofs.Small.{outcome_in}
 use Rattle.tree_laws.proofs.Entries.{taken_in}
 use Rattle.tx_trees.proofs.Rebuilding.{loses_in-append}
-use Rattle.epoch_laws.proofs.Few.{lost_most}
-use Rattle.epoch_laws.proofs.Prices.{done_pays, price, put_all, to_nodes_price}
-use Rattle.epoch_laws.proofs.EveryApt.{all_apt, lawful}
-use Rattle.phase_laws.proofs.Heeds.{AreWakes, IsWake}
+use Rattle.advance_laws.proofs.Few.{lost_most}
+use Rattle.advance_laws.proofs.Prices.{done_pays, price, put_all, to_nodes_price}
+use Rattle.run_laws.proofs.EveryApt.{all_apt, lawful}
+use Rattle.advance_laws.proofs.Heeds.{AreWakes, IsWake}
 
 -- a letter of advancements
 abbrev pub is_apart : Body → ℕ

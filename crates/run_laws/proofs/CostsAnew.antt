@@ -18,18 +18,18 @@ use Rattle.world_model.proofs.Bags.{tally-append}
 use Rattle.world_model.proofs.Flows.{client_kept, flow}
 use Rattle.world_model.proofs.Nexts.{MadeByClient}
 use Rattle.world_model.proofs.Sends.{on}
-use Rattle.phase_laws.specs.Advances.{asked_for}
-use Rattle.phase_laws.specs.Phases.{count_in_flight}
-use Rattle.phase_laws.proofs.Heeds.{Heed, IsOfEpoch, Leaves, Answers, Repeats, Obeys as ObeysAnew}
-use Rattle.phase_laws.proofs.Letters.{all_sent_none, none_of_trees}
-use Rattle.phase_laws.proofs.Progress.{Asked, Begins, Coordinates, Course, Ends, Hears, Heeds, Obeys, Restarts, TellsAnew, Works, are_wakes, course}
+use Rattle.advance_laws.specs.Advances.{asked_for}
+use Rattle.advance_laws.specs.Phases.{count_in_flight}
+use Rattle.advance_laws.proofs.Heeds.{Heed, IsOfEpoch, Leaves, Answers, Repeats, Obeys as ObeysAnew}
+use Rattle.advance_laws.proofs.Letters.{all_sent_none, none_of_trees}
+use Rattle.advance_laws.proofs.Progress.{Asked, Begins, Coordinates, Course, Ends, Hears, Heeds, Obeys, Restarts, TellsAnew, Works, are_wakes, course}
 use Rattle.tree_laws.proofs.AptLawful.{nudges_few}
 use Rattle.tree_laws.proofs.Entries.{taken_in}
-use Rattle.epoch_laws.proofs.CostsSent.{priced, priced_away, priced_here, priced_most}
-use Rattle.epoch_laws.proofs.Few.{few, lost_for, lost_most}
-use Rattle.epoch_laws.proofs.Prices.{price}
+use Rattle.advance_laws.proofs.CostsSent.{priced, priced_away, priced_here, priced_most}
+use Rattle.advance_laws.proofs.Few.{few, lost_for, lost_most}
+use Rattle.advance_laws.proofs.Prices.{price}
 use Rattle.run_laws.proofs.Costs.{apart_trees, is_apart, more_asked, more_lost, order_pays, price_trees, rows_price, tells_price, wakes_price}
-use Rattle.epoch_laws.proofs.EveryApt.{all_apt, tree_lawful}
+use Rattle.run_laws.proofs.EveryApt.{all_apt, tree_lawful}
 
 -- what was taken, and what letters in flight cost, is no more than what the client asked for and the coordinator sent
 abbrev pub AreCovered : ScriptData → List Entry → Type 0

@@ -21,13 +21,13 @@ use Rattle.world_model.specs.Kept.{kept_by, kept_in, outstanding}
 use Rattle.world_model.specs.Node.{Node}
 use Rattle.world_model.specs.Runs.{client_in, coordinator_in, node_in, in_flight, IsStepRun}
 use Rattle.world_model.proofs.Bags.{tally-append}
-use Rattle.phase_laws.specs.Advances.{asked_for, is_advance_letter, is_advanced, running}
-use Rattle.phase_laws.specs.Phases.{IsInPhase, Stage, TurnStage, ShowStage, SweepStage, token, within}
-use Rattle.phase_laws.proofs.CoordinatorCounts.{Always, coordinator_counts, count_in, pace_of}
-use Rattle.phase_laws.proofs.Counting.{NoRound}
-use Rattle.phase_laws.proofs.Levels.{versions_in_phase}
-use Rattle.phase_laws.proofs.Small.{small}
-use Rattle.phase_laws.proofs.Tokens.{told}
+use Rattle.advance_laws.specs.Advances.{asked_for, is_advance_letter, is_advanced, running}
+use Rattle.advance_laws.specs.Phases.{IsInPhase, Stage, TurnStage, ShowStage, SweepStage, token, within}
+use Rattle.advance_laws.proofs.CoordinatorCounts.{Always, coordinator_counts, count_in, pace_of}
+use Rattle.advance_laws.proofs.Counting.{NoRound}
+use Rattle.advance_laws.proofs.Levels.{versions_in_phase}
+use Rattle.advance_laws.proofs.Small.{small}
+use Rattle.advance_laws.proofs.Tokens.{told}
 use Rattle.tree_laws.specs.Dids.{asks, is_go, roots_sent}
 use Rattle.tree_laws.specs.Ends.{is_finish}
 use Rattle.tree_laws.specs.Turns.{turns}
@@ -36,7 +36,7 @@ use Rattle.tree_laws.proofs.AptTurns.{roots_have_turns}
 use Rattle.tree_laws.proofs.Client.{finish_count}
 use Rattle.tree_laws.proofs.Finishes.{all_answered_of, at_end, finishes_of, none_left}
 use Rattle.run_laws.proofs.Pauses.{coordinator_steady}
-use Rattle.epoch_laws.proofs.EveryApt.{all_apt, lawful}
+use Rattle.run_laws.proofs.EveryApt.{all_apt, lawful}
 use Rattle.run_laws.proofs.Resting.{IsSettled, nothing_waits, settled}
 use Rattle.run_laws.proofs.Stopping.{stopping}
 use Rattle.run_laws.proofs.RoundsOver.{heard_now, no_round, tree_in}

@@ -18,22 +18,22 @@ use Rattle.world_model.specs.declared.restarting.RestartPhase.{RestartPhase}
 use Rattle.world_model.specs.declared.restarting.RestartPhase.TheVariants.{Idle, Recovering, Doing, Counting, Paused}
 use Rattle.world_model.specs.Meant.{IsMeant}
 use Rattle.world_model.proofs.Meant.{took_meant}
-use Rattle.phase_laws.specs.Advances.{asked_for}
-use Rattle.phase_laws.proofs.Counting.{NoRound}
-use Rattle.phase_laws.proofs.Heeds.{Answers, Heed, Leaves, Obeys, Repeats}
-use Rattle.phase_laws.proofs.Outcomes.{one_more_is}
-use Rattle.phase_laws.proofs.Waves.{going}
-use Rattle.epoch_laws.proofs.Ending.{all_heard}
-use Rattle.epoch_laws.proofs.Exact.{exact_in}
-use Rattle.epoch_laws.proofs.ExactAside.{current_now, near_now}
-use Rattle.epoch_laws.proofs.ExactSteps.{AreExact}
-use Rattle.epoch_laws.proofs.Forgetting.{good_run}
-use Rattle.epoch_laws.proofs.Good.{IsGood, in_phase, low_turned, read_turned, token, turns_in}
-use Rattle.epoch_laws.proofs.Orderly.{orderly_in}
-use Rattle.epoch_laws.proofs.Recovers.{never_waits}
-use Rattle.epoch_laws.proofs.RestartCounts.{IsNewCount, counting_is, pace_of, restart_count, restarting_counts, versioned}
-use Rattle.epoch_laws.proofs.Wanting.{all_wanted}
-use Rattle.epoch_laws.proofs.EveryApt.{all_apt, tree_lawful}
+use Rattle.advance_laws.specs.Advances.{asked_for}
+use Rattle.advance_laws.proofs.Counting.{NoRound}
+use Rattle.advance_laws.proofs.Heeds.{Answers, Heed, Leaves, Obeys, Repeats}
+use Rattle.advance_laws.proofs.Outcomes.{one_more_is}
+use Rattle.advance_laws.proofs.Waves.{going}
+use Rattle.advance_laws.proofs.Ending.{all_heard}
+use Rattle.advance_laws.proofs.Exact.{exact_in}
+use Rattle.advance_laws.proofs.ExactAside.{current_now, near_now}
+use Rattle.advance_laws.proofs.ExactSteps.{AreExact}
+use Rattle.advance_laws.proofs.Forgetting.{good_run}
+use Rattle.advance_laws.proofs.Good.{IsGood, in_phase, low_turned, read_turned, token, turns_in}
+use Rattle.advance_laws.proofs.Orderly.{orderly_in}
+use Rattle.advance_laws.proofs.Recovers.{never_waits}
+use Rattle.advance_laws.proofs.RestartCounts.{IsNewCount, counting_is, pace_of, restart_count, restarting_counts, versioned}
+use Rattle.advance_laws.proofs.Wanting.{all_wanted}
+use Rattle.run_laws.proofs.EveryApt.{all_apt, tree_lawful}
 use Rattle.run_laws.proofs.Exacts.{order_counts}
 use Rattle.run_laws.proofs.Pauses.{IsSteady}
 use Rattle.run_laws.proofs.RoundsOver.{no_round}

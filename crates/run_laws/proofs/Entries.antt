@@ -28,11 +28,11 @@ use Rattle.world_model.proofs.Scripts.{SubAt, sub_here, sub_there}
 use Rattle.world_model.proofs.Sends.{on, roots_none}
 use Rattle.world_model.specs.Meant.{IsMeant}
 use Rattle.world_model.proofs.Meant.{took_meant}
-use Rattle.phase_laws.specs.Advances.{asked_for, is_advanced, running}
-use Rattle.phase_laws.specs.Phases.{count_in_flight}
-use Rattle.phase_laws.proofs.Letters.{NoTrees, Passes, node_passes}
-use Rattle.phase_laws.proofs.Progress.{Begins, Coordinates, Ends, Hears, Obeys, Progress, Works, progress}
-use Rattle.phase_laws.proofs.Small.{small}
+use Rattle.advance_laws.specs.Advances.{asked_for, is_advanced, running}
+use Rattle.advance_laws.specs.Phases.{count_in_flight}
+use Rattle.advance_laws.proofs.Letters.{NoTrees, Passes, node_passes}
+use Rattle.advance_laws.proofs.Progress.{Begins, Coordinates, Ends, Hears, Obeys, Progress, Works, progress}
+use Rattle.advance_laws.proofs.Small.{small}
 use Rattle.tree_laws.specs.Dids.{answers, asks, is_go, replies_to, roots_sent, tells_done}
 use Rattle.tree_laws.specs.Entries.{entries_of, rounds_in, strict_entries}
 use Rattle.tree_laws.specs.Stages.{StageAt, IsAnswered, Answered, Gathers, Holds, Unborn}
@@ -47,10 +47,10 @@ use Rattle.tree_laws.proofs.Sent.{rooted_once}
 use Rattle.tree_laws.proofs.Sums.{over, over_add, over_ones, over_same}
 use Rattle.run_laws.proofs.Bounds.{asks_sent, counted, is_note, no_go, note_by_tree, notes_root, notes_sent, reply_by_tree, strict_few, taken_same, work_by_tree}
 use Rattle.run_laws.proofs.Busy.{no_nudge}
-use Rattle.epoch_laws.proofs.Prices.{price}
+use Rattle.advance_laws.proofs.Prices.{price}
 use Rattle.run_laws.proofs.Costs.{is_apart, paid, stages, unasked}
 use Rattle.run_laws.proofs.Ends.{all_rows, answered_now, ended_all, idle}
-use Rattle.epoch_laws.proofs.EveryApt.{all_apt, lawful}
+use Rattle.run_laws.proofs.EveryApt.{all_apt, lawful}
 use Rattle.run_laws.proofs.Measures.{nudges}
 use Rattle.run_laws.proofs.SentFew.{taken_sent}
 use Rattle.run_laws.proofs.WakesFew.{sent_in}

@@ -20,11 +20,11 @@ use Rattle.world_model.specs.Counts.{Each}
 use Rattle.world_model.specs.Runs.{node_in, in_flight, MayFollow}
 use Rattle.world_model.proofs.Every.{each_append, each_map, each_step, each_taken, node_kept}
 use Rattle.world_model.proofs.Nexts.{MadeByClient, Order, Turns, Shows, Sweeps, TellsDone, TellsAsked}
-use Rattle.phase_laws.proofs.Counting.{Count, InRound, AfterRound}
-use Rattle.phase_laws.proofs.Sending.{AllRowless, IsRowless}
+use Rattle.advance_laws.proofs.Counting.{Count, InRound, AfterRound}
+use Rattle.advance_laws.proofs.Sending.{AllRowless, IsRowless}
 use Rattle.run_laws.proofs.Measures.{busy}
-use Rattle.phase_laws.proofs.Steps.{numbers_at}
-use Rattle.phase_laws.proofs.Waves.{in_at}
+use Rattle.advance_laws.proofs.Steps.{numbers_at}
+use Rattle.advance_laws.proofs.Waves.{in_at}
 use Rattle.run_laws.proofs.Heard.{row_from}
 use Rattle.world_model.proofs.Sends.{OfRows, rows_each}
 

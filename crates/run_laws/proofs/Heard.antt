@@ -22,11 +22,11 @@ use Rattle.world_model.specs.Counts.{tally, one_if}
 use Rattle.world_model.specs.Runs.{node_in, in_flight, MayFollow, IsStepRun, keeping_in}
 use Rattle.world_model.proofs.Bags.{tally-append, tally_step, sealed_tally}
 use Rattle.world_model.proofs.Nexts.{Order, Turns, Shows, Sweeps, TellsDone, TellsAsked}
-use Rattle.phase_laws.proofs.Counting.{Count, CountStep, Denies, Holds, IsCounting, IsNudged, InRound, Lasts, Leaves, NoDone, Refused, TakesDone, TakesRequests, Begins as BeginsRound, asks_after, none_in_round, paused_in_round, Premise}
-use Rattle.phase_laws.proofs.Progress.{Begins, Coordinates, Ends, Hears, Obeys, Progress, Works, Asked, Course, Heeds, Restarts, course}
-use Rattle.phase_laws.proofs.Silence.{below_or_at}
-use Rattle.phase_laws.proofs.Steps.{Shaped, shaped}
-use Rattle.phase_laws.proofs.Sending.{IsPlain, heed_plain, trees_plain}
+use Rattle.advance_laws.proofs.Counting.{Count, CountStep, Denies, Holds, IsCounting, IsNudged, InRound, Lasts, Leaves, NoDone, Refused, TakesDone, TakesRequests, Begins as BeginsRound, asks_after, none_in_round, paused_in_round, Premise}
+use Rattle.advance_laws.proofs.Progress.{Begins, Coordinates, Ends, Hears, Obeys, Progress, Works, Asked, Course, Heeds, Restarts, course}
+use Rattle.advance_laws.proofs.Silence.{below_or_at}
+use Rattle.advance_laws.proofs.Steps.{Shaped, shaped}
+use Rattle.advance_laws.proofs.Sending.{IsPlain, heed_plain, trees_plain}
 
 -- the first wave's or the second wave's question to node q, or q's answer
 abbrev pub wave : Bool → ℕ → ℕ → ℕ → ℕ → ℕ → ℕ → Body → ℕ

@@ -40,14 +40,14 @@ use Rattle.strict_laws.proofs.ByActs.{kind_updates}
 use Rattle.strict_laws.proofs.Holding.{LetsGo, met_holds, row_stays, same_holds}
 use Rattle.strict_laws.proofs.Reasons.{kept_for_a_reason}
 use Rattle.strict_laws.proofs.Waking.{wakes_find_letters}
-use Rattle.phase_laws.proofs.Brought.{brought_meant}
-use Rattle.phase_laws.proofs.Progress.{brings_to}
-use Rattle.phase_laws.proofs.Working.{RaisesBy, keeps_turns}
-use Rattle.epoch_laws.specs.Waiting.{IsKeptUntil, LettersStayKeptForAReason}
-use Rattle.epoch_laws.proofs.EveryApt.{all_apt}
-use Rattle.epoch_laws.proofs.InTime.{advancing_run}
-use Rattle.epoch_laws.proofs.Holders.{holders}
-use Rattle.epoch_laws.proofs.Woken.{Rises, does_rises, holder_woken}
+use Rattle.advance_laws.proofs.Brought.{brought_meant}
+use Rattle.advance_laws.proofs.Progress.{brings_to}
+use Rattle.advance_laws.proofs.Working.{RaisesBy, keeps_turns}
+use Rattle.run_laws.specs.Waiting.{IsKeptUntil, LettersStayKeptForAReason}
+use Rattle.run_laws.proofs.EveryApt.{all_apt}
+use Rattle.run_laws.proofs.InTime.{advancing_run}
+use Rattle.run_laws.proofs.Holders.{holders}
+use Rattle.run_laws.proofs.Woken.{Rises, does_rises, holder_woken}
 
 -- why node p keeps a letter of tree t
 abbrev pub Reason : ScriptData → List Entry → ℕ → TreeNo → Why → Type 0

@@ -9,7 +9,7 @@ use Rattle.tx_trees.specs.declared.parts.ScriptRow.TheVariants.{Tree as TreeRow,
 use Rattle.world_model.specs.Client.{Client}
 use Rattle.world_model.specs.Counts.{one_if, tally}
 use Rattle.world_model.specs.Runs.{client_in}
-use Rattle.phase_laws.specs.Phases.{count_in_flight}
+use Rattle.advance_laws.specs.Phases.{count_in_flight}
 use Rattle.tree_laws.specs.Turns.{turns}
 
 -- a row of a tree that is born, and whose answer the client hasn't heard

@@ -13,11 +13,11 @@ use Rattle.world_model.specs.declared.phase.Phase.TheVariants.{Idle, Turning, Co
 use Rattle.world_model.specs.Runs.{IsStepRun, client_in, coordinator_in}
 use Rattle.world_model.proofs.Bridge.{coordinator_after}
 use Rattle.world_model.proofs.Every.{coordinator_kept}
-use Rattle.phase_laws.specs.Advances.{running}
-use Rattle.phase_laws.proofs.Progress.{Begins, Coordinates, Ends, Hears, Obeys, Progress, Works, progress}
-use Rattle.phase_laws.proofs.Small.{small}
+use Rattle.advance_laws.specs.Advances.{running}
+use Rattle.advance_laws.proofs.Progress.{Begins, Coordinates, Ends, Hears, Obeys, Progress, Works, progress}
+use Rattle.advance_laws.proofs.Small.{small}
 use Rattle.tree_laws.specs.Entries.{rounds_in}
-use Rattle.epoch_laws.proofs.EveryApt.{all_apt, lawful}
+use Rattle.run_laws.proofs.EveryApt.{all_apt, lawful}
 
 -- Nothing is asked for, so no phase runs.
 none_runs : (s : ScriptData) (past : List Entry) → IsValid s → is_lossy s ≡ false → IsStepRun s past → advances_in s.rows ≡ 0

@@ -29,17 +29,17 @@ use Rattle.world_model.proofs.Outstanding.{keeping_elsewhere}
 use Rattle.world_model.proofs.Scripts.{sub_here}
 use Rattle.strict_laws.specs.Keeping.{IsKeptFor}
 use Rattle.strict_laws.proofs.Reasons.{kept_for_a_reason}
-use Rattle.phase_laws.proofs.Brought.{brought_meant}
-use Rattle.phase_laws.proofs.Progress.{brings_to}
+use Rattle.advance_laws.proofs.Brought.{brought_meant}
+use Rattle.advance_laws.proofs.Progress.{brings_to}
 use Rattle.tree_laws.specs.Applied.{tells_decision}
 use Rattle.tree_laws.specs.Dids.{asks, letters_asking}
 use Rattle.tree_laws.proofs.AptTurns.{turns_come_once}
-use Rattle.epoch_laws.specs.Parks.{LettersParkOnce, parks, parks_for}
-use Rattle.epoch_laws.proofs.EveryApt.{all_apt}
-use Rattle.epoch_laws.proofs.Holders.{IsAsked, applied_any, applies_any, asked_sub, does_apply, elsewhere_unapplied, holders, keeps_apply}
+use Rattle.run_laws.specs.Parks.{LettersParkOnce, parks, parks_for}
+use Rattle.run_laws.proofs.EveryApt.{all_apt}
+use Rattle.run_laws.proofs.Holders.{IsAsked, applied_any, applies_any, asked_sub, does_apply, elsewhere_unapplied, holders, keeps_apply}
 use Rattle.run_laws.proofs.KeptWhy.{Reason, new_reason}
-use Rattle.epoch_laws.proofs.KeepingActs.{client_none, coordinator_none, does_none, keeps_parks, parked_as, parks_of}
-use Rattle.epoch_laws.proofs.Woken.{holder_woken}
+use Rattle.run_laws.proofs.KeepingActs.{client_none, coordinator_none, does_none, keeps_parks, parked_as, parks_of}
+use Rattle.run_laws.proofs.Woken.{holder_woken}
 use Rattle.world_model.specs.Core.{Core}
 
 -- Numbers of kept letters that count none that is called.

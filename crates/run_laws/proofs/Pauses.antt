@@ -35,15 +35,15 @@ use Rattle.world_model.proofs.KeptThere.{IsCoreKeeping, OfKeeping, core_keeps}
 use Rattle.world_model.proofs.Nexts.{Order}
 use Rattle.world_model.proofs.Scripts.{SubAt, sub_there}
 use Rattle.world_model.specs.Meant.{IsMeant}
-use Rattle.phase_laws.proofs.Brought.{BringsTo, IsAsking, brought_meant, brought_outstanding, kept_ask}
-use Rattle.phase_laws.proofs.CoordinatorCounts.{coordinator_counts, count_in, counting_is}
-use Rattle.phase_laws.proofs.Counting.{AfterRound, Begins as BeginsRound, Count, CountStep, Denies, Holds, InRound, IsCounting, IsNudged, Lasts, Leaves, NoNudge, TakesDone, TakesRequests, TakesRow, count_asked, count_done, none_in_round, paused_in_round, Premise}
-use Rattle.phase_laws.proofs.Progress.{Begins, Coordinates, Ends, Hears, Obeys, Progress, Work, Works, are_wakes, asking_of, brings_to, Asked, Course, Forgetting, Heeds, Restarts, course}
-use Rattle.phase_laws.proofs.Sending.{AllRowless, course_rowless}
-use Rattle.phase_laws.proofs.Tokens.{phase_for}
-use Rattle.phase_laws.proofs.Steps.{Shaped, none_later, round_of, shaped}
-use Rattle.phase_laws.proofs.Waves.{none_kept}
-use Rattle.phase_laws.proofs.Working.{IsOfTrees}
+use Rattle.advance_laws.proofs.Brought.{BringsTo, IsAsking, brought_meant, brought_outstanding, kept_ask}
+use Rattle.advance_laws.proofs.CoordinatorCounts.{coordinator_counts, count_in, counting_is}
+use Rattle.advance_laws.proofs.Counting.{AfterRound, Begins as BeginsRound, Count, CountStep, Denies, Holds, InRound, IsCounting, IsNudged, Lasts, Leaves, NoNudge, TakesDone, TakesRequests, TakesRow, count_asked, count_done, none_in_round, paused_in_round, Premise}
+use Rattle.advance_laws.proofs.Progress.{Begins, Coordinates, Ends, Hears, Obeys, Progress, Work, Works, are_wakes, asking_of, brings_to, Asked, Course, Forgetting, Heeds, Restarts, course}
+use Rattle.advance_laws.proofs.Sending.{AllRowless, course_rowless}
+use Rattle.advance_laws.proofs.Tokens.{phase_for}
+use Rattle.advance_laws.proofs.Steps.{Shaped, none_later, round_of, shaped}
+use Rattle.advance_laws.proofs.Waves.{none_kept}
+use Rattle.advance_laws.proofs.Working.{IsOfTrees}
 use Rattle.tree_laws.specs.Dids.{asks}
 use Rattle.tree_laws.proofs.AptLawful.{heard_were_sent}
 use Rattle.tree_laws.proofs.AptStagesOwn.{Doing, asked, turned_here, unborn_by}
@@ -54,11 +54,11 @@ use Rattle.run_laws.proofs.Balancing.{balances}
 use Rattle.run_laws.proofs.Measures.{busy, nudges, of_trees}
 use Rattle.run_laws.proofs.Busy.{born_heard, busy_step, no_nudge, trees_rest}
 use Rattle.run_laws.proofs.Exacts.{Counts, Exact, ExactBody, Frozen, Pausing, SentExact, all_agree, asked_put, client_exact, done_put, exact_on, frozen_away, kept_is, order_counts, order_exact, orders_exact}
-use Rattle.epoch_laws.proofs.EveryApt.{lawful}
+use Rattle.run_laws.proofs.EveryApt.{lawful}
 use Rattle.world_model.specs.Keeping.{woken_by}
 use Rattle.script_parts.specs.Counts.{is_lossy}
 use Rattle.world_model.proofs.Bags.{one_if_both}
-use Rattle.phase_laws.proofs.Heeds.{AreWakes, IsWake, wakes_are, Heed, Leaves, Answers, Repeats, Obeys as HeedObeys}
+use Rattle.advance_laws.proofs.Heeds.{AreWakes, IsWake, wakes_are, Heed, Leaves, Answers, Repeats, Obeys as HeedObeys}
 
 pub record Bound (s : ScriptData) (past : List Entry) (c : Count) : Type 0 where
   pub counts : Counts s past c

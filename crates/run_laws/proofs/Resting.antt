@@ -37,9 +37,9 @@ use Rattle.tree_laws.proofs.AptStagesRun.{stages_of_trees}
 use Rattle.tree_laws.proofs.AptTurns.{parent_before, sub_has_turns}
 use Rattle.tree_laws.proofs.Counts.{zero_or}
 use Rattle.tree_laws.proofs.Finishes.{none_left, place_missing}
-use Rattle.epoch_laws.specs.Waiting.{IsHolder}
-use Rattle.epoch_laws.proofs.EveryApt.{all_apt}
-use Rattle.epoch_laws.proofs.Holders.{holders}
+use Rattle.run_laws.specs.Waiting.{IsHolder}
+use Rattle.run_laws.proofs.EveryApt.{all_apt}
+use Rattle.run_laws.proofs.Holders.{holders}
 use Rattle.run_laws.proofs.KeptWhy.{AreWaiting, IsWaiting, Reason, counts_called, waiting}
 
 -- tree t isn't born, or it is answered

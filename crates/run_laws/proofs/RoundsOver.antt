@@ -12,8 +12,8 @@ use Rattle.world_model.specs.AllApt.{AllApt}
 use Rattle.world_model.specs.Counts.{tally, one_if}
 use Rattle.world_model.specs.Runs.{client_in, in_flight, IsStepRun}
 use Rattle.world_model.proofs.Bags.{one_if_same}
-use Rattle.phase_laws.proofs.Counting.{AfterRound, Count, InRound, IsCounting, NoRound, Pace, Premise}
-use Rattle.phase_laws.proofs.Steps.{shaped}
+use Rattle.advance_laws.proofs.Counting.{AfterRound, Count, InRound, IsCounting, NoRound, Pace, Premise}
+use Rattle.advance_laws.proofs.Steps.{shaped}
 use Rattle.tree_laws.specs.Dids.{answers, is_row_of, replies_to, roots_sent}
 use Rattle.tree_laws.specs.Turns.{turns}
 use Rattle.tree_laws.proofs.Finishes.{is_true_of, none_left, rooted_below}

@@ -42,8 +42,8 @@ use Rattle.world_model.proofs.Every.{each_none, each_zero}
 use Rattle.world_model.proofs.Flows.{flow}
 use Rattle.world_model.proofs.Sends.{on, subs_none}
 use Rattle.world_model.proofs.RowSends.{OfChildren, OfRow, OfTree, core_each}
-use Rattle.phase_laws.proofs.Brought.{IsAsking}
-use Rattle.phase_laws.proofs.Progress.{brings_to, itself}
+use Rattle.advance_laws.proofs.Brought.{IsAsking}
+use Rattle.advance_laws.proofs.Progress.{brings_to, itself}
 use Rattle.tree_laws.specs.Dids.{answers, replies_to}
 use Rattle.tree_laws.proofs.AptDecided.{decided_any, decided_once, decides_any, ruled_here}
 use Rattle.tree_laws.proofs.AptLawful.{answers_once}
@@ -53,7 +53,7 @@ use Rattle.tree_laws.proofs.AptStagesRun.{stages_of_trees}
 use Rattle.tree_laws.proofs.AptSteps.{wakes_none}
 use Rattle.tree_laws.proofs.Entries.{taken_in}
 use Rattle.tree_laws.proofs.Turns.{each_told}
-use Rattle.epoch_laws.proofs.EveryApt.{all_apt}
+use Rattle.run_laws.proofs.EveryApt.{all_apt}
 use Rattle.run_laws.proofs.WakesFew.{sent_in}
 use Rattle.world_model.specs.Keeping.{woken_by}
 

@@ -19,7 +19,7 @@ use Rattle.world_model.proofs.Nexts.{MadeByClient}
 use Rattle.world_model.proofs.Sends.{on}
 use Rattle.world_model.specs.Meant.{IsMeant}
 use Rattle.world_model.proofs.Meant.{took_meant}
-use Rattle.phase_laws.proofs.ClientSteps.{Aside, Begins, ClientStep, Ends, Hears, Tells, client_step}
+use Rattle.advance_laws.proofs.ClientSteps.{Aside, Begins, ClientStep, Ends, Hears, Tells, client_step}
 use Rattle.tree_laws.specs.Dids.{answers, goes, is_go, replies, replies_to}
 use Rattle.tree_laws.specs.Ends.{is_finish}
 use Rattle.tree_laws.proofs.Client.{IsStopped, answered_places, finish_count, finished_then, finishes_once, stopped, stopped_most}

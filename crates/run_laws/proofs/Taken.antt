@@ -11,7 +11,7 @@ use Rattle.world_model.specs.Tables.{ActorData}
 use Rattle.world_model.proofs.Back.{client_leads, coordinator_leads, node_leads, restarting_leads}
 use Rattle.tree_laws.proofs.Histories.{before_more}
 use Rattle.run_laws.specs.Taken.{IsAptFor, TakesWhatIsApt}
-use Rattle.epoch_laws.proofs.EveryApt.{all_apt}
+use Rattle.run_laws.proofs.EveryApt.{all_apt}
 
 -- the letter of an entry is apt for its actor
 abbrev IsAptEntry : ScriptData → List Entry → Entry → Type 0

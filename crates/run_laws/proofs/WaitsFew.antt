@@ -27,12 +27,12 @@ use Rattle.strict_laws.specs.Keeping.{IsKeptFor}
 use Rattle.strict_laws.proofs.Reasons.{kept_for_a_reason}
 use Rattle.tree_laws.proofs.AptStagesOwn.{sub_of_node}
 use Rattle.tree_laws.proofs.AptTurns.{turns_come_once}
-use Rattle.epoch_laws.specs.Parks.{StrictRootsWaitFewTimes, is_kept_for_show, shown_as, waitings, waits_for}
-use Rattle.epoch_laws.proofs.EveryApt.{all_apt}
-use Rattle.epoch_laws.proofs.KeepingActs.{client_none, coordinator_none, does_none, keeps_waits, waits_of}
+use Rattle.run_laws.specs.Parks.{StrictRootsWaitFewTimes, is_kept_for_show, shown_as, waitings, waits_for}
+use Rattle.run_laws.proofs.EveryApt.{all_apt}
+use Rattle.run_laws.proofs.KeepingActs.{client_none, coordinator_none, does_none, keeps_waits, waits_of}
 use Rattle.run_laws.proofs.KeptWhy.{AreWaiting, IsWaiting, Reason, keeps_rises, waiting}
 use Rattle.run_laws.proofs.ParksOnce.{asks_sum, keeps_asked, kept_asks, meanwhile_same, woken_same}
-use Rattle.epoch_laws.proofs.Woken.{does_rises, does_shows}
+use Rattle.run_laws.proofs.Woken.{does_rises, does_shows}
 use Rattle.world_model.specs.Core.{Core}
 
 -- Letters that are kept for a Show.

@@ -40,15 +40,15 @@ use Rattle.world_model.proofs.MeantRows.{strict_below}
 use Rattle.strict_laws.proofs.NoWakes.{client_none as client_sends_none, coordinator_none as coordinator_sends_none, core_none}
 use Rattle.strict_laws.proofs.Reasons.{kept_for_a_reason}
 use Rattle.tree_laws.proofs.Sums.{over, over_add, over_hit, over_none, over_same}
-use Rattle.epoch_laws.specs.Parks.{is_kept_for_show, parks, parks_for, shown_as, waitings, waits_for}
-use Rattle.epoch_laws.proofs.EveryApt.{all_apt}
-use Rattle.epoch_laws.proofs.InTime.{advancing_run}
-use Rattle.epoch_laws.proofs.Holders.{holders}
-use Rattle.epoch_laws.proofs.KeepingActs.{OfKeeping, after_turn, client_none, coordinator_none, does_none, keeps_parks, keeps_waits, parked_as, parks_of}
+use Rattle.run_laws.specs.Parks.{is_kept_for_show, parks, parks_for, shown_as, waitings, waits_for}
+use Rattle.run_laws.proofs.EveryApt.{all_apt}
+use Rattle.run_laws.proofs.InTime.{advancing_run}
+use Rattle.run_laws.proofs.Holders.{holders}
+use Rattle.run_laws.proofs.KeepingActs.{OfKeeping, after_turn, client_none, coordinator_none, does_none, keeps_parks, keeps_waits, parked_as, parks_of}
 use Rattle.run_laws.proofs.KeptWhy.{AreWaiting, Reason, each_meanwhile, each_woken, new_reason, not_both, waiting}
 use Rattle.run_laws.proofs.ParksOnce.{keeps_asked, letters_park_once, meanwhile_same}
 use Rattle.run_laws.proofs.WaitsFew.{strict_roots_wait_few_times, waiting_root}
-use Rattle.epoch_laws.proofs.Woken.{called_unwoken}
+use Rattle.run_laws.proofs.Woken.{called_unwoken}
 
 -- how many letters of these bodies were sent
 abbrev pub sent_in : (Body → ℕ) → List Entry → ℕ

@@ -1,1 +1,14 @@
 pub mod Taken
+pub mod Shown
+pub mod Waiting
+pub mod Parks
+pub mod AllOrNone
+pub mod Causes
+pub mod Gets
+pub mod Written
+pub mod Held
+pub mod Stays
+pub mod Roots
+pub mod Newest
+pub mod ValuesByActs
+pub mod VoteLocks

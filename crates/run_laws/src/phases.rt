@@ -2,10 +2,10 @@
 ghost use Rattle.std.specs.Prelude.{ℕ, false, ◌≡◌, ◌<◌, ◌+◌, ◌*◌, List, length, reverse};
 ghost use Rattle.letter_types.specs.declared.entries.Entry.{Entry};
 ghost use Rattle.pair_counters.specs.Numbers.{AllBelow};
-ghost use Rattle.phase_laws.specs.Advances.{AdvancesAreKept, RoundsAreFew};
-ghost use Rattle.phase_laws.specs.Phases.{PhasesHaveTheirLetters, VersionsKeepToThePhase};
-ghost use Rattle.phase_laws.specs.Balance.{IsBalanced, MOST_COUNTED};
-ghost use Rattle.phase_laws.specs.Given.{NodesKeepTogether};
+ghost use Rattle.advance_laws.specs.Advances.{AdvancesAreKept, RoundsAreFew};
+ghost use Rattle.advance_laws.specs.Phases.{PhasesHaveTheirLetters, VersionsKeepToThePhase};
+ghost use Rattle.advance_laws.specs.Balance.{IsBalanced, MOST_COUNTED};
+ghost use Rattle.advance_laws.specs.Given.{NodesKeepTogether};
 ghost use Rattle.run_laws.specs.Taken.{TakesWhatIsApt};
 ghost use Rattle.tree_laws.specs.Entries.{rounds_in};
 ghost use Rattle.tx_trees.specs.Counts.{advances_in, is_lossy};

@@ -3,9 +3,9 @@ ghost use Rattle.std.specs.Prelude.{false, ◌≡◌, ◌∷◌, ◌++◌, List,
 ghost use Rattle.letter_types.specs.declared.entries.Entry.{Entry};
 ghost use Rattle.letter_types.specs.declared.entries.Letter.{Letter};
 ghost use Rattle.letter_types.specs.declared.entries.Outgoing.{Outgoing};
-ghost use Rattle.phase_laws.specs.Given.{IsGivenAnew};
-ghost use Rattle.phase_laws.specs.Quiet.{IsGivenInQuiet};
-ghost use Rattle.epoch_laws.specs.Shown.{IsBackedBy, IsClosedBy};
+ghost use Rattle.advance_laws.specs.Given.{IsGivenAnew};
+ghost use Rattle.advance_laws.specs.Quiet.{IsGivenInQuiet};
+ghost use Rattle.run_laws.specs.Shown.{IsBackedBy, IsClosedBy};
 ghost use Rattle.script_parts.specs.Counts.{is_lossy};
 ghost use Rattle.tx_trees.specs.ScriptData.{ScriptData};
 ghost use Rattle.tx_trees.specs.Valid.{IsValid};

@@ -5,7 +5,7 @@ ghost use Rattle.board_rules.specs.Right.{IsAtOnce, in_way_of};
 ghost use Rattle.letter_types.specs.declared.entries.Entry.{Entry};
 ghost use Rattle.letter_types.specs.declared.entries.Letter.{Letter};
 ghost use Rattle.letter_types.specs.declared.votes.Cause.TheVariants.{Conflict};
-ghost use Rattle.epoch_laws.specs.Waiting.{IsHolder};
+ghost use Rattle.run_laws.specs.Waiting.{IsHolder};
 ghost use Rattle.script_parts.specs.Counts.{has_strict};
 ghost use Rattle.tree_laws.specs.Applied.{applied_at, decided_as, decisions_to, noes};
 ghost use Rattle.tree_laws.specs.Carried.{CarriesVersion};

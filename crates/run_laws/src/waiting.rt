@@ -1,6 +1,6 @@
 // Why letters stay kept, and how often they are.
-ghost use Rattle.epoch_laws.specs.Parks.{LettersParkOnce, StrictRootsWaitFewTimes};
-ghost use Rattle.epoch_laws.specs.Waiting.{LettersStayKeptForAReason};
+ghost use Rattle.run_laws.specs.Parks.{LettersParkOnce, StrictRootsWaitFewTimes};
+ghost use Rattle.run_laws.specs.Waiting.{LettersStayKeptForAReason};
 
 /// In every run each letter that a node keeps waits for what is still to come: the root of a strict tree for a Show, where its
 /// node updates a version two above the one that it reads; a subtransaction of an update tree for the decision on a strict

@@ -2,8 +2,8 @@
 use Rattle.std.specs.Prelude.{◌≡◌, [], ◌∷◌, ◌++◌, reverse}
 use Rattle.letter_types.specs.declared.entries.Entry.{Entry}
 use Rattle.letter_types.specs.declared.entries.Outgoing.{Outgoing}
-use Rattle.epoch_laws.specs.Given.{IsGivenAnew}
-use Rattle.epoch_laws.specs.Quiet.{IsGivenInQuiet}
+use Rattle.advance_laws.specs.Given.{IsGivenAnew}
+use Rattle.advance_laws.specs.Quiet.{IsGivenInQuiet}
 use Rattle.tx_trees.specs.ScriptData.{ScriptData}
 use Rattle.world_core.specs.Actors.{WorldData}
 use Rattle.world_model.specs.Counts.{Each}

@@ -1,6 +1,6 @@
 // What laws of all runs say of a world: its history is a run by the tables.
 ghost use Rattle.std.specs.Prelude.{ℕ, ◌≡◌, false, reverse};
-ghost use Rattle.epoch_laws.specs.Balance.{IsBalanced};
+ghost use Rattle.advance_laws.specs.Balance.{IsBalanced};
 ghost use Rattle.sim_runner.specs.Worlds.{GaveAnew, GaveInQuiet};
 ghost use Rattle.tx_trees.specs.Counts.{is_lossy};
 ghost use Rattle.tx_trees.specs.ScriptData.{ScriptData};

@@ -1,5 +1,5 @@
-use Rattle.phase_laws.proofs.Small.{advances_kept}
-use Rattle.epoch_laws.proofs.EveryApt.{all_apt, lawful}
+use Rattle.advance_laws.proofs.Small.{advances_kept}
+use Rattle.run_laws.proofs.EveryApt.{all_apt, lawful}
 use Rattle.run_laws.proofs.phases.advances_are_kept.Goals as goal
 
 pub returns : goal.returns

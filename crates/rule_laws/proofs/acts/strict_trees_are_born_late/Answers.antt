@@ -1,5 +1,0 @@
-use Rattle.rule_laws.proofs.Rules.{follows_rules}
-use Rattle.rule_laws.proofs.acts.strict_trees_are_born_late.Goals as goal
-
-pub returns : goal.returns
-returns c = λ s past valid run. (follows_rules s past valid run).births

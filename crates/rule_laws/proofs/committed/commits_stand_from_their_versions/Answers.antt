@@ -1,5 +1,0 @@
-use Rattle.rule_laws.proofs.CommitsStand.{commits_stand}
-use Rattle.rule_laws.proofs.committed.commits_stand_from_their_versions.Goals as goal
-
-pub returns : goal.returns
-returns c = commits_stand

@@ -1,5 +1,0 @@
-use Rattle.rule_laws.proofs.CommittedGets.{gets_are_the_fold}
-use Rattle.rule_laws.proofs.committed.committed_gets_are_the_fold_before.Goals as goal
-
-pub returns : goal.returns
-returns c = gets_are_the_fold

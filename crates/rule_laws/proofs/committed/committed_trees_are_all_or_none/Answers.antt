@@ -1,5 +1,0 @@
-use Rattle.rule_laws.proofs.AllOrNone.{all_or_none}
-use Rattle.rule_laws.proofs.committed.committed_trees_are_all_or_none.Goals as goal
-
-pub returns : goal.returns
-returns c = all_or_none

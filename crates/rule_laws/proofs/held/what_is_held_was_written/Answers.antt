@@ -1,5 +1,0 @@
-use Rattle.rule_laws.proofs.HeldWritten.{holds_written}
-use Rattle.rule_laws.proofs.held.what_is_held_was_written.Goals as goal
-
-pub returns : goal.returns
-returns c = holds_written

@@ -1,5 +1,0 @@
-use Rattle.rule_laws.proofs.AllMoves.{moves_but_cause}
-use Rattle.rule_laws.proofs.moves.acts_are_moves.Goals as goal
-
-pub returns : goal.returns
-returns c = λ s past valid run. moves_but_cause s past valid run

@@ -1,5 +1,0 @@
-use Rattle.rule_laws.proofs.Right.{right_run}
-use Rattle.rule_laws.proofs.reads.reads_and_votes_are_right.Goals as goal
-
-pub returns : goal.returns
-returns c = right_run

@@ -1,5 +1,0 @@
-use Rattle.rule_laws.proofs.VoteCauses.{names_causes}
-use Rattle.rule_laws.proofs.reads.votes_name_their_causes.Goals as goal
-
-pub returns : goal.returns
-returns c = names_causes

@@ -1,5 +1,0 @@
-use Rattle.rule_laws.proofs.ShownStays.{shown_stays}
-use Rattle.rule_laws.proofs.stays.what_reads_show_stays.Goals as goal
-
-pub returns : goal.returns
-returns c = shown_stays

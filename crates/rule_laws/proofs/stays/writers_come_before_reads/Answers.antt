@@ -1,5 +1,0 @@
-use Rattle.rule_laws.proofs.WritersFirst.{writers_first}
-use Rattle.rule_laws.proofs.stays.writers_come_before_reads.Goals as goal
-
-pub returns : goal.returns
-returns c = writers_first

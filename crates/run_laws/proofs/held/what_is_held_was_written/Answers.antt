@@ -1,0 +1,5 @@
+use Rattle.run_laws.proofs.HeldWritten.{holds_written}
+use Rattle.run_laws.proofs.held.what_is_held_was_written.Goals as goal
+
+pub returns : goal.returns
+returns c = holds_written

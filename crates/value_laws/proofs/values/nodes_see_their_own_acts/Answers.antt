@@ -1,5 +1,0 @@
-use Rattle.value_laws.proofs.SeenByActs.{sees_by_acts}
-use Rattle.value_laws.proofs.values.nodes_see_their_own_acts.Goals as goal
-
-pub returns : goal.returns
-returns c = sees_by_acts

@@ -1,5 +1,0 @@
-use Rattle.value_laws.proofs.Newest.{newest_under_holds}
-use Rattle.value_laws.proofs.votes.nothing_newer_is_held.Goals as goal
-
-pub returns : goal.returns
-returns c = newest_under_holds

@@ -1,5 +1,0 @@
-use Rattle.value_laws.proofs.VoteLocks.{vote_locks_stand}
-use Rattle.value_laws.proofs.votes.vote_locks_stand.Goals as goal
-
-pub returns : goal.returns
-returns c = vote_locks_stand

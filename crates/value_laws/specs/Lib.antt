@@ -1,3 +1,0 @@
-pub mod Newest
-pub mod ValuesByActs
-pub mod VoteLocks
