@@ -7,6 +7,3 @@ mod rewriting;
 mod votes;
 
 pub use judge::{Judge, Refused, Wrong};
-
-#[cfg(test)]
-mod tests;

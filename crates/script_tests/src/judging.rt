@@ -1,4 +1,4 @@
-use crate::{Judge, Refused, Wrong};
+use board_judge::{Judge, Refused, Wrong};
 use board_rules::Rule;
 use commute_ops::{Kind, Op, Value, Values};
 use letter_types::{Act, Acts, Body, Entry, Letter, LetterId, Letters};
