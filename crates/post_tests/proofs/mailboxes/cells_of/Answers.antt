@@ -1,7 +1,7 @@
 use Rattle.std.proofs.Common.{◌≡◌, ◌+◌, ◌-◌, ap, sym, ◌∙◌, arith, length, rules}
 use Rattle.stamp_post.specs.Shown.{new_seats}
 use Rattle.stamp_post.proofs.Known.{new_seats_first}
-use Rattle.part_tests.proofs.mailboxes.cells_of.Goals as goal
+use Rattle.post_tests.proofs.mailboxes.cells_of.Goals as goal
 
 pub invariant_of-new : goal.invariant_of-new
 invariant_of-new g c =

@@ -1,5 +1,5 @@
 use Rattle.std.proofs.Common.{◌≡◌, ◌-◌, length}
-use Rattle.part_tests.proofs.mailboxes.put_all.Given as goal
+use Rattle.post_tests.proofs.mailboxes.put_all.Given as goal
 
 abbrev pub invariant-loop-envelope : goal.invariant-loop-envelope
 invariant-loop-envelope g l = l.outbox.post ≡ g.P.PostName.post

@@ -1,6 +1,6 @@
 use Rattle.std.proofs.Common.{◌≡◌, ◌-◌, length}
 use Rattle.stamp_post.specs.Shown.{new_seats}
-use Rattle.part_tests.proofs.mailboxes.cells_of.Given as goal
+use Rattle.post_tests.proofs.mailboxes.cells_of.Given as goal
 
 abbrev pub invariant-loop-number : goal.invariant-loop-number
 invariant-loop-number g l = record {
