@@ -376,6 +376,3 @@ impl Coordinator {
         }
     }
 }
-
-#[cfg(test)]
-mod tests;

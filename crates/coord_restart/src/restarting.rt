@@ -595,6 +595,3 @@ fn none_told(alloc: Global, nodes: u8) -> Result<AllTold, NoMemory>
     }
     Ok(told)
 }
-
-#[cfg(test)]
-mod tests;

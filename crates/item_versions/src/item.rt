@@ -18,9 +18,14 @@ type Places = ArrayVec<(Version, Value), MOST_VERSIONS>;
 
 /// The values of an item, by ascending version, in places of its own. There is always at least one, and there are at
 /// most `MOST_VERSIONS`.
-#[derive(Drop)]
 pub struct Item {
     held: Places,
+}
+
+impl Drop for Item {
+    fn drop(self) {
+        let Item { held: _ } = self;
+    }
 }
 
 impl Model for Item {

@@ -10,9 +10,15 @@ use std::mem;
 const SHORT: usize = 4;
 
 /// A list of at most `MOST` items that grows at its end, seen by contracts as the list of its items.
-#[derive(Clone, Drop)]
+#[derive(Clone)]
 pub struct Seq<T, const MOST: usize> {
     inner: Vec<T>,
+}
+
+impl<T: Drop, const MOST: usize> Drop for Seq<T, MOST> {
+    fn drop(self) {
+        let Seq { inner: _ } = self;
+    }
 }
 
 impl<T, const MOST: usize> Model for Seq<T, MOST> {
@@ -64,7 +70,8 @@ impl<T, const MOST: usize> Seq<T, MOST> {
         ensures items { result.items ≡ self }
         ensures limit { length self ≤ MOST }
     {
-        self.inner
+        let Seq { inner } = self;
+        inner
     }
 
     /// Adds an item at the end. A list that is full, or finds no memory, stays as it is and hands the item back.

@@ -61,18 +61,6 @@ fn placeholder(alloc: Global, stamp: Stamp) -> Entry {
     }
 }
 
-/// About how many entries a run of a script makes: one for each tree and two for each of its subtransactions, roots
-/// included, and what two rounds for each advancement take. Strict trees and a coordinator that forgets make more.
-fn expected_entries(script: &Script) -> usize {
-    let orders = script.nodes() as usize * 14 + 2;
-    let mut entries = (script.advances() as usize).saturating_mul(orders);
-    for tree in script.trees() {
-        let subs = tree.subs.items().len();
-        entries = entries.saturating_add(subs).saturating_add(subs + 1);
-    }
-    entries.saturating_add(1)
-}
-
 /// The actors of a script as a run begins.
 fn first_actors(alloc: Global, script: &Script) -> Result<Vec<ActorState>, NoMemory>
     ensures count { IfOk result (λ actors. length actors.items ≡ script.now.nodes + 2) }
@@ -279,7 +267,7 @@ fn advance(
 }
 
 impl World {
-    /// The world of a script as a run begins: Go is in flight, and the history is empty, with room for what is expected.
+    /// The world of a script as a run begins: Go is in flight, and the history is empty.
     pub fn start(alloc: Global, script: &Script) -> Result<World, NoMemory>
         ensures world { IfOk result (λ w. IsWorldOf script.now w) }
         ensures history { IfOk result (λ w. w.history ≡ []) }
@@ -288,12 +276,11 @@ impl World {
         let mut bag = Bag::new(alloc);
         bag.put(go(client))?;
         let actors = first_actors(alloc, script)?;
-        let history = History::with_capacity(alloc, expected_entries(script))?;
         Ok(World {
             alloc,
             actors,
             bag,
-            history,
+            history: History::new(alloc),
         })
     }
 

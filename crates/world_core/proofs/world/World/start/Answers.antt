@@ -9,4 +9,4 @@ use Rattle.tx_trees.specs.ScriptData.{client_of}
 pub returns-clause-world : goal.returns-clause-world
 returns-clause-world c =
     let bag : c.put.new.self.items ≡ go (client_of c.args.script.now) ∷ [] = grind (arith, ap (λ (b : BagData Letter). b.items) c.in_ok-put.ensures.ok, ap (λ (b : BagData Letter). b.items) c.new-bag.ensures, c.go.ensures, c.nodes.ensures.nodes) in
-    first_world _ _ c.in_ok-actors.ensures.count c.in_ok-actors.ensures.states bag c.in_ok-history.ensures
+    first_world _ _ c.in_ok-actors.ensures.count c.in_ok-actors.ensures.states bag c.new.ensures

@@ -1,7 +1,9 @@
-use super::*;
-use letter_types::{LetterId, Outgoing};
+use crate::builders::letter;
+use coord_restart::Restarting;
+use letter_types::{Body, Outgoing, Row, Step, What};
+use std::alloc::Global;
 use std::test::Fail;
-use tv_base::Stamp;
+use tv_base::{NoMemory, Version};
 
 // What the coordinator is told, and what it tells the nodes and the client. A row is one node's: its version, its round
 // and one number.
@@ -35,8 +37,6 @@ const NOTHING: Sent = [NONE; 3];
 const FIRST: u64 = 0x1_0000_0001;
 
 const SECOND: u64 = 0x1_0000_0002;
-
-const MOST: u64 = u64::MAX;
 
 fn one_row(alloc: Global, number: u64) -> Result<Row, NoMemory> {
     let mut row = Row::new(alloc);
@@ -101,22 +101,15 @@ fn sent_in(step: &Step) -> Sent {
     }
 }
 
+// What a coordinator of so many nodes sends at a letter.
 fn heard(
     alloc: Global,
+    nodes: u8,
     coordinator: &mut Restarting,
     from: u8,
     said: Said,
 ) -> Result<Sent, NoMemory> {
-    let letter = Letter {
-        id: LetterId {
-            stamp: Stamp(1),
-            place: 0,
-        },
-        from: ActorNo(from),
-        to: ActorNo(coordinator.nodes),
-        body: body(alloc, said)?,
-    };
-    let step = coordinator.on(alloc, &letter)?;
+    let step = coordinator.on(alloc, &letter(from, nodes, body(alloc, said)?))?;
     Ok(sent_in(&step))
 }
 
@@ -235,7 +228,7 @@ fn one_node_takes_its_course(rt: HostRuntime) -> Result<(), Fail> {
     let alloc = rt.alloc();
     let mut coordinator = Restarting::new(alloc, 1);
     for (from, said, want) in COURSE {
-        let answer = heard(alloc, &mut coordinator, from, said)?;
+        let answer = heard(alloc, 1, &mut coordinator, from, said)?;
         assert_eq!(rt; answer, want, "after {said:?} of {from}");
     }
     Ok(())
@@ -246,7 +239,7 @@ fn strays_are_left(rt: HostRuntime) -> Result<(), Fail> {
     let alloc = rt.alloc();
     let mut coordinator = Restarting::new(alloc, 1);
     for (from, said, want) in STRAYS {
-        let answer = heard(alloc, &mut coordinator, from, said)?;
+        let answer = heard(alloc, 1, &mut coordinator, from, said)?;
         assert_eq!(rt; answer, want, "after {said:?} of {from}");
     }
     Ok(())
@@ -315,11 +308,12 @@ fn resumed(
     wanted: u32,
 ) -> Result<Sent, NoMemory> {
     let mut coordinator = Restarting::new(alloc, 2);
-    heard(alloc, &mut coordinator, 3, Said::Lose)?;
-    heard(alloc, &mut coordinator, 3, Said::Wanted(1, wanted))?;
+    heard(alloc, 2, &mut coordinator, 3, Said::Lose)?;
+    heard(alloc, 2, &mut coordinator, 3, Said::Wanted(1, wanted))?;
     let [update, read, low] = first;
     heard(
         alloc,
+        2,
         &mut coordinator,
         0,
         Said::Numbers(1, update, read, low),
@@ -327,6 +321,7 @@ fn resumed(
     let [update, read, low] = second;
     heard(
         alloc,
+        2,
         &mut coordinator,
         1,
         Said::Numbers(1, update, read, low),
@@ -340,60 +335,5 @@ fn it_goes_on_where_nodes_are(rt: HostRuntime) -> Result<(), Fail> {
         let answer = resumed(alloc, first, second, wanted)?;
         assert_eq!(rt; answer, want, "by {first:?}, {second:?} and {wanted}");
     }
-    Ok(())
-}
-
-// One node, and all numbers at their greatest.
-const GREATEST: [(u8, Said, Sent); 6] = [
-    (
-        2,
-        Said::Lose,
-        [(0, Said::Ask(MOST)), (2, Said::Ask(MOST)), NONE],
-    ),
-    (2, Said::Wanted(MOST, 1), NOTHING),
-    (
-        0,
-        Said::Numbers(MOST, MOST, MOST, MOST),
-        [
-            (2, Said::Advanced(MOST)),
-            (0, Said::Order(MOST, What::Show, MOST)),
-            NONE,
-        ],
-    ),
-    (
-        0,
-        Said::Obeyed(MOST, What::Show, MOST),
-        [(0, Said::AskDone(MOST, MOST)), NONE, NONE],
-    ),
-    (
-        0,
-        Said::DoneRow(MOST, MOST, MOST),
-        [(0, Said::AskAsked(MOST, MOST)), NONE, NONE],
-    ),
-    (
-        0,
-        Said::AskedRow(MOST, MOST, MOST),
-        [(0, Said::Order(MOST, What::Sweep, MOST)), NONE, NONE],
-    ),
-];
-
-#[test]
-fn numbers_stop_at_their_greatest(rt: HostRuntime) -> Result<(), Fail> {
-    let alloc = rt.alloc();
-    let mut coordinator = Restarting::new(alloc, 1);
-    coordinator.epoch = MOST;
-    for (from, said, want) in GREATEST {
-        let answer = heard(alloc, &mut coordinator, from, said)?;
-        assert_eq!(rt; answer, want, "after {said:?} of {from}");
-    }
-    assert_eq!(rt;
-        heard(
-            alloc,
-            &mut coordinator,
-            0,
-            Said::Obeyed(MOST, What::Sweep, MOST)
-        )?,
-        [(2, Said::Advanced(MOST)), NONE, NONE]
-    );
     Ok(())
 }

@@ -1,9 +1,9 @@
-use super::*;
-use letter_types::{Body, Letter, LetterId, Outgoing, Row, Step};
-use phase_out::Count;
+use crate::builders::letter;
+use advance_coord::Coordinator;
+use letter_types::{Body, Outgoing, Row, Step};
 use std::alloc::Global;
 use std::test::Fail;
-use tv_base::{ActorNo, NoMemory, Stamp, Version};
+use tv_base::{ActorNo, NoMemory, Version};
 
 // What the coordinator of two nodes is told, and what it tells them and the client. A row has its version, its round
 // and two numbers.
@@ -99,16 +99,7 @@ fn heard(
     from: u8,
     said: Said,
 ) -> Result<Said, NoMemory> {
-    let letter = Letter {
-        id: LetterId {
-            stamp: Stamp(1),
-            place: 0,
-        },
-        from: ActorNo(from),
-        to: ActorNo(2),
-        body: body(alloc, said)?,
-    };
-    let step = coordinator.on(alloc, &letter)?;
+    let step = coordinator.on(alloc, &letter(from, 2, body(alloc, said)?))?;
     Ok(said_in(&step))
 }
 
@@ -187,36 +178,5 @@ fn two_advancements_take_their_course(rt: HostRuntime) -> Result<(), Fail> {
         heard(alloc, &mut coordinator, 3, Said::Advance)?,
         Said::Turn(4)
     );
-    Ok(())
-}
-
-#[test]
-fn numbers_stop_at_their_greatest(rt: HostRuntime) -> Result<(), Fail> {
-    let alloc = rt.alloc();
-    let mut coordinator = Coordinator {
-        nodes: 2,
-        update: u64::MAX,
-        waits: u64::MAX,
-        phase: Phase::Paused { reads: true },
-        acks: 0,
-        count: Count::new(alloc, u64::MAX),
-    };
-    let most = u64::MAX;
-    assert_eq!(rt;
-        heard(alloc, &mut coordinator, 3, Said::Advance)?,
-        Said::Nothing
-    );
-    assert_eq!(rt; coordinator.waits, most);
-    assert_eq!(rt;
-        heard(alloc, &mut coordinator, 3, Said::Nudge)?,
-        Said::AskDone(most - 1, most)
-    );
-    coordinator.phase = Phase::Sweeping;
-    coordinator.acks = 1;
-    assert_eq!(rt;
-        heard(alloc, &mut coordinator, 0, Said::Swept)?,
-        Said::AdvancedThenTurn(most, most)
-    );
-    assert_eq!(rt; coordinator.waits, most - 1);
     Ok(())
 }
