@@ -1,5 +1,5 @@
-//! Tests of calls that no run makes: a step over a node's parts, the client's step, the steps of both coordinators, and
-//! a home with a notice or an acknowledgement.
+//! Tests of steps by themselves: over a node's parts, of the client, of both coordinators, and of a home with a notice
+//! or an acknowledgement.
 #![tactic(auto)]
 
 #[cfg(test)]
