@@ -139,7 +139,8 @@ fn near_if(core: &NodeCore, answered: &Option<Answered>) -> bool
     }
 }
 
-/// Whether a notice after which a strict tree is decided leaves its home one of the versions in which it counts.
+/// Whether the answer that a notice completes, where its tree is strict, is of a version in which the home counts. It is
+/// so where the tree isn't strict, or the notice completes none.
 pub fn decides_near(
     alloc: Global,
     core: &NodeCore,

@@ -1,7 +1,6 @@
 // What a node makes of the decision on a strict tree.
 ghost use Rattle.std.specs.Prelude.{◌≡◌, ◌++◌, IfOk, IsTrue, OnErr, OnOk};
 ghost use Rattle.item_versions.specs.Table.{item_in, pending};
-ghost use Rattle.tx_trees.specs.ScriptData.{is_strict};
 ghost use Rattle.world_model.specs.Named.{is_strict_at};
 ghost use Rattle.script_parts.specs.Deeds.{after_deed, overwrites};
 ghost use Rattle.nc_locks.specs.Locks.{without};
@@ -12,9 +11,10 @@ use crate::votes::{overwrites, seen_in};
 use commute_ops::{Op, SumValue, TopValue, Value};
 use item_versions::{ItemTable, Staged};
 use nc_locks::Locks;
+use script_parts::kinds;
 use std::alloc::Global;
 use tv_base::{NoMemory, NodeNo, TreeNo, Version};
-use tx_trees::{Deed, Script, Sub, SubOp, TreeKind};
+use tx_trees::{Deed, Script, Sub, SubOp};
 
 /// What is decided of a strict tree.
 #[derive(Clone, Copy, Debug)]
@@ -93,18 +93,8 @@ fn is_strict(script: &Script, tree: TreeNo) -> bool
     ensures { result ≡ is_strict_at script.now tree.0 }
 {
     match script.trees().get(tree.0 as usize) {
-        Some(found) => is_strict_kind(found.kind),
+        Some(found) => kinds::is_strict(found.kind),
         None => false,
-    }
-}
-
-fn is_strict_kind(kind: TreeKind) -> bool
-    ensures { result ≡ is_strict kind }
-{
-    match kind {
-        TreeKind::Strict => true,
-        TreeKind::Update => false,
-        TreeKind::Read => false,
     }
 }
 

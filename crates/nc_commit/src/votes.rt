@@ -70,8 +70,8 @@ fn no(alloc: Global, cause: Cause) -> Result<Vote, NoMemory>
     Ok(Vote::No(cause))
 }
 
-/// The locks that the operations of a strict tree want: a get looks at its item, and a set or a draw holds it.
-pub fn wanted_by(alloc: Global, ops: &[SubOp]) -> Result<Vec<(ItemNo, Mode)>, NoMemory>
+/// The locks that the operations of a strict tree want.
+fn wanted_by(alloc: Global, ops: &[SubOp]) -> Result<Vec<(ItemNo, Mode)>, NoMemory>
     ensures { IfOk result (λ wanted. wanted.items ≡ wanted_by ops.now) }
 {
     let mut wanted = Vec::new(alloc);
@@ -81,7 +81,8 @@ pub fn wanted_by(alloc: Global, ops: &[SubOp]) -> Result<Vec<(ItemNo, Mode)>, No
     Ok(wanted)
 }
 
-fn mode_wanted(deed: &Deed) -> Mode
+/// How a deed of a strict tree locks its item: a get looks at it, and a set or a draw holds it.
+pub fn mode_wanted(deed: &Deed) -> Mode
     ensures { result ≡ mode_wanted deed.now }
 {
     match deed {

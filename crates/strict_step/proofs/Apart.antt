@@ -1,7 +1,7 @@
 -- Of no tree that is open an answer is held, also after a subtransaction or a notice; and what a tree is that is
 -- answered.
 use Rattle.std.proofs.Common.{◌≡◌, ℕ, Bool, true, false, length, refl, ap, sym, subst, ◌∙◌, Option, Some, None, inl, inr}
-use Rattle.std.specs.Prelude.{IsSome, is_some, not, slice_set, if◌then◌else◌}
+use Rattle.std.specs.Prelude.{IsSome, is_some, not, if◌then◌else◌}
 use Rattle.std.proofs.lemmas.Bool.{cases_eq}
 use Rattle.tv_base.specs.declared.numbers.SubNo.{SubNo}
 use Rattle.tv_base.specs.declared.numbers.TreeNo.{TreeNo}

@@ -4,7 +4,7 @@ ghost use Rattle.std.specs.Prelude.{◌≡◌, ◌<◌, ◌++◌, length, ◌∷
 ghost use Rattle.letter_types.specs.declared.acts.Act.TheVariants as acts;
 ghost use Rattle.letter_types.specs.declared.bodies.Body.TheVariants.{Decide};
 ghost use Rattle.tree_home.specs.Maps.{by_tree};
-ghost use Rattle.tx_trees.specs.ScriptData.{subs_at, updates, visited_by, visits};
+ghost use Rattle.tx_trees.specs.ScriptData.{subs_at, updates, visited_by};
 ghost use Rattle.world_model.specs.Strict.{answered, decided, marks, none_refuses, release_letters, to_each};
 ghost use Rattle.tree_step.specs.Changes.{MayDo, SendsRequests, part_row};
 ghost use Rattle.tree_step.specs.Node.{data_of};
@@ -14,6 +14,7 @@ ghost use Rattle.strict_step.specs.Answering.{IsApartAfter, MayDecide, tree_rele
 
 use crate::decisions::client_of;
 use letter_types::{Act, Body, Boxed, Letters, Outgoing, StepOut};
+use script_parts::children::visits;
 use std::alloc::Global;
 use tree_home::Answered;
 use tree_step::{
@@ -21,14 +22,7 @@ use tree_step::{
     kind_of, push_reply,
 };
 use tv_base::{ActorNo, NoMemory, NodeNo, TreeNo};
-use tx_trees::{Script, Sub, TreeKind};
-
-/// Whether one of the subtransactions is at the node.
-fn visits(subs: &[Sub], node: NodeNo) -> bool
-    ensures { result ≡ visits subs.now node.0 }
-{
-    subs.iter().any(|sub| sub.node.0 == node.0)
-}
+use tx_trees::{Script, TreeKind};
 
 /// The nodes that a tree visits, in order.
 pub(crate) fn visited(alloc: Global, script: &Script, tree: TreeNo) -> Result<Visited, NoMemory>

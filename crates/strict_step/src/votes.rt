@@ -21,18 +21,17 @@ ghost use Rattle.tree_step.specs.Core.{IsCoreReady, core_of};
 ghost use Rattle.strict_step.specs.inside.Voting.{change_by, no_by, noted_no, no_in_notice, refusal_there};
 
 use crate::answers::{answered_step, decided_step};
-use commute_ops::{Values, copy_values};
+use commute_ops::Values;
 use item_versions::Staged;
 use letter_types::{Body, Boxed, Cause, Letter, Notice, Vote};
-use nc_commit::{vote_on, wanted_by};
-use nc_locks::Mode;
+use nc_commit::{mode_wanted, vote_on};
 use node_versions::Turns;
 use std::alloc::Global;
 use tree_step::{
     CorePrepared, Effect, InVersion, NodeCore, NodeParts, Refusals, Request, TreePrepared,
     VoteChange, WantedLocks, asked_ops, asked_version, kind_of, prepare_notice, prepare_tree,
 };
-use tv_base::{ItemNo, NoMemory, SubNo, TreeNo, Version};
+use tv_base::{NoMemory, SubNo, TreeNo, Version};
 use tx_trees::{Script, SubOp, TreeKind};
 use world_model::Refusal;
 
@@ -134,12 +133,12 @@ pub fn prepare_note(
 }
 
 /// What a vote tells the tree's home.
-fn notice_by(alloc: Global, vote: &Vote) -> Result<Notice, NoMemory>
-    ensures { IfOk result (λ notice. notice ≡ notice_by vote.now) }
+fn notice_by(vote: Vote) -> Notice
+    ensures { result ≡ notice_by vote }
 {
     match vote {
-        Vote::Yes(values) => Ok(Notice::Yes(copy_values(alloc, values)?)),
-        Vote::No(cause) => Ok(Notice::No(cause.copy(alloc)?)),
+        Vote::Yes(values) => Notice::Yes(values),
+        Vote::No(cause) => Notice::No(cause),
     }
 }
 
@@ -147,11 +146,9 @@ fn notice_by(alloc: Global, vote: &Vote) -> Result<Notice, NoMemory>
 fn wanted_locks(alloc: Global, ops: &[SubOp]) -> Result<WantedLocks, NoMemory>
     ensures { IfOk result (λ wanted. wanted ≡ wanted_by ops.now) }
 {
-    let locks = wanted_by(alloc, ops)?;
-    let items: &[(ItemNo, Mode)] = &locks;
-    let mut wanted = WantedLocks::new(alloc);
-    for lock in items {
-        wanted.push(*lock)?;
+    let mut wanted = WantedLocks::with_capacity(alloc, ops.len())?;
+    for op in ops {
+        wanted.push((op.item, mode_wanted(&op.deed)))?;
     }
     Ok(wanted)
 }
@@ -213,8 +210,8 @@ pub fn prepare_vote(
     let version = asked_version(letter, core.parts.turns.update);
     let ops = asked_ops(letter, script);
     let vote = vote_on(alloc, &core.locks, &core.parts.items, tree, version, ops)?;
-    let notice = notice_by(alloc, &vote)?;
     let votes = change_by(alloc, &core.refusals, tree, &vote, ops, &letter.body)?;
+    let notice = notice_by(vote);
     let effect = Effect {
         staged: Staged::new(alloc),
         notice,

@@ -1,20 +1,34 @@
 -- The row where the operations may be made.
-use Rattle.std.proofs.Common.{◌≡◌, ℕ, Bool, true, List, ap, sym, ◌∙◌}
+use Rattle.std.proofs.Common.{◌≡◌, ℕ, Bool, true, List, ap, sym, ◌∙◌, subst}
 use Rattle.std.specs.Prelude.{nat_lt}
 use Rattle.tv_base.specs.declared.numbers.Version.{Version}
+use Rattle.item_versions.specs.Window.{in_window}
+use Rattle.item_versions.proofs.Window.{in_window-is}
 use Rattle.letter_types.specs.declared.bodies.Body.{Body}
 use Rattle.tx_trees.specs.ScriptData.{ScriptData}
 use Rattle.tx_trees.specs.declared.parts.SubOp.{SubOp}
 use Rattle.tree_step.specs.Changes.{IsNodeStepOf, IsReplied, IsTreePartOf}
-use Rattle.tree_step.specs.Node.{Effect, Node, data_of}
+use Rattle.tree_step.specs.Due.{is_due}
+use Rattle.tree_step.specs.Node.{Effect, IsReady, Node, data_of}
 use Rattle.tree_step.specs.declared.change.Prepared.{Prepared}
 use Rattle.tree_step.specs.declared.change.TreePrepared.{TreePrepared}
 use Rattle.tree_step.specs.declared.node.NodeParts.{NodeParts}
+use Rattle.tree_step.proofs.Dues.{asked_near}
 use Rattle.tree_step.proofs.Replied.{replied_step}
 use Rattle.world_model.proofs.Plain.{replied_part}
 use Rattle.world_model.specs.Asked.{asked_ops, asked_version, tree_part}
 use Rattle.world_model.specs.Done.{TreeOut}
 use Rattle.update_step.specs.Rows.{can_touch, can_update, touching, update_if_made, update_part}
+
+-- the version that is asked for is one of those in which the node counts
+pub asked_within : (s : ScriptData) (p from : ℕ) (n : NodeParts) (body : Body) (v : Version) → IsReady s p n
+    → is_due s p (data_of n) from body ≡ true → v ≡ asked_version n.turns.update body
+    → in_window n.turns.low.0 v.0 ≡ true
+asked_within s p from n body v ready due at =
+    let low = n.turns.low.0 in
+    let root = in_window-is low n.turns.update.0 ready.window.low_update ready.window.update in
+    subst (λ (w : Version). in_window low w.0 ≡ true) (sym at)
+    (asked_near s p from (data_of n) body n.turns.update root due)
 
 -- whether the operations may be made, by the version and the operations
 pub touchable : (s : ScriptData) (body : Body) (st : Node) (v : Version) (ops : List SubOp)

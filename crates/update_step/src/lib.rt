@@ -5,4 +5,4 @@ mod faces;
 mod steps;
 
 pub use faces::run_update;
-pub use steps::{prepare_update, update_part};
+pub use steps::{can_update, update_part};

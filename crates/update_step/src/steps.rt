@@ -52,6 +52,22 @@ fn touch_all(
     }))
 }
 
+/// Whether the operations that a letter asks for may be made.
+pub fn can_update(
+    alloc: Global,
+    node: &NodeParts,
+    letter: &Letter,
+    script: &Script,
+) -> Result<bool, NoMemory>
+    requires ready { IsReady script.now letter.now.to.0 node.now }
+    requires due { IsTrue (is_due script.now letter.now.to.0 (data_of node.now) letter.now.from.0 letter.now.body) }
+    ensures { IfOk result (λ can. can ≡ can_update script.now (data_of node.now) letter.now.body) }
+{
+    let asked = asked_version(letter, node.turns.update);
+    let effect = touch_all(alloc, node, asked, asked_ops(letter, script))?;
+    Ok(effect.is_some())
+}
+
 /// Whether version `v` is above the node's update version.
 fn is_above(turns: &Turns, v: Version) -> bool
     ensures { result ≡ nat_lt turns.now.update.0 v.0 }
@@ -85,7 +101,7 @@ pub fn update_part(
 
 /// The same, where the client is answered if the tree is. A letter whose operations may not be made changes and sends
 /// nothing.
-pub fn prepare_update(
+pub(crate) fn prepare_update(
     alloc: Global,
     node: &NodeParts,
     letter: &Letter,

@@ -1,5 +1,5 @@
 -- The actors' states by their tables, and what a world keeps.
-use Rattle.std.specs.Prelude.{ℕ, ◌+◌, ◌^◌, ◌≡◌, List, [], ◌∷◌, ◌++◌, length, reverse, Some, slice_get}
+use Rattle.std.specs.Prelude.{ℕ, ◌+◌, ◌≡◌, List, [], ◌∷◌, ◌++◌, length, reverse, Some, slice_get}
 use Rattle.client_rows.specs.Kept.{IsKeptOf}
 use Rattle.letter_types.specs.declared.entries.Letter.{Letter}
 use Rattle.letter_types.specs.declared.entries.Entry.{Entry}
@@ -33,10 +33,6 @@ pub record IsStateOf (s : ScriptData) (past : List Entry) (a : ℕ) (st : ActorS
 -- the states of the actors after a past, by number
 abbrev pub AreStatesOf : ScriptData → List Entry → List ActorState → Type 0
 AreStatesOf s past actors = (a : ℕ) (st : ActorState) → slice_get actors a ≡ Some st → IsStateOf s past a st
-
--- a history has at most so many entries: one that would pass that finds no memory
-abbrev pub MOST_ENTRIES : ℕ
-MOST_ENTRIES = 2 ^ 40
 
 pub record WorldData : Type 0 where
   pub actors : List ActorState

@@ -1,3 +1,4 @@
 pub mod Actors
 pub mod Stays
 pub mod Bringing
+pub mod Own

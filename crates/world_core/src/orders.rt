@@ -4,6 +4,7 @@ ghost use Rattle.letter_types.specs.declared.bodies.Body.TheVariants.{Ask, AskAs
 ghost use Rattle.world_model.specs.Epochs.{plain_order, is_obeyed_now};
 ghost use Rattle.tree_step.specs.Core.{IsCoreReady, core_of};
 ghost use Rattle.core_step.specs.Apt.{IsOwnPlan, is_own};
+ghost use Rattle.world_core.specs.inside.Own.{is_of_tree};
 ghost use Rattle.world_core.specs.inside.Stays.{of_parts, still_step};
 
 use core_step::CorePlan;
@@ -17,6 +18,14 @@ use std::alloc::Global;
 use tree_step::{CorePrepared, HoldChange, NodeCore, Prepared, VoteChange, can_obey};
 use tv_base::{NoMemory, Version};
 use tx_trees::Script;
+
+/// An order of a coordinator that forgets, in its epoch.
+#[derive(Clone, Copy)]
+struct EpochOrder {
+    epoch: u64,
+    what: What,
+    version: Version,
+}
 
 /// A step of a node's parts, in which locks, noes and held answers stay, and the node hears of this epoch, if of one.
 fn of_parts(
@@ -44,7 +53,7 @@ pub(crate) fn still_step(alloc: Global) -> Result<Boxed<CorePrepared>, NoMemory>
 }
 
 /// A letter without a row of its own, which changes and sends nothing.
-pub(crate) fn plan_other(
+fn plan_other(
     alloc: Global,
     core: &NodeCore,
     letter: &Letter,
@@ -61,7 +70,7 @@ pub(crate) fn plan_other(
 }
 
 /// An order of a coordinator that remembers: a turn, a version to show, or a sweep.
-pub(crate) fn plan_plain(
+fn plan_plain(
     alloc: Global,
     core: &NodeCore,
     letter: &Letter,
@@ -84,20 +93,23 @@ pub(crate) fn plan_plain(
 
 /// An order of a coordinator that forgets: one of an epoch before the node's is left. Else the node hears of its epoch,
 /// answers, and does what it is ordered, unless it did that before.
-pub(crate) fn plan_order(
+fn plan_order(
     alloc: Global,
     core: &NodeCore,
     letter: &Letter,
     script: &Script,
-    epoch: u64,
-    what: What,
-    version: Version,
+    order: EpochOrder,
 ) -> Result<CorePlan, NoMemory>
     requires ready { IsCoreReady script.now letter.now.to.0 core.now }
-    requires body { letter.now.body ≡ Order epoch what version }
+    requires body { letter.now.body ≡ Order order.epoch order.what order.version }
     ensures { IfOk result (IsOwnPlan script.now letter.now core.now) }
 {
     let _ = letter;
+    let EpochOrder {
+        epoch,
+        what,
+        version,
+    } = order;
     if epoch < core.epoch {
         return Ok(CorePlan::Does(still_step(alloc)?));
     }
@@ -129,7 +141,7 @@ fn numbers(epoch: u64, turns: &Turns) -> Body
 }
 
 /// A coordinator that has forgotten asks for a node's versions: it is told, unless it asks in an epoch before the node's.
-pub(crate) fn plan_ask(
+fn plan_ask(
     alloc: Global,
     core: &NodeCore,
     letter: &Letter,
@@ -150,7 +162,7 @@ pub(crate) fn plan_ask(
 }
 
 /// A node tells its completions of a version.
-pub(crate) fn plan_done_row(
+fn plan_done_row(
     alloc: Global,
     core: &NodeCore,
     letter: &Letter,
@@ -168,7 +180,7 @@ pub(crate) fn plan_done_row(
 }
 
 /// A node tells its requests of a version.
-pub(crate) fn plan_asked_row(
+fn plan_asked_row(
     alloc: Global,
     core: &NodeCore,
     letter: &Letter,
@@ -183,4 +195,42 @@ pub(crate) fn plan_asked_row(
     let _ = letter;
     let prepared = prepare_asked(alloc, &core.parts, script, version, round)?;
     Ok(CorePlan::Does(of_parts(alloc, prepared, None)?))
+}
+
+/// What a core does with a letter of a coordinator that the script has, or with one that has no row of its own.
+pub(crate) fn plan_advancing(
+    alloc: Global,
+    core: &NodeCore,
+    letter: &Letter,
+    script: &Script,
+) -> Result<CorePlan, NoMemory>
+    requires ready { IsCoreReady script.now letter.now.to.0 core.now }
+    requires other { is_of_tree letter.now.body ≡ false }
+    ensures { IfOk result (IsOwnPlan script.now letter.now core.now) }
+{
+    match &letter.body {
+        Body::Turn { version } => plan_plain(alloc, core, letter, script, What::Turn, *version),
+        Body::Show { version } => plan_plain(alloc, core, letter, script, What::Show, *version),
+        Body::Sweep { version } => plan_plain(alloc, core, letter, script, What::Sweep, *version),
+        Body::Order {
+            epoch,
+            what,
+            version,
+        } => {
+            let order = EpochOrder {
+                epoch: *epoch,
+                what: *what,
+                version: *version,
+            };
+            plan_order(alloc, core, letter, script, order)
+        }
+        Body::Ask { epoch } => plan_ask(alloc, core, letter, script, *epoch),
+        Body::AskDone { version, round } => {
+            plan_done_row(alloc, core, letter, script, *version, *round)
+        }
+        Body::AskAsked { version, round } => {
+            plan_asked_row(alloc, core, letter, script, *version, *round)
+        }
+        _ => plan_other(alloc, core, letter, script),
+    }
 }

@@ -16,15 +16,13 @@ ghost use Rattle.core_step.specs.Plans.{IsPlanBy, IsPlanOf};
 ghost use Rattle.core_step.specs.declared.plans.CorePlan.TheVariants.{Does};
 ghost use Rattle.core_step.specs.Apt.{IsOwnPlan, asks_a_sub, makes_by, tree_apt};
 
-use crate::orders::{
-    plan_ask, plan_asked_row, plan_done_row, plan_order, plan_other, plan_plain, still_step,
-};
+use crate::orders::{plan_advancing, still_step};
 use crate::trees::{prepare_read_tree, prepare_update_tree};
 use core_step::{
     CorePlan, acked_apt, decide_apt, decides_near, is_free, is_of_coordinator, meets, parked,
     release_apt, root_waiting, waits_for_show, wake_apt,
 };
-use letter_types::{Body, Letter, Notice, What};
+use letter_types::{Body, Letter, Notice};
 use nc_commit::Decision;
 use nc_locks::Met;
 use std::alloc::Global;
@@ -32,22 +30,7 @@ use strict_step::{prepare_acked, prepare_decide, prepare_note, prepare_release, 
 use tree_step::{NodeCore, Request, is_due, kind_of};
 use tv_base::{NoMemory, NodeNo, SubNo, TreeNo, Version};
 use tx_trees::{Script, TreeKind};
-use update_step::update_part;
-
-/// Whether the operations of a subtransaction of an update tree may be made.
-fn can_update(
-    alloc: Global,
-    core: &NodeCore,
-    letter: &Letter,
-    script: &Script,
-) -> Result<bool, NoMemory>
-    requires ready { IsCoreReady script.now letter.now.to.0 core.now }
-    requires due { IsTrue (is_due script.now letter.now.to.0 (data_of core.now.parts) letter.now.from.0 letter.now.body) }
-    ensures { IfOk result (λ can. can ≡ can_update script.now (data_of core.now.parts) letter.now.body) }
-{
-    let part = update_part(alloc, &core.parts, letter, script)?;
-    Ok(part.is_some())
-}
+use update_step::can_update;
 
 /// A subtransaction of an update tree that meets a lock: it is parked, if its operations may be made.
 fn plan_parked(
@@ -68,7 +51,7 @@ fn plan_parked(
         (kept_by_kind script.now (core_of core.now) tree letter.now.body (Some Update))
         (update_core script.now letter.now.to.0 letter.now.from.0 tree letter.now.body (core_of core.now)) core.now) }
 {
-    if !can_update(alloc, core, letter, script)? {
+    if !can_update(alloc, &core.parts, letter, script)? {
         return Ok(CorePlan::Still);
     }
     let kept = parked(alloc, &core.parts.turns, letter, tree, met)?;
@@ -363,22 +346,7 @@ fn plan_own(
         Body::Decided { tree, version } => plan_acked(alloc, core, letter, script, *tree, *version),
         Body::Release { tree } => plan_release(alloc, core, letter, script, *tree),
         Body::Wake { tree, sub } => plan_wake(alloc, core, letter, script, *tree, *sub),
-        Body::Turn { version } => plan_plain(alloc, core, letter, script, What::Turn, *version),
-        Body::Show { version } => plan_plain(alloc, core, letter, script, What::Show, *version),
-        Body::Sweep { version } => plan_plain(alloc, core, letter, script, What::Sweep, *version),
-        Body::Order {
-            epoch,
-            what,
-            version,
-        } => plan_order(alloc, core, letter, script, *epoch, *what, *version),
-        Body::Ask { epoch } => plan_ask(alloc, core, letter, script, *epoch),
-        Body::AskDone { version, round } => {
-            plan_done_row(alloc, core, letter, script, *version, *round)
-        }
-        Body::AskAsked { version, round } => {
-            plan_asked_row(alloc, core, letter, script, *version, *round)
-        }
-        _ => plan_other(alloc, core, letter, script),
+        _ => plan_advancing(alloc, core, letter, script),
     }
 }
 

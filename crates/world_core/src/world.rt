@@ -2,9 +2,10 @@
 ghost use Rattle.std.specs.Prelude.{◌≡◌, ◌<◌, ◌≤◌, ◌+◌, ◌-◌, ◌^◌, ◌++◌, [], length, slice_get, slice_set, take, IfOk, IfSome, MatchResult, OnOk, OnErr, Some};
 ghost use Rattle.std.specs.List.{remove};
 ghost use Rattle.letter_types.specs.Letters.{go, sealed};
+ghost use Rattle.tv_base.specs.declared.numbers.TheConstants.{MOST_ENTRIES};
 ghost use Rattle.tx_trees.specs.ScriptData.{ScriptData};
 ghost use Rattle.world_model.specs.Runs.{actor_after};
-ghost use Rattle.world_core.specs.Actors.{AreStatesOf, actor_data, IsWorldOf, MOST_ENTRIES, TookLetter};
+ghost use Rattle.world_core.specs.Actors.{AreStatesOf, actor_data, IsWorldOf, TookLetter};
 ghost use Rattle.world_core.specs.Prepared.{IsActorStepOf, ActorMayDo, MayTake, out_of};
 ghost use Rattle.world_core.specs.inside.Actors.{Acted, world_of};
 ghost use Rattle.pair_counters.specs.Numbers.{MOST_COUNT};
@@ -334,7 +335,7 @@ impl World {
         Ok(stamp)
     }
 
-    /// The history so far. It has at most 2^40 entries.
+    /// The history so far. It has at most `MOST_ENTRIES` entries: one that would pass that finds no memory.
     pub fn history(&self) -> &History
         ensures history { result.now ≡ self.now.history }
         ensures few { length self.now.history ≤ MOST_ENTRIES }

@@ -20,7 +20,7 @@ decided_step-requires-clause-apart c =
     let s = c.args.script.now in
     let n = c.args.core.now in
     let l = c.args.letter.now in
-    let e : Effect = record { items = pending c.new.result n.parts.items; notice = c.in_ok-notice.notice } in
+    let e : Effect = record { items = pending c.new.result n.parts.items; notice = c.notice_by-notice.result } in
     apart_part c.in_ok-part.part n
     (tree_part s l.to.0 l.from.0 c.asked_version-version.result c.is_above-raises.result e l.body (data_of n.parts))
     c.in_ok-part.ensures.row
@@ -32,7 +32,7 @@ decided_step-requires-clause-decide c =
     let s = c.args.script.now in
     let n = c.args.core.now in
     let l = c.args.letter.now in
-    let e : Effect = record { items = pending c.new.result n.parts.items; notice = c.in_ok-notice.notice } in
+    let e : Effect = record { items = pending c.new.result n.parts.items; notice = c.notice_by-notice.result } in
     let low = n.parts.turns.low.0 in
     let root = in_window-is low n.parts.turns.update.0 c.requires.ready.parts.window.low_update
     c.requires.ready.parts.window.update in
@@ -49,7 +49,7 @@ returns c =
     let l = c.args.letter.now in
     subst (λ (o : Out Core). IsCoreStepOf o n c.in_ok-prepared.prepared)
     (vote_row s l.to.0 l.from.0 c.args.tree l.body n c.in_ok-part.part c.asked_version-version.result
-    c.is_above-raises.result c.new.result c.in_ok-notice.notice c.in_ok-vote.vote c.asked_ops-ops.result.now
-    c.in_ok-votes.votes c.in_ok-part.ensures.row c.new.ensures c.in_ok-notice.ensures c.is_above-raises.ensures
+    c.is_above-raises.result c.new.result c.notice_by-notice.result c.in_ok-vote.vote c.asked_ops-ops.result.now
+    c.in_ok-votes.votes c.in_ok-part.ensures.row c.new.ensures c.notice_by-notice.ensures c.is_above-raises.ensures
     c.in_ok-votes.ensures c.asked_ops-ops.ensures c.in_ok-vote.ensures c.asked_version-version.ensures)
     c.in_ok-prepared.ensures

@@ -1,31 +1,17 @@
-use Rattle.std.proofs.Common.{◌≡◌, ◌∙◌, true, sym, subst}
-use Rattle.tv_base.specs.declared.numbers.Version.{Version}
-use Rattle.item_versions.specs.Window.{in_window}
-use Rattle.item_versions.proofs.Window.{in_window-is}
+use Rattle.std.proofs.Common.{◌∙◌}
 use Rattle.tree_step.specs.Node.{data_of, effect_on}
-use Rattle.tree_step.proofs.Dues.{asked_near}
-use Rattle.update_step.proofs.Updated.{touchable, updated}
+use Rattle.update_step.proofs.Updated.{asked_within, touchable, updated}
 use Rattle.update_step.proofs.steps.update_part.Goals as goal
 
 pub touch_all-requires-clause-near : goal.touch_all-requires-clause-near
 touch_all-requires-clause-near c =
-    let low = c.args.node.now.turns.low.0 in
-    let root = in_window-is low c.args.node.now.turns.update.0 c.requires.ready.window.low_update
-    c.requires.ready.window.update in
-    let near = asked_near c.args.script.now c.args.letter.now.to.0 c.args.letter.now.from.0
-    (data_of c.args.node.now) c.args.letter.now.body
-    c.args.node.now.turns.update root c.requires.due in
-    subst (λ (v : Version). in_window low v.0 ≡ true) (sym c.asked_version-version.ensures) near
+    asked_within c.args.script.now c.args.letter.now.to.0 c.args.letter.now.from.0 c.args.node.now c.args.letter.now.body
+    c.asked_version-version.result c.requires.ready c.requires.due c.asked_version-version.ensures
 
 pub prepare_tree-requires-clause-near : goal.prepare_tree-requires-clause-near
 prepare_tree-requires-clause-near c =
-    let low = c.args.node.now.turns.low.0 in
-    let root = in_window-is low c.args.node.now.turns.update.0 c.requires.ready.window.low_update
-    c.requires.ready.window.update in
-    let near = asked_near c.args.script.now c.args.letter.now.to.0 c.args.letter.now.from.0
-    (data_of c.args.node.now) c.args.letter.now.body
-    c.args.node.now.turns.update root c.requires.due in
-    subst (λ (v : Version). in_window low v.0 ≡ true) (sym c.asked_version-version.ensures) near
+    asked_within c.args.script.now c.args.letter.now.to.0 c.args.letter.now.from.0 c.args.node.now c.args.letter.now.body
+    c.asked_version-version.result c.requires.ready c.requires.due c.asked_version-version.ensures
 
 pub returns-clause-can : goal.returns-clause-can
 returns-clause-can c =

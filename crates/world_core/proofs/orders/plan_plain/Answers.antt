@@ -1,4 +1,4 @@
-use Rattle.std.proofs.Common.{ap, subst, sym, ◌∙◌}
+use Rattle.std.proofs.Common.{subst, sym}
 use Rattle.letter_types.specs.declared.bodies.Body.{Body}
 use Rattle.tree_step.specs.Changes.{IsNodeStepOf}
 use Rattle.tree_step.specs.Node.{data_of}
