@@ -1,5 +1,5 @@
 // Whether a history goes to its end.
-ghost use Rattle.std.specs.Prelude.{◌≡◌, true, length, sum_by, IfSome};
+ghost use Rattle.std.specs.Prelude.{◌≡◌, ◌<◌, ◌^◌, ◌↔◌, length, sum_by, IsTrue, SomeIff};
 ghost use Rattle.std.specs.List.{list_any};
 ghost use Rattle.board_rules.specs.Right.{HasFinished, finishes};
 ghost use Rattle.history_merge.specs.Histories.{HasTakenAll};
@@ -21,7 +21,7 @@ fn is_end(act: &Act) -> bool
 
 // Whether the client's end is one of the acts. It is looked for from the end on, where it is.
 fn has_finished(history: &History) -> bool
-    ensures { result ≡ true → HasFinished history.now }
+    ensures { IsTrue result ↔ HasFinished history.now }
 {
     let entries = history.items();
     for later in 0..entries.len() {
@@ -35,7 +35,7 @@ fn has_finished(history: &History) -> bool
 
 // How many letters the entries sent. None where that is past the largest number.
 fn count_sent(history: &History) -> Option<usize>
-    ensures { IfSome result (λ count. count ≡ sum_by (λ e. length e.sent) history.now) }
+    ensures { let sent = sum_by (λ e. length e.sent) history.now in SomeIff result (sent < 2 ^ 64) sent }
 {
     let mut count: usize = 0;
     for entry in history.items() {
@@ -44,20 +44,20 @@ fn count_sent(history: &History) -> Option<usize>
     Some(count)
 }
 
-// Whether every letter was taken.
+// Whether every letter was taken. Where `count_sent` has no number, more were sent than a history has entries.
 fn has_taken_all(history: &History) -> bool
-    ensures { result ≡ true → HasTakenAll history.now }
+    ensures { IsTrue result ↔ HasTakenAll history.now }
 {
+    let entries = history.items();
     match count_sent(history) {
-        Some(sent) => history.items().len().checked_sub(1) == Some(sent),
+        Some(sent) => entries.len().checked_sub(1) == Some(sent),
         None => false,
     }
 }
 
 /// Whether a history goes to its end: the client has finished, and every letter was taken.
 pub fn has_ended(history: &History) -> bool
-    ensures finished { result ≡ true → HasFinished history.now }
-    ensures taken { result ≡ true → HasTakenAll history.now }
+    ensures { IsTrue result ↔ HasFinished history.now × HasTakenAll history.now }
 {
     has_finished(history) && has_taken_all(history)
 }

@@ -1,11 +1,12 @@
 // The logs of all actors, taken apart and merged into one history.
 ghost use Rattle.std.specs.Prelude.{◌≡◌, ◌+◌, ◌≤◌, ℕ, All, Some, length, map, slice_get, sum_by};
+ghost use Rattle.tv_base.specs.declared.numbers.TheConstants.{MOST_ENTRIES};
 ghost use Rattle.stamp_post.specs.Shown.{ReceiptData, seat_joined};
 ghost use Rattle.world_model.specs.Runs.{IsWorldRun};
 ghost use Rattle.history_merge.specs.Histories.{HasReceiptEntry};
 ghost use Rattle.history_merge.specs.Merging.{AllRun, HasRoom, NumberedBy, joined_from};
 
-use crate::merge::{LONGEST_HISTORY, merged};
+use crate::merge::merged;
 use crate::name::ClusterName;
 use crate::own_log::OwnLog;
 use letter_types::{Entry, History};
@@ -69,7 +70,7 @@ pub fn gathered<K: ClusterName>(
     requires order { NumberedBy (λ l. l.number) 0 logs.items }
     requires parts { HasRoom (length logs.items) room.seats × HasRoom (length logs.items) room.lists }
     requires room { HasRoom (sum_by (λ l. length l.entries) logs.items) room.entries }
-    requires few { sum_by (λ l. length l.entries) logs.items ≤ LONGEST_HISTORY }
+    requires few { sum_by (λ l. length l.entries) logs.items ≤ MOST_ENTRIES }
     requires receipts { All (λ r. r.post ≡ K.post) receipts }
     ensures run { IsWorldRun K.script result }
     ensures told { (k : ℕ) (r : ReceiptData) → slice_get receipts k ≡ Some r → HasReceiptEntry K.script result r }

@@ -9,6 +9,5 @@ mod own_log;
 
 pub use ending::{ends, has_ended};
 pub use gathering::{GatherRoom, gathered};
-pub use merge::LONGEST_HISTORY;
 pub use name::ClusterName;
 pub use own_log::{OwnLog, Sent};

@@ -1,5 +1,6 @@
 // The actors' entries, merged into one history.
 ghost use Rattle.std.specs.Prelude.{◌≡◌, ◌+◌, ◌≤◌, ◌↔◌, true, List, length, map, IfSome, IsNone};
+ghost use Rattle.tv_base.specs.declared.numbers.TheConstants.{MOST_ENTRIES};
 ghost use Rattle.letter_types.specs.declared.entries.Posting.{Posting};
 ghost use Rattle.history_merge.specs.Merging.{HasRoom, IsLogOf, IsMerged, IsWholeLog};
 ghost use Rattle.history_merge.specs.inside.Taking.{FirstHas, NoneHas, Taken};
@@ -7,9 +8,6 @@ ghost use Rattle.history_merge.specs.inside.Taking.{FirstHas, NoneHas, Taken};
 use letter_types::{Entry, History};
 use std::collections::VecDeque;
 use tv_base::Stamp;
-
-/// The most entries of a history.
-pub const LONGEST_HISTORY: usize = 0x100_0000_0000;
 
 // Whether the first entry has this stamp.
 fn is_first(list: &VecDeque<Entry>, stamp: Stamp) -> bool
@@ -42,7 +40,7 @@ fn taken_out(lists: &mut Vec<VecDeque<Entry>>, stamp: Stamp) -> Option<Entry>
 pub(crate) fn merged(lists: Vec<VecDeque<Entry>>, room: Vec<Entry>, count: u64) -> History
     requires log { (log : List Posting) × IsWholeLog count log (map (λ v. v.items) lists.items) }
     requires room { HasRoom count room }
-    requires few { count ≤ LONGEST_HISTORY }
+    requires few { count ≤ MOST_ENTRIES }
     ensures { (log : List Posting) → IsLogOf log (map (λ v. v.items) lists.items) → length log ≡ count
         → IsMerged log (map (λ v. v.items) lists.items) result }
 {

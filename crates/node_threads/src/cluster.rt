@@ -1,9 +1,10 @@
 // Cells behind locks.
-ghost use Rattle.std.specs.Prelude.{◌≡◌, ◌+◌, ◌≤◌, ℕ, All, length, slice_get, IfErr, IfOk, MatchResult, Some};
+ghost use Rattle.std.specs.Prelude.{◌≡◌, ◌+◌, ◌≤◌, ◌⊎◌, ℕ, All, length, slice_get, IfErr, IfOk, MatchResult, Some};
 ghost use Rattle.stamp_post.specs.Shown.{ReceiptData, new_seats};
 ghost use Rattle.world_model.specs.Runs.{IsWorldRun};
 ghost use Rattle.history_merge.specs.Histories.{HasReceiptEntry};
 ghost use Rattle.history_merge.specs.OwnLogs.{Delivered};
+ghost use Rattle.actor_schedule.specs.declared.stop.RunStop.TheVariants as stops;
 
 use crate::cell::ActorCell;
 use crate::finishing::{closed_again, logs_of, opened, room_for_cells, room_for_entries};
@@ -144,13 +145,15 @@ impl<'a, K: ClusterName, G: Gate> Cluster<'a, K, G> {
         &self.post
     }
 
-    /// Hands an envelope to its addressee, under that one's lock alone, past the gate. Where it isn't taken, for lack
-    /// of memory or since another actor lies under the lock, the envelope comes back and no actor has changed.
+    /// Hands an envelope to its addressee, under that one's lock alone, past the gate. Where it isn't taken, the
+    /// envelope comes back and no actor has changed: `NoMemory` where the addressee finds no memory for its step,
+    /// `Misplaced` where another actor lies under the lock.
     pub fn deliver<R: Wait>(&self, rt: &R, envelope: Envelope) -> Result<Sent, (RunStop, Envelope)>
         requires { envelope.post ≡ K.post }
-        ensures { MatchResult result
+        ensures delivered { MatchResult result
             (λ sent. Delivered K.post K.script envelope.letter sent)
             (λ e. e.1 ≡ envelope) }
+        ensures stop { IfErr result (λ e. (e.0 ≡ stops.NoMemory) ⊎ (e.0 ≡ stops.Misplaced)) }
     {
         let to = envelope.letter().to;
         let lock: &Mutex<ActorCell<K>> = &self.cells[to.0 as usize];
@@ -168,9 +171,10 @@ impl<'a, K: ClusterName, G: Gate> Cluster<'a, K, G> {
 
     /// All entries by stamp. They are a run of the script, and each receipt's entry is one of them.
     ///
-    /// Where memory is wanting, or another actor lies under a lock, the cluster and the receipts come back, so that it
-    /// can be asked again: the cluster's cells have the entries that they had, and its mailboxes the letters. No clause
-    /// says so of cells and mailboxes, since what lies under a lock is known by its type alone.
+    /// Where memory is wanting or there are more entries than a history takes (`NoMemory`), or another actor lies under
+    /// a lock (`Misplaced`), the cluster and the receipts come back, so that it can be asked again: the cluster's cells
+    /// have the entries that they had, and its mailboxes the letters. No clause says so of cells and mailboxes, since
+    /// what lies under a lock is known by its type alone.
     pub fn finish(
         self,
         receipts: Receipts,
@@ -180,6 +184,7 @@ impl<'a, K: ClusterName, G: Gate> Cluster<'a, K, G> {
         ensures told { IfOk result (λ h. (k : ℕ) (r : ReceiptData) → slice_get receipts k ≡ Some r
             → HasReceiptEntry K.script h r) }
         ensures receipts { IfErr result (λ e. e.2 ≡ receipts) }
+        ensures stop { IfErr result (λ e. (e.0 ≡ stops.NoMemory) ⊎ (e.0 ≡ stops.Misplaced)) }
     {
         let Ok(room) = room_for_cells::<K>(self.alloc, self.cells.len()) else {
             return Err((RunStop::NoMemory, self, receipts));

@@ -1,18 +1,20 @@
 // The cells of a cluster that finishes: out of their locks, put back, and without their states.
-ghost use Rattle.std.specs.Prelude.{◌≡◌, ◌≤◌, true, length, map, sum_by, IfOk, IfSome};
+ghost use Rattle.std.specs.Prelude.{◌≡◌, ◌≤◌, ◌⊎◌, true, length, map, sum_by, IfErr, IfOk, IfSome};
+ghost use Rattle.tv_base.specs.declared.numbers.TheConstants.{MOST_ENTRIES};
+ghost use Rattle.actor_schedule.specs.declared.stop.RunStop.TheVariants as stops;
 ghost use Rattle.history_merge.specs.Merging.{HasRoom, NumberedBy};
 ghost use Rattle.node_threads.specs.Cells.{cell_data};
 
 use crate::cell::ActorCell;
 use actor_schedule::RunStop;
 use crossbeam_utils::CachePadded;
-use history_merge::{ClusterName, LONGEST_HISTORY, OwnLog};
+use history_merge::{ClusterName, OwnLog};
 use letter_types::Entry;
 use stamp_post::ActorSeat;
 use std::alloc::Global;
 use std::collections::VecDeque;
 use std::sync::Mutex;
-use tv_base::NoMemory;
+use tv_base::{MOST_ENTRIES, NoMemory};
 
 // Room for the cells outside their locks, for putting them back under locks, and for what they are taken apart into.
 #[derive(Drop)]
@@ -103,17 +105,22 @@ pub(crate) fn room_for_entries<K: ClusterName>(
 ) -> Result<Vec<Entry>, RunStop>
     ensures order { IfOk result (λ _. NumberedBy (λ c. c.number) 0 cells.now) }
     ensures room { IfOk result (λ room. HasRoom (sum_by (λ c. length c.entries) cells.now) room) }
-    ensures few { IfOk result (λ _. sum_by (λ c. length c.entries) cells.now ≤ LONGEST_HISTORY) }
+    ensures few { IfOk result (λ _. sum_by (λ c. length c.entries) cells.now ≤ MOST_ENTRIES) }
+    ensures stop { IfErr result (λ stop. (stop ≡ stops.NoMemory) ⊎ (stop ≡ stops.Misplaced)) }
 {
     if !are_in_order(cells) {
         return Err(RunStop::Misplaced);
     }
-    let count = count_entries(cells).ok_or(RunStop::NoMemory)?;
-    if count > LONGEST_HISTORY {
+    let Some(count) = count_entries(cells) else {
+        return Err(RunStop::NoMemory);
+    };
+    if count > MOST_ENTRIES {
         return Err(RunStop::NoMemory);
     }
-    let room = Vec::with_capacity(alloc, count)?;
-    Ok(room)
+    match Vec::with_capacity(alloc, count) {
+        Ok(room) => Ok(room),
+        Err(_e) => Err(RunStop::NoMemory),
+    }
 }
 
 // The actors' own logs, in the room for them.

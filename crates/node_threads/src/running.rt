@@ -1,9 +1,10 @@
 // A script run by workers in threads of their own.
-ghost use Rattle.std.specs.Prelude.{◌≡◌, ◌+◌, ◌≤◌, IfOk};
+ghost use Rattle.std.specs.Prelude.{◌≡◌, ◌+◌, ◌≤◌, IfErr, IfOk};
 ghost use Rattle.board_rules.specs.Right.{HasFinished};
 ghost use Rattle.stamp_post.specs.Shown.{new_seats};
 ghost use Rattle.world_model.specs.Runs.{IsWorldRun};
 ghost use Rattle.history_merge.specs.Histories.{HasTakenAll};
+ghost use Rattle.actor_schedule.specs.declared.stop.RunStop.TheVariants as stops;
 
 use crate::cluster::Cluster;
 use actor_schedule::{RunStop, Stopped};
@@ -18,11 +19,13 @@ use std::thread::Threads;
 use tv_base::{Gate, NoMemory};
 use tx_trees::Script;
 
-// The history, where it goes to its end.
+// The history, just where it goes to its end.
 fn ended(history: History) -> Result<History, RunStop>
     ensures same { IfOk result (λ h. h ≡ history) }
     ensures finished { IfOk result (λ h. HasFinished h) }
     ensures taken { IfOk result (λ h. HasTakenAll h) }
+    ensures stop { IfErr result (λ stop. stop ≡ stops.Unfinished) }
+    ensures unfinished { IfErr result (λ _. HasFinished history × HasTakenAll history → ⊥) }
 {
     if !has_ended(&history) {
         return Err(RunStop::Unfinished);

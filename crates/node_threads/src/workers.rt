@@ -97,6 +97,9 @@ impl<'a, K: ClusterName, G: Gate> Cluster<'a, K, G> {
     /// Where there is none, it sleeps until an envelope is put that nobody else is about to take. It ends once the
     /// client has finished, or once any worker stops. What it had in hand when it stopped itself comes back, or lies in
     /// its mailbox again; where another worker stopped it has nothing in hand, and tells that one's cause.
+    ///
+    /// `worker` is its own number, by which it is known as the last to serve an actor: different workers should have
+    /// different numbers, and 2^32 - 1 stands for nobody.
     pub fn serve<R: Wait>(&self, rt: &R, worker: u32) -> Result<(), Stopped>
         ensures { IfErr result (λ s. AreOfPost K.post s.held) }
     {
