@@ -1,1 +1,3 @@
+pub mod Mailboxes
+pub mod Schedules
 pub mod Stops

@@ -1,10 +1,12 @@
 // Mailboxes, and who attends to them.
-ghost use Rattle.std.specs.Prelude.{◌≡◌, length, IfErr, IfOk, IfSome};
+ghost use Rattle.std.specs.Prelude.{◌≡◌, [], ◌++◌, false, not, option_to_list, length, IfErr, IfOk, IfSome, OnErr, OnOk};
+ghost use Rattle.actor_schedule.specs.Mailboxes.{mailbox_data, letters_in, oldest, with_newest, without_oldest, behind_oldest, after_hand};
 
 use crossbeam_utils::CachePadded;
 use message_bag::Bag;
 use stamp_post::{Envelope, PostName};
 use std::alloc::Global;
+use std::marker::Model;
 use std::mem::swap;
 use std::sync::Mutex;
 use tv_base::NoMemory;
@@ -15,6 +17,14 @@ pub(crate) struct Mailbox<P: PostName> {
     older: Bag<P>,
     newer: Bag<P>,
     attended: bool,
+}
+
+impl<P: PostName> Model for Mailbox<P> {
+    ghost use Rattle.actor_schedule.specs.Mailboxes.{MailboxData, mailbox_data};
+
+    ghost Value = { MailboxData };
+
+    ghost view = { λ m. mailbox_data m.older m.newer m.attended };
 }
 
 // A drop of its own is one call wherever a mailbox goes out of scope.
@@ -30,7 +40,9 @@ impl<P: PostName> Drop for Mailbox<P> {
 
 impl<P: PostName> Mailbox<P> {
     // An empty mailbox, which nobody attends to.
-    pub(crate) fn new(alloc: Global) -> Mailbox<P> {
+    pub(crate) fn new(alloc: Global) -> Mailbox<P>
+        ensures { result ≡ mailbox_data [] [] false }
+    {
         Mailbox {
             older: Bag::new(alloc),
             newer: Bag::new(alloc),
@@ -41,7 +53,10 @@ impl<P: PostName> Mailbox<P> {
     // Puts an envelope last. Says whether nobody attended to the actor; from now on it is ready.
     pub(crate) fn put(&mut self, envelope: Envelope) -> Result<bool, (NoMemory, Envelope)>
         requires { envelope.post ≡ P.post }
-        ensures { IfErr result (λ e. e.1 ≡ envelope) }
+        ensures ok { OnOk result (self.new ≡ with_newest envelope self.old) }
+        ensures was_idle { IfOk result (λ idle. idle ≡ not self.old.attended) }
+        ensures refused { IfErr result (λ e. e.1 ≡ envelope) }
+        ensures err { OnErr result (self.new ≡ self.old) }
     {
         self.newer.put(envelope)?;
         let was_idle = !self.attended;
@@ -51,7 +66,10 @@ impl<P: PostName> Mailbox<P> {
 
     // The oldest envelope. Where there is none, nobody attends to the actor any more.
     pub(crate) fn take(&mut self) -> Option<Envelope>
-        ensures { IfSome result (λ e. e.post ≡ P.post) }
+        ensures taken { result ≡ oldest self.old }
+        ensures left { self.new ≡ without_oldest self.old }
+        ensures whole { option_to_list result ++ letters_in self.new ≡ letters_in self.old }
+        ensures post { IfSome result (λ e. e.post ≡ P.post) }
     {
         let mut taken = self.older.take(0);
         if taken.is_none() {
@@ -63,7 +81,11 @@ impl<P: PostName> Mailbox<P> {
 
     // The same, and puts those after it into a worker's hand, which is empty.
     pub(crate) fn take_into(&mut self, hand: &mut Bag<P>) -> Option<Envelope>
-        ensures { IfSome result (λ e. e.post ≡ P.post) }
+        ensures taken { result ≡ oldest self.old }
+        ensures hand { hand.new ≡ behind_oldest self.old }
+        ensures left { self.new ≡ after_hand hand.old self.old }
+        ensures whole { hand.old ≡ [] → option_to_list result ++ hand.new ++ letters_in self.new ≡ letters_in self.old }
+        ensures post { IfSome result (λ e. e.post ≡ P.post) }
     {
         let mut taken = self.older.take(0);
         if taken.is_some() {
@@ -77,8 +99,11 @@ impl<P: PostName> Mailbox<P> {
     }
 
     // What a worker has left in hand comes back.
-    pub(crate) fn give_back(&mut self, hand: &mut Bag<P>) {
-        swap(&mut self.older, hand);
+    pub(crate) fn give_back(&mut self, hand: &mut Bag<P>)
+        ensures older { self.new ≡ record self.old { older = hand.old } }
+        ensures hand { hand.new ≡ self.old.older }
+    {
+        swap(hand, &mut self.older);
     }
 }
 

@@ -1,5 +1,6 @@
 // Which actors are ready to be served, and which workers sleep until one is.
-ghost use Rattle.std.specs.Prelude.{◌<◌, IfSome};
+ghost use Rattle.std.specs.Prelude.{◌≡◌, ℕ, ◌-◌, ◌<◌, true, false, IfSome, IfNone, if◌then◌else◌};
+ghost use Rattle.actor_schedule.specs.Schedules.{at_first, is_ready, first_ready, next_for, with_ready, with_taken, one_more, is_called_for, with_call, is_to_get_up};
 
 use crate::stop::RunStop;
 
@@ -26,7 +27,9 @@ pub(crate) struct Schedule {
 
 impl Schedule {
     // No actor is ready, and no worker sleeps.
-    pub(crate) fn new() -> Schedule {
+    pub(crate) fn new() -> Schedule
+        ensures { result ≡ at_first }
+    {
         Schedule {
             ready: [false; MOST_ACTORS],
             waiting: 0,
@@ -39,7 +42,9 @@ impl Schedule {
     }
 
     // An actor that wasn't ready is so now.
-    pub(crate) fn mark(&mut self, actor: u8) {
+    pub(crate) fn mark(&mut self, actor: u8)
+        ensures { self.new ≡ with_ready actor self.old }
+    {
         self.ready[actor as usize] = true;
         self.waiting = self.waiting.wrapping_add(1);
     }
@@ -47,7 +52,8 @@ impl Schedule {
     // The first actor that is ready, of so many, from this place on in cyclic order. Where a worker is named, it is one
     // that this worker was the last to serve, or that nobody has served.
     fn first_ready(&self, from: u8, actors: u8, worker: Option<u32>) -> Option<u8>
-        ensures { IfSome result (λ actor. actor < actors) }
+        ensures first { result ≡ first_ready self.now from actors worker }
+        ensures within { IfSome result (λ actor. actor < actors) }
     {
         for later in 0..actors {
             let actor = ((from as usize + later as usize) % actors as usize) as u8;
@@ -66,7 +72,10 @@ impl Schedule {
     // Takes an actor that is ready, of so many, for a worker: the first from this place on of those that it was the
     // last to serve or that nobody has served, so that their memory stays with one processor, or else of all.
     pub(crate) fn take(&mut self, worker: u32, from: u8, actors: u8) -> Option<u8>
-        ensures { IfSome result (λ actor. actor < actors) }
+        ensures next { result ≡ next_for self.old worker from actors }
+        ensures taken { self.new ≡ with_taken worker result self.old }
+        ensures within { IfSome result (λ actor. actor < actors) }
+        ensures none { IfNone result ((actor : ℕ) → actor < actors → is_ready self.old actor ≡ false) }
     {
         let mut found = self.first_ready(from, actors, Some(worker));
         if found.is_none() {
@@ -80,38 +89,53 @@ impl Schedule {
     }
 
     // The client has finished.
-    pub(crate) fn finish(&mut self) {
+    pub(crate) fn finish(&mut self)
+        ensures { self.new ≡ record self.old { finished = true } }
+    {
         self.finished = true;
     }
 
     // A worker has stopped.
-    pub(crate) fn stop(&mut self, stop: RunStop) {
+    pub(crate) fn stop(&mut self, stop: RunStop)
+        ensures { self.new ≡ record self.old { stopped = Some stop } }
+    {
         self.stopped = Some(stop);
     }
 
     // Whether the client has finished.
-    pub(crate) fn has_finished(&self) -> bool {
+    pub(crate) fn has_finished(&self) -> bool
+        ensures { result ≡ self.now.finished }
+    {
         self.finished
     }
 
     // Why a worker has stopped.
-    pub(crate) fn why_stopped(&self) -> Option<RunStop> {
+    pub(crate) fn why_stopped(&self) -> Option<RunStop>
+        ensures { result ≡ self.now.stopped }
+    {
         self.stopped
     }
 
     // How many workers sleep and weren't called.
-    pub(crate) fn asleep(&self) -> u64 {
+    pub(crate) fn asleep(&self) -> u64
+        ensures { result ≡ self.now.asleep }
+    {
         self.asleep
     }
 
     // A worker goes to sleep.
-    pub(crate) fn fall_asleep(&mut self) {
+    pub(crate) fn fall_asleep(&mut self)
+        ensures { self.new ≡ record self.old { asleep = one_more self.old.asleep } }
+    {
         self.asleep = self.asleep.saturating_add(1);
     }
 
     // Calls a worker that sleeps, where more actors are ready than those who were called take, and than `own`, which
     // the caller takes. Says whether it did.
-    pub(crate) fn call(&mut self, own: u64) -> bool {
+    pub(crate) fn call(&mut self, own: u64) -> bool
+        ensures calls { result ≡ is_called_for own self.old }
+        ensures after { self.new ≡ if result then with_call self.old else self.old }
+    {
         let calls = self.asleep > 0 && self.waiting > self.called.saturating_add(own);
         if calls {
             self.asleep = self.asleep.saturating_sub(1);
@@ -121,12 +145,16 @@ impl Schedule {
     }
 
     // Whether a worker that sleeps is to get up.
-    pub(crate) fn wakes(&self) -> bool {
+    pub(crate) fn wakes(&self) -> bool
+        ensures { result ≡ is_to_get_up self.now }
+    {
         self.called > 0 || self.finished || self.stopped.is_some()
     }
 
     // A worker has got up.
-    pub(crate) fn get_up(&mut self) {
+    pub(crate) fn get_up(&mut self)
+        ensures { self.new ≡ record self.old { called = self.old.called - 1 } }
+    {
         self.called = self.called.saturating_sub(1);
     }
 }

@@ -1,0 +1,76 @@
+-- Which actor a worker is given, and when a worker that sleeps is called.
+use Rattle.std.specs.Prelude.{ℕ, zero, suc, ◌+◌, ◌-◌, ◌%◌, ◌^◌, min, Bool, true, false, ◌&&◌, ◌||◌, ◌==◌, nat_lt, List, [], ◌∷◌, replicate, set, slice_index, is_some, slice_index_or, find, Option, Some, None}
+use Rattle.std.specs.Option.{option_or}
+use Rattle.actor_schedule.specs.declared.schedule.Schedule.{Schedule}
+use Rattle.actor_schedule.specs.declared.schedule.TheConstants.{MOST_ACTORS, NOBODY}
+
+-- no actor is ready, nobody has served any, and no worker sleeps
+abbrev pub at_first : Schedule
+at_first = record {
+  ready = replicate MOST_ACTORS false;
+  waiting = 0;
+  server = replicate MOST_ACTORS NOBODY;
+  asleep = 0;
+  called = 0;
+  finished = false;
+  stopped = None;
+}
+
+-- so many actors one after the other, from a place on, in cyclic order
+abbrev pub in_turn : (actors from count : ℕ) → List ℕ
+in_turn actors from zero = []
+in_turn actors from (suc count) = (from % actors) ∷ in_turn actors (from + 1) count
+
+-- whether an actor is ready
+abbrev pub is_ready : Schedule → ℕ → Bool
+is_ready s actor = slice_index_or s.ready actor false
+
+-- whether a worker was the last to serve an actor, or nobody has served it
+abbrev pub is_own : Schedule → ℕ → ℕ → Bool
+is_own s worker actor = (slice_index s.server actor == worker) || (slice_index s.server actor == NOBODY)
+
+-- whether an actor is one for this worker, or for any
+abbrev pub is_meant : Schedule → Option ℕ → ℕ → Bool
+is_meant s None actor = true
+is_meant s (Some worker) actor = is_own s worker actor
+
+-- whether an actor is ready, and one for this worker, or for any
+abbrev pub may_be_given : Schedule → Option ℕ → ℕ → Bool
+may_be_given s worker actor = is_meant s worker actor && is_ready s actor
+
+-- the first of all actors, in cyclic order from a place on, that is ready, and one for this worker, or for any
+abbrev pub first_ready : Schedule → ℕ → ℕ → Option ℕ → Option ℕ
+first_ready s from actors worker = find (may_be_given s worker) (in_turn actors from actors)
+
+-- the actor that a worker is given: the first that is ready of its own, or else of all
+abbrev pub next_for : Schedule → ℕ → ℕ → ℕ → Option ℕ
+next_for s worker from actors = option_or (first_ready s from actors (Some worker)) (first_ready s from actors None)
+
+-- an actor that wasn't ready is so, and one more is
+abbrev pub with_ready : ℕ → Schedule → Schedule
+with_ready actor s = record s { ready = set s.ready actor true; waiting = (s.waiting + 1) % 2 ^ 64 }
+
+-- a worker has the actor, if there is one: it isn't ready, one less is, and this worker is the last to serve it
+abbrev pub with_taken : ℕ → Option ℕ → Schedule → Schedule
+with_taken worker None s = s
+with_taken worker (Some actor) s = record s {
+  ready = set s.ready actor false;
+  server = set s.server actor worker;
+  waiting = (s.waiting + (2 ^ 64 - 1)) % 2 ^ 64;
+}
+
+-- one more, up to the greatest number
+abbrev pub one_more : ℕ → ℕ
+one_more n = min (n + 1) (2 ^ 64 - 1)
+
+-- whether a worker is called: one sleeps, and more actors are ready than those who were called and the caller take
+abbrev pub is_called_for : ℕ → Schedule → Bool
+is_called_for own s = nat_lt 0 s.asleep && nat_lt (min (s.called + own) (2 ^ 64 - 1)) s.waiting
+
+-- one of those who sleep is called
+abbrev pub with_call : Schedule → Schedule
+with_call s = record s { asleep = s.asleep - 1; called = one_more s.called }
+
+-- whether a worker that sleeps is to get up: one was called, or all workers are to end
+abbrev pub is_to_get_up : Schedule → Bool
+is_to_get_up s = nat_lt 0 s.called || s.finished || is_some s.stopped
