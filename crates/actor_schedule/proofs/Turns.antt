@@ -5,7 +5,7 @@ use Rattle.std.proofs.lemmas.Bool.{leb-true, leb-false}
 use Rattle.std.specs.Prelude.{cond, find, ◌==◌, slice_index, Option, Some, None}
 use Rattle.actor_schedule.specs.declared.schedule.Schedule.{Schedule}
 use Rattle.actor_schedule.specs.declared.schedule.TheConstants.{NOBODY}
-use Rattle.actor_schedule.specs.Schedules.{in_turn, is_ready, is_meant, may_be_given, first_ready}
+use Rattle.actor_schedule.specs.Schedules.{in_turn, is_ready, is_for_worker, may_be_given, first_ready}
 
 -- the first one, and those after it
 pub in_turn-next : (actors from count : ℕ) → 0 < count
@@ -67,16 +67,16 @@ has_turn actors from actor within = by (nat_le (from % actors) actor) refl where
 
 -- where a worker was the last to serve an actor, that is what the test of it says
 pub last_served : (s : Schedule) (given : Option ℕ) (worker actor : ℕ) → given ≡ Some worker
-    → slice_index s.server actor ≡ worker → is_meant s given actor ≡ (slice_index s.server actor == worker)
+    → slice_index s.server actor ≡ worker → is_for_worker s given actor ≡ (slice_index s.server actor == worker)
 last_served s given worker actor is last = rw is (grind arith)
 
 -- where another was, the test is whether nobody has served it
 pub else_nobody : (s : Schedule) (given : Option ℕ) (worker actor : ℕ) → given ≡ Some worker
-    → (slice_index s.server actor ≡ worker → ⊥) → is_meant s given actor ≡ (slice_index s.server actor == NOBODY)
+    → (slice_index s.server actor ≡ worker → ⊥) → is_for_worker s given actor ≡ (slice_index s.server actor == NOBODY)
 else_nobody s given worker actor is other = rw is (grind arith)
 
 -- for any worker each actor is meant
-pub any_meant : (s : Schedule) (given : Option ℕ) (actor : ℕ) → given ≡ None → is_meant s given actor ≡ true
+pub any_meant : (s : Schedule) (given : Option ℕ) (actor : ℕ) → given ≡ None → is_for_worker s given actor ≡ true
 any_meant s given actor is = rw is
 
 -- where no actor is found for any worker, none is ready

@@ -1,6 +1,7 @@
 -- Which actor a worker is given, and when a worker that sleeps is called.
 use Rattle.std.specs.Prelude.{ℕ, zero, suc, ◌+◌, ◌-◌, ◌%◌, ◌^◌, min, Bool, true, false, ◌&&◌, ◌||◌, ◌==◌, nat_lt, List, [], ◌∷◌, replicate, set, slice_index, is_some, slice_index_or, find, Option, Some, None}
 use Rattle.std.specs.Option.{option_or}
+use Rattle.tv_base.specs.Outside.{one_more}
 use Rattle.actor_schedule.specs.declared.schedule.Schedule.{Schedule}
 use Rattle.actor_schedule.specs.declared.schedule.TheConstants.{MOST_ACTORS, NOBODY}
 
@@ -26,17 +27,17 @@ abbrev pub is_ready : Schedule → ℕ → Bool
 is_ready s actor = slice_index_or s.ready actor false
 
 -- whether a worker was the last to serve an actor, or nobody has served it
-abbrev pub is_own : Schedule → ℕ → ℕ → Bool
-is_own s worker actor = (slice_index s.server actor == worker) || (slice_index s.server actor == NOBODY)
+abbrev pub is_own_actor : Schedule → ℕ → ℕ → Bool
+is_own_actor s worker actor = (slice_index s.server actor == worker) || (slice_index s.server actor == NOBODY)
 
 -- whether an actor is one for this worker, or for any
-abbrev pub is_meant : Schedule → Option ℕ → ℕ → Bool
-is_meant s None actor = true
-is_meant s (Some worker) actor = is_own s worker actor
+abbrev pub is_for_worker : Schedule → Option ℕ → ℕ → Bool
+is_for_worker s None actor = true
+is_for_worker s (Some worker) actor = is_own_actor s worker actor
 
 -- whether an actor is ready, and one for this worker, or for any
 abbrev pub may_be_given : Schedule → Option ℕ → ℕ → Bool
-may_be_given s worker actor = is_meant s worker actor && is_ready s actor
+may_be_given s worker actor = is_for_worker s worker actor && is_ready s actor
 
 -- the first of all actors, in cyclic order from a place on, that is ready, and one for this worker, or for any
 abbrev pub first_ready : Schedule → ℕ → ℕ → Option ℕ → Option ℕ
@@ -51,21 +52,17 @@ abbrev pub with_ready : ℕ → Schedule → Schedule
 with_ready actor s = record s { ready = set s.ready actor true; waiting = (s.waiting + 1) % 2 ^ 64 }
 
 -- a worker has the actor, if there is one: it isn't ready, one less is, and this worker is the last to serve it
-abbrev pub with_taken : ℕ → Option ℕ → Schedule → Schedule
-with_taken worker None s = s
-with_taken worker (Some actor) s = record s {
+abbrev pub with_given : ℕ → Option ℕ → Schedule → Schedule
+with_given worker None s = s
+with_given worker (Some actor) s = record s {
   ready = set s.ready actor false;
   server = set s.server actor worker;
   waiting = (s.waiting + (2 ^ 64 - 1)) % 2 ^ 64;
 }
 
--- one more, up to the greatest number
-abbrev pub one_more : ℕ → ℕ
-one_more n = min (n + 1) (2 ^ 64 - 1)
-
--- whether a worker is called: one sleeps, and more actors are ready than those who were called and the caller take
-abbrev pub is_called_for : ℕ → Schedule → Bool
-is_called_for own s = nat_lt 0 s.asleep && nat_lt (min (s.called + own) (2 ^ 64 - 1)) s.waiting
+-- whether one of those who sleep is called: more actors are ready than those who were called, and the caller, take
+abbrev pub calls_one : ℕ → Schedule → Bool
+calls_one own s = nat_lt 0 s.asleep && nat_lt (min (s.called + own) (2 ^ 64 - 1)) s.waiting
 
 -- one of those who sleep is called
 abbrev pub with_call : Schedule → Schedule

@@ -1,6 +1,7 @@
 // Which actors are ready to be served, and which workers sleep until one is.
 ghost use Rattle.std.specs.Prelude.{◌≡◌, ℕ, ◌-◌, ◌<◌, true, false, IfSome, IfNone, if◌then◌else◌};
-ghost use Rattle.actor_schedule.specs.Schedules.{at_first, is_ready, first_ready, next_for, with_ready, with_taken, one_more, is_called_for, with_call, is_to_get_up};
+ghost use Rattle.actor_schedule.specs.Schedules.{at_first, is_ready, first_ready, next_for, with_ready, with_given, calls_one, with_call, is_to_get_up};
+ghost use Rattle.tv_base.specs.Outside.{one_more};
 
 use crate::stop::RunStop;
 
@@ -73,7 +74,7 @@ impl Schedule {
     // last to serve or that nobody has served, so that their memory stays with one processor, or else of all.
     pub(crate) fn take(&mut self, worker: u32, from: u8, actors: u8) -> Option<u8>
         ensures next { result ≡ next_for self.old worker from actors }
-        ensures taken { self.new ≡ with_taken worker result self.old }
+        ensures taken { self.new ≡ with_given worker result self.old }
         ensures within { IfSome result (λ actor. actor < actors) }
         ensures none { IfNone result ((actor : ℕ) → actor < actors → is_ready self.old actor ≡ false) }
     {
@@ -133,7 +134,7 @@ impl Schedule {
     // Calls a worker that sleeps, where more actors are ready than those who were called take, and than `own`, which
     // the caller takes. Says whether it did.
     pub(crate) fn call(&mut self, own: u64) -> bool
-        ensures calls { result ≡ is_called_for own self.old }
+        ensures calls { result ≡ calls_one own self.old }
         ensures after { self.new ≡ if result then with_call self.old else self.old }
     {
         let calls = self.asleep > 0 && self.waiting > self.called.saturating_add(own);

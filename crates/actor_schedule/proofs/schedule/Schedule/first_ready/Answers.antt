@@ -1,5 +1,5 @@
 use Rattle.std.proofs.Common.{◌≡◌, ◌∙◌, sym, arith, ℕ, ◌+◌, ◌-◌, ◌%◌, ◌<◌, true, false}
-use Rattle.actor_schedule.specs.Schedules.{is_meant, may_be_given}
+use Rattle.actor_schedule.specs.Schedules.{is_for_worker, may_be_given}
 use Rattle.actor_schedule.proofs.Turns.{passed_over, comes_first, last_served, else_nobody, any_meant}
 use Rattle.actor_schedule.proofs.schedule.Schedule.first_ready.Goals as goal
 use Rattle.actor_schedule.proofs.schedule.Schedule.first_ready.Goals.{in-Some+then-server-worker, in-Some+else-server-worker, in-None, else-is_meant-via-then-is_meant+else-self-actor, else-is_meant-via-else-is_meant}
@@ -10,7 +10,7 @@ returns-then-self-actor-clause-first c =
     let place : ℕ = c.args.from + c.loop-later.later in
     let actor : ℕ = place % c.args.actors in
     let left : 0 < c.args.actors - c.loop-later.later = omega arith in
-    let meant : is_meant s c.args.worker actor ≡ c.match-worker.is_meant = elim c.match-worker.branch [
+    let meant : is_for_worker s c.args.worker actor ≡ c.match-worker.is_meant = elim c.match-worker.branch [
       | in-Some+then-server-worker w ↦ last_served s c.args.worker w.in-Some.worker actor (cc) w.if-server-worker.true ∙ sym w.is_meant-is
       | in-Some+else-server-worker w ↦ else_nobody s c.args.worker w.in-Some.worker actor (cc) w.if-server-worker.false ∙ sym w.is_meant-is
       | in-None w ↦ any_meant s c.args.worker actor (cc) ∙ sym w.is_meant-is
@@ -26,7 +26,7 @@ loop-later-preserved c = record {
       let place : ℕ = c.args.from + c.loop-later.later in
       let actor : ℕ = place % c.args.actors in
       let left : 0 < c.args.actors - c.loop-later.later = omega arith in
-      let meant : is_meant s c.args.worker actor ≡ c.match-worker.is_meant = elim c.match-worker.branch [
+      let meant : is_for_worker s c.args.worker actor ≡ c.match-worker.is_meant = elim c.match-worker.branch [
         | in-Some+then-server-worker w ↦ last_served s c.args.worker w.in-Some.worker actor (cc) w.if-server-worker.true ∙ sym w.is_meant-is
         | in-Some+else-server-worker w ↦ else_nobody s c.args.worker w.in-Some.worker actor (cc) w.if-server-worker.false ∙ sym w.is_meant-is
         | in-None w ↦ any_meant s c.args.worker actor (cc) ∙ sym w.is_meant-is
