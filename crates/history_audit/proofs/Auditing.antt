@@ -1,6 +1,6 @@
 -- An audit goes on by an entry, and where it stops.
-use Rattle.std.proofs.Common.{◌≡◌, ◌≢◌, ◌∙◌, ℕ, ◌+◌, Bool, true, false, List, [], ◌∷◌, ◌++◌, length, refl, sym, ap, subst}
-use Rattle.std.specs.Prelude.{Err, Ok, Result}
+use Rattle.std.proofs.Common.{◌≡◌, ◌∙◌, ℕ, ◌+◌, Bool, true, false, List, [], ◌∷◌, ◌++◌, length, refl, sym, ap, subst}
+use Rattle.std.specs.Prelude.{Err, Ok}
 use Rattle.letter_types.specs.declared.entries.Entry.{Entry}
 use Rattle.tx_trees.specs.ScriptData.{ScriptData}
 use Rattle.board_rules.specs.Histories.{places_of}
@@ -10,7 +10,7 @@ use Rattle.board_judge.specs.Judged.{HasJudged, IsRefusal, JudgeData}
 use Rattle.board_judge.specs.declared.judge.Refused.{Refused}
 use Rattle.board_judge.specs.declared.judge.Refused.TheVariants as refused
 use Rattle.history_text.specs.Printable.{Begins}
-use Rattle.history_walk.specs.Walks.{ComesBehind, IsPostal, IsUnpostedAt, IsUnreadAt, IsWalked, WalkData}
+use Rattle.history_walk.specs.Walks.{ComesBehind, IsUnposted, IsUnpostedAt, IsUnread, IsWalked, WalkData}
 use Rattle.history_walk.specs.declared.walk.Fault.{Fault}
 use Rattle.history_walk.specs.declared.walk.Fault.TheVariants as faults
 use Rattle.history_audit.specs.Audited.{IsAudited}
@@ -22,7 +22,6 @@ module _ (s : ScriptData) (text : List ℕ) (h : List Entry) (w : WalkData) (j :
   taken_so_far : IsTaken s text h w.rest
   taken_so_far = record {
     read = a.walked.read;
-    postal = a.walked.postal;
     accepted = subst (λ (z : ScriptData). IsAccepted z h) a.judge a.taken.accepted;
   }
 
@@ -32,15 +31,6 @@ module _ (s : ScriptData) (text : List ℕ) (h : List Entry) (w : WalkData) (j :
 
   begins_by : (e : Entry) (more : List ℕ) → Begins w.script w.rest e more → Begins s w.rest e more
   begins_by e more = subst (λ (z : ScriptData). Begins z w.rest e more) a.walk
-
-  begins_back : (e : Entry) (more : List ℕ) → Begins s w.rest e more → Begins w.script w.rest e more
-  begins_back e more = subst (λ (z : ScriptData). Begins z w.rest e more) (sym a.walk)
-
-  postal_by : (g : List Entry) → IsPostal w.script g → IsPostal s g
-  postal_by g = subst (λ (z : ScriptData). IsPostal z g) a.walk
-
-  postal_back : (g : List Entry) → IsPostal s g → IsPostal w.script g
-  postal_back g = subst (λ (z : ScriptData). IsPostal z g) (sym a.walk)
 
   walked_more : (e : Entry) (v : WalkData) → ComesBehind w e v → IsWalked s text (h ++ e ∷ []) v
   walked_more e v goes = subst (λ (z : ScriptData). IsWalked z text (h ++ e ∷ []) v) a.walk (goes.walked text h walked_by)
@@ -59,18 +49,16 @@ module _ (s : ScriptData) (text : List ℕ) (h : List Entry) (w : WalkData) (j :
   }
 
   -- it can't be read
-  pub unread : (fault : Fault) (number : ℕ) → number ≡ w.count + 1 → (fault ≡ faults.Text → IsUnreadAt w) → (fault ≡ faults.Postal → IsUnpostedAt w)
+  pub unread : (fault : Fault) (number : ℕ) → number ≡ w.count + 1 → (fault ≡ faults.Text → IsUnread w.script w.rest) → (fault ≡ faults.Postal → IsUnpostedAt w)
       → IsAudited s text (Err (unread_of fault number))
   unread faults.NoMemory number is none unposted = tt
   unread faults.Text number is none unposted =
-      let at = none refl in
       subst (λ (n : ℕ). Verdict s text (Err (n, rules.Text))) (sym (number_is number is))
-      (Unread h w.rest taken_so_far at.more (λ e more b. at.none e more (begins_back e more b)))
+      (Unread h w.rest taken_so_far (subst (λ (z : ScriptData). IsUnread z w.rest) a.walk (none refl)))
   unread faults.Postal number is none unposted =
-      let at = unposted refl text h walked_by in
       subst (λ (n : ℕ). Verdict s text (Err (n, rules.Postal))) (sym (number_is number is))
-      (Unposted h w.rest at.0 at.1 taken_so_far (begins_by at.0 at.1 at.2)
-      (λ f q b post. at.3 f q (begins_back f q b) (postal_back (h ++ f ∷ []) post)))
+      (Unposted h w.rest taken_so_far
+      (subst (λ (z : ScriptData). IsUnposted z h w.rest) a.walk (unposted refl text h walked_by)))
 
   -- it is refused
   pub broken : (v : WalkData) (e : Entry) (refusal : Refused) (number : ℕ) → ComesBehind w e v → number ≡ w.count + 1 → IsRefusal j e refusal
@@ -78,7 +66,7 @@ module _ (s : ScriptData) (text : List ℕ) (h : List Entry) (w : WalkData) (j :
   broken v e refused.NoMemory number goes is breaks = tt
   broken v e (refused.Wrong wrong) number goes is breaks =
       subst (λ (n : ℕ). Verdict s text (Err (n, rules.Judged wrong.rule))) (sym (number_is number is))
-      (Broken h w.rest e v.rest wrong.rule taken_so_far (begins_by e v.rest goes.begins) (walked_more e v goes).postal
+      (Broken h w.rest e v.rest wrong.rule taken_so_far (begins_by e v.rest goes.begins) (walked_more e v goes).read.postal
       (subst (λ (z : ScriptData). Breaks z h e wrong.rule) a.judge (breaks.1 h a.taken)))
 
   -- none is left

@@ -1,5 +1,5 @@
 -- A text has one verdict: what the one takes the other can't refuse.
-use Rattle.std.proofs.Common.{◌≡◌, ◌≢◌, ℕ, ◌+◌, ◌≤◌, List, [], ◌∷◌, ◌++◌, length, take, refl, sym, ap, ◌∙◌, subst, arith, append_assoc, Some}
+use Rattle.std.proofs.Common.{◌≡◌, ℕ, ◌+◌, ◌≤◌, List, [], ◌∷◌, ◌++◌, length, take, refl, sym, ap, ◌∙◌, subst, arith, append_assoc, Some}
 use Rattle.std.specs.Prelude.{Err, Ok, Result, slice_get}
 use Rattle.std.proofs.lemmas.List.{take-append-le, take_all}
 use Rattle.tv_base.proofs.ByPlace.{slice_get_last, slice_get_left}
@@ -14,18 +14,16 @@ use Rattle.history_text.specs.Printable.{Begins}
 use Rattle.history_reader.proofs.OneEntry.{one_entry}
 use Rattle.history_audit.specs.declared.rules.AuditRule.{AuditRule}
 use Rattle.history_audit.specs.declared.rules.AuditRule.TheVariants.{Text, Postal, Judged, End}
-use Rattle.history_walk.specs.Walks.{IsPostal}
+use Rattle.history_walk.specs.Walks.{IsPostal, IsUnposted, IsUnread}
 use Rattle.history_walk.proofs.Fronts.{Fronts, Longer, Same, Shorter, fronts, nothing_begins}
 use Rattle.history_walk.proofs.SameEntries.{postal_front, same_entry}
 use Rattle.history_audit.specs.Verdicts.{IsTaken, Verdict, Yes, Unread, Unposted, Broken, Unfinished}
-use Rattle.history_audit.proofs.Taken.{is_read}
 
 -- why a verdict of what was taken stops there
 data Why (s : ScriptData) (h : List Entry) (rest : List ℕ) : Result ℕ (ℕ × AuditRule) → Type 0 where
   Whole : rest ≡ [] → HasFinished h → Why s h rest (Ok (length h))
-  NoEntry : rest ≢ [] → ((e : Entry) (more : List ℕ) → Begins s rest e more → ⊥) → Why s h rest (Err (length h + 1, Text))
-  NoLetter : (e : Entry) (more : List ℕ) → Begins s rest e more
-      → ((f : Entry) (q : List ℕ) → Begins s rest f q → IsPostal s (h ++ f ∷ []) → ⊥) → Why s h rest (Err (length h + 1, Postal))
+  NoEntry : IsUnread s rest → Why s h rest (Err (length h + 1, Text))
+  NoLetter : IsUnposted s h rest → Why s h rest (Err (length h + 1, Postal))
   NoMove : (e : Entry) (more : List ℕ) (rule : Rule) → Begins s rest e more → IsPostal s (h ++ e ∷ []) → Breaks s h e rule
       → Why s h rest (Err (length h + 1, Judged rule))
   Early : rest ≡ [] → (HasFinished h → ⊥) → Why s h rest (Err (length h, End))
@@ -38,9 +36,8 @@ record Stop (s : ScriptData) (text : List ℕ) (a : Result ℕ (ℕ × AuditRule
 
 stop_of : (s : ScriptData) (text : List ℕ) (a : Result ℕ (ℕ × AuditRule)) → Verdict s text a → Stop s text a
 stop_of s text a (Yes h taken finished) = record { entries = h; rest = []; taken = taken; why = Whole refl finished }
-stop_of s text a (Unread h rest taken more none) = record { entries = h; rest = rest; taken = taken; why = NoEntry more none }
-stop_of s text a (Unposted h rest e more taken begins none) =
-    record { entries = h; rest = rest; taken = taken; why = NoLetter e more begins none }
+stop_of s text a (Unread h rest taken at) = record { entries = h; rest = rest; taken = taken; why = NoEntry at }
+stop_of s text a (Unposted h rest taken at) = record { entries = h; rest = rest; taken = taken; why = NoLetter at }
 stop_of s text a (Broken h rest e more rule taken begins post breaks) =
     record { entries = h; rest = rest; taken = taken; why = NoMove e more rule begins post breaks }
 stop_of s text a (Unfinished h taken not) = record { entries = h; rest = []; taken = taken; why = Early refl not }
@@ -55,8 +52,8 @@ module _ (s : ScriptData) (valid : IsValid s) (h : List Entry) (rest : List ℕ)
   no_next : (a : Result ℕ (ℕ × AuditRule)) → Why s h rest a → (f : Entry) (q : List ℕ) → Begins s rest f q
       → IsPostal s (h ++ f ∷ []) → MayCome s h f → ⊥
   no_next a (Whole none finished) f q begins post may = nothing_begins s rest f q none begins
-  no_next a (NoEntry some none) f q begins post may = none f q begins
-  no_next a (NoLetter e more next none) f q begins post may = none f q begins post
+  no_next a (NoEntry at) f q begins post may = at.none f q begins
+  no_next a (NoLetter at) f q begins post may = at.none f q begins post
   no_next a (NoMove e more rule next well breaks) f q begins post may =
       broken_may_not s h f rule (subst (λ (x : Entry). Breaks s h x rule) (one_next e f more q next begins well post) breaks) may
   no_next a (Early none not) f q begins post may = nothing_begins s rest f q none begins
@@ -70,29 +67,29 @@ module _ (s : ScriptData) (valid : IsValid s) (h : List Entry) (rest : List ℕ)
   -- and why is one thing
   one_why : (a b : Result ℕ (ℕ × AuditRule)) → Why s h rest a → Why s h rest b → a ≡ b
   one_why a b (Whole is finished) (Whole so ended) = refl
-  one_why a b (Whole is finished) (NoEntry some none) = absurd (some is)
-  one_why a b (Whole is finished) (NoLetter e more begins none) = absurd (nothing_begins s rest e more is begins)
+  one_why a b (Whole is finished) (NoEntry at) = absurd (at.more is)
+  one_why a b (Whole is finished) (NoLetter at) = absurd (nothing_begins s rest at.entry at.behind is at.begins)
   one_why a b (Whole is finished) (NoMove e more rule begins post breaks) = absurd (nothing_begins s rest e more is begins)
   one_why a b (Whole is finished) (Early so not) = absurd (not finished)
-  one_why a b (NoEntry some none) (Whole is finished) = absurd (some is)
-  one_why a b (NoEntry some none) (NoEntry more never) = refl
-  one_why a b (NoEntry some none) (NoLetter e more begins never) = absurd (none e more begins)
-  one_why a b (NoEntry some none) (NoMove e more rule begins post breaks) = absurd (none e more begins)
-  one_why a b (NoEntry some none) (Early is not) = absurd (some is)
-  one_why a b (NoLetter e more begins none) (Whole is finished) = absurd (nothing_begins s rest e more is begins)
-  one_why a b (NoLetter e more begins none) (NoEntry some never) = absurd (never e more begins)
-  one_why a b (NoLetter e more begins none) (NoLetter f q next never) = refl
-  one_why a b (NoLetter e more begins none) (NoMove f q rule next post breaks) = absurd (none f q next post)
-  one_why a b (NoLetter e more begins none) (Early is not) = absurd (nothing_begins s rest e more is begins)
+  one_why a b (NoEntry at) (Whole is finished) = absurd (at.more is)
+  one_why a b (NoEntry at) (NoEntry too) = refl
+  one_why a b (NoEntry at) (NoLetter other) = absurd (at.none other.entry other.behind other.begins)
+  one_why a b (NoEntry at) (NoMove e more rule begins post breaks) = absurd (at.none e more begins)
+  one_why a b (NoEntry at) (Early is not) = absurd (at.more is)
+  one_why a b (NoLetter at) (Whole is finished) = absurd (nothing_begins s rest at.entry at.behind is at.begins)
+  one_why a b (NoLetter at) (NoEntry other) = absurd (other.none at.entry at.behind at.begins)
+  one_why a b (NoLetter at) (NoLetter too) = refl
+  one_why a b (NoLetter at) (NoMove f q rule next post breaks) = absurd (at.none f q next post)
+  one_why a b (NoLetter at) (Early is not) = absurd (nothing_begins s rest at.entry at.behind is at.begins)
   one_why a b (NoMove e more rule begins post breaks) (Whole is finished) = absurd (nothing_begins s rest e more is begins)
-  one_why a b (NoMove e more rule begins post breaks) (NoEntry some none) = absurd (none e more begins)
-  one_why a b (NoMove e more rule begins post breaks) (NoLetter f q next none) = absurd (none e more begins post)
+  one_why a b (NoMove e more rule begins post breaks) (NoEntry at) = absurd (at.none e more begins)
+  one_why a b (NoMove e more rule begins post breaks) (NoLetter at) = absurd (at.none e more begins post)
   one_why a b (NoMove e more rule begins post breaks) (NoMove f q other next well fails) =
       ap (λ (r : Rule). Err (length h + 1, Judged r)) (same_rule e f more q rule other begins next post well breaks fails)
   one_why a b (NoMove e more rule begins post breaks) (Early is not) = absurd (nothing_begins s rest e more is begins)
   one_why a b (Early is not) (Whole so finished) = absurd (not finished)
-  one_why a b (Early is not) (NoEntry some none) = absurd (some is)
-  one_why a b (Early is not) (NoLetter e more begins none) = absurd (nothing_begins s rest e more is begins)
+  one_why a b (Early is not) (NoEntry at) = absurd (at.more is)
+  one_why a b (Early is not) (NoLetter at) = absurd (nothing_begins s rest at.entry at.behind is at.begins)
   one_why a b (Early is not) (NoMove e more rule begins post breaks) = absurd (nothing_begins s rest e more is begins)
   one_why a b (Early is not) (Early so never) = refl
 
@@ -111,7 +108,7 @@ no_longer : (s : ScriptData) → IsValid s → (text : List ℕ) (h : List Entry
     (g : List Entry) (left : List ℕ) (f : Entry) (more : List Entry) (q : List ℕ) → Why s h rest a → IsTaken s text g left
     → g ≡ h ++ f ∷ more → Begins s rest f q → ⊥
 no_longer s valid text h rest a g left f more q why taken is begins =
-    let post : IsPostal s ((h ++ f ∷ []) ++ more) = subst (IsPostal s) (is ∙ sym (append_assoc h (f ∷ []) more)) taken.postal in
+    let post : IsPostal s ((h ++ f ∷ []) ++ more) = subst (IsPostal s) (is ∙ sym (append_assoc h (f ∷ []) more)) taken.read.postal in
     no_next s valid h rest a why f q begins (postal_front s (h ++ f ∷ []) more post)
     (accepted_at s h f more (subst (IsAccepted s) is taken.accepted))
 
@@ -131,5 +128,4 @@ one_verdict s text a b valid v w =
     let x = stop_of s text a v in
     let y = stop_of s text b w in
     one_stop s valid text a b x y
-    (fronts s valid text x.entries x.rest y.entries y.rest (is_read s text x.entries x.rest x.taken)
-    (is_read s text y.entries y.rest y.taken))
+    (fronts s valid text x.entries x.rest y.entries y.rest x.taken.read y.taken.read)

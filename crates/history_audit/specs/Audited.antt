@@ -9,4 +9,4 @@ use Rattle.history_audit.specs.Verdicts.{Verdict}
 abbrev pub IsAudited : ScriptData → List ℕ → Result ℕ AuditRefusal → Type 0
 IsAudited s text (Ok n) = Verdict s text (Ok n)
 IsAudited s text (Err NoMemory) = Unit {0}
-IsAudited s text (Err (Refused entry rule)) = Verdict s text (Err (entry, rule))
+IsAudited s text (Err (Refused f)) = Verdict s text (Err (f.entry, f.rule))

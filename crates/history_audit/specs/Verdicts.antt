@@ -1,19 +1,18 @@
 -- When the text of a history is accepted, and in what it fails first where it isn't.
-use Rattle.std.specs.Prelude.{ℕ, ◌+◌, ◌≢◌, List, [], ◌∷◌, ◌++◌, length, Result, Ok, Err}
+use Rattle.std.specs.Prelude.{ℕ, ◌+◌, List, [], ◌∷◌, ◌++◌, length, Result, Ok, Err}
 use Rattle.letter_types.specs.declared.entries.Entry.{Entry}
 use Rattle.tx_trees.specs.ScriptData.{ScriptData}
 use Rattle.board_rules.specs.declared.rule_names.Rule.{Rule}
 use Rattle.board_rules.specs.Judging.{Breaks, IsAccepted}
 use Rattle.board_rules.specs.Right.{HasFinished}
 use Rattle.history_text.specs.Printable.{Begins}
-use Rattle.history_walk.specs.Walks.{BeginsWith, IsPostal}
+use Rattle.history_walk.specs.Walks.{IsPostal, IsRead, IsUnposted, IsUnread}
 use Rattle.history_audit.specs.declared.rules.AuditRule.{AuditRule}
 use Rattle.history_audit.specs.declared.rules.AuditRule.TheVariants.{Text, Postal, Judged, End}
 
 -- so far the text is read, letters went as letters do, and each entry is accepted
 pub record IsTaken (s : ScriptData) (text : List ℕ) (h : List Entry) (rest : List ℕ) : Type 0 where
-  pub read : BeginsWith s text h rest
-  pub postal : IsPostal s h
+  pub read : IsRead s text h rest
   pub accepted : IsAccepted s h
 
 -- The verdict of a text: how many entries it has; or the number of the first entry that fails, counted from 1, and in
@@ -21,10 +20,9 @@ pub record IsTaken (s : ScriptData) (text : List ℕ) (h : List Entry) (rest : L
 -- where nothing that may be read there went as letters do. A history that ends too early fails at its last entry.
 pub data Verdict (s : ScriptData) (text : List ℕ) : Result ℕ (ℕ × AuditRule) → Type 0 where
   Yes : (h : List Entry) → IsTaken s text h [] → HasFinished h → Verdict s text (Ok (length h))
-  Unread : (h : List Entry) (rest : List ℕ) → IsTaken s text h rest → rest ≢ []
-      → ((e : Entry) (more : List ℕ) → Begins s rest e more → ⊥) → Verdict s text (Err (length h + 1, Text))
-  Unposted : (h : List Entry) (rest : List ℕ) (e : Entry) (more : List ℕ) → IsTaken s text h rest → Begins s rest e more
-      → ((f : Entry) (q : List ℕ) → Begins s rest f q → IsPostal s (h ++ f ∷ []) → ⊥)
+  Unread : (h : List Entry) (rest : List ℕ) → IsTaken s text h rest → IsUnread s rest
+      → Verdict s text (Err (length h + 1, Text))
+  Unposted : (h : List Entry) (rest : List ℕ) → IsTaken s text h rest → IsUnposted s h rest
       → Verdict s text (Err (length h + 1, Postal))
   Broken : (h : List Entry) (rest : List ℕ) (e : Entry) (more : List ℕ) (rule : Rule) → IsTaken s text h rest
       → Begins s rest e more → IsPostal s (h ++ e ∷ []) → Breaks s h e rule → Verdict s text (Err (length h + 1, Judged rule))

@@ -3,9 +3,10 @@ ghost use Rattle.std.specs.Prelude.{ℕ, ◌≡◌, ◌+◌, ◌<◌, ◌++◌, 
 ghost use Rattle.letter_types.specs.declared.entries.Entry.{Entry};
 ghost use Rattle.tx_trees.specs.ScriptData.{ScriptData};
 ghost use Rattle.history_audit.specs.Audited.{IsAudited};
-ghost use Rattle.history_audit.specs.inside.Auditing.{IsUnderAudit, end_of, judged_refusal, unread_of};
+ghost use Rattle.history_audit.specs.inside.Auditing.{IsUnderAudit, end_of, judged_refusal, refused_by, unread_of};
 
 use crate::rules::AuditRule;
+use crate::source_audit::HistoryFault;
 use board_judge::{Judge, Refused};
 use history_walk::{Fault, Walk};
 use std::alloc::Global;
@@ -16,13 +17,7 @@ use tx_trees::Script;
 #[derive(Clone, Copy, Debug, PartialEq, Eq)]
 pub enum AuditRefusal {
     /// It fails.
-    Refused {
-        /// The number of the first entry that fails, counted from 1; of a history that ends too early, the number of its
-        /// entries.
-        entry: u64,
-        /// What fails there first.
-        rule: AuditRule,
-    },
+    Refused(HistoryFault),
     /// No memory was found. It says nothing of the text.
     NoMemory,
 }
@@ -38,8 +33,9 @@ impl From<NoMemory> for AuditRefusal {
 }
 
 /// Judges the text of a history by its verdict: how many entries it has, where it is accepted whole; else the first entry
-/// that fails, and in what. Takes time by the text's length; it keeps no entries, but the letters that were sent, what the
-/// Board's tallies say, and what the items are worth.
+/// that fails, and in what. Takes time by the script, by the text's length, and for each entry by the operations and values
+/// of the trees that end there, and for locks by the operations of the script on their items. It keeps no entries, but the
+/// letters that were sent, what the Board's tallies say, and what the items are worth.
 pub fn audit(alloc: Global, script: &Script, text: &[u8]) -> Result<u64, AuditRefusal>
     ensures { IsAudited script.now text.now result }
 {
@@ -74,6 +70,13 @@ fn take_next(walk: &mut Walk, judge: &mut Judge) -> Result<bool, AuditRefusal>
     }
 }
 
+// The refusal of the entry of this number by this rule.
+fn refused_by(entry: u64, rule: AuditRule) -> AuditRefusal
+    ensures { result ≡ refused_by entry rule }
+{
+    AuditRefusal::Refused(HistoryFault { entry, rule })
+}
+
 // How an audit of so many entries ends.
 fn end(count: u64, finished: bool) -> Result<u64, AuditRefusal>
     ensures { result ≡ end_of count finished }
@@ -81,10 +84,7 @@ fn end(count: u64, finished: bool) -> Result<u64, AuditRefusal>
     if finished {
         Ok(count)
     } else {
-        Err(AuditRefusal::Refused {
-            entry: count,
-            rule: AuditRule::End,
-        })
+        Err(refused_by(count, AuditRule::End))
     }
 }
 
@@ -93,14 +93,8 @@ fn unread(fault: Fault, number: u64) -> AuditRefusal
     ensures { result ≡ unread_of fault number }
 {
     match fault {
-        Fault::Text => AuditRefusal::Refused {
-            entry: number,
-            rule: AuditRule::Text,
-        },
-        Fault::Postal => AuditRefusal::Refused {
-            entry: number,
-            rule: AuditRule::Postal,
-        },
+        Fault::Text => refused_by(number, AuditRule::Text),
+        Fault::Postal => refused_by(number, AuditRule::Postal),
         Fault::NoMemory => AuditRefusal::NoMemory,
     }
 }
@@ -110,10 +104,7 @@ fn refusal(refused: Refused, number: u64) -> AuditRefusal
     ensures { result ≡ judged_refusal refused number }
 {
     match refused {
-        Refused::Wrong(wrong) => AuditRefusal::Refused {
-            entry: number,
-            rule: AuditRule::Judged(wrong.rule),
-        },
+        Refused::Wrong(wrong) => refused_by(number, AuditRule::Judged(wrong.rule)),
         Refused::NoMemory => AuditRefusal::NoMemory,
     }
 }

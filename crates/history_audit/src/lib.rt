@@ -1,6 +1,6 @@
-//! The audit of a printed history: its text is read entry by entry, and judged by what each entry may be after those before
-//! it. What it means that a text is accepted or refused is its verdict, by the first entry that fails; a text has one. In mode
-//! audit a script and a printed history are read from a source, and the history is judged.
+//! The audit of a printed history: its text is read entry by entry, and judged by what each entry may be after those
+//! before it. What it means that a text is accepted or refused is its verdict, by the first entry that fails; a text has
+//! one. In mode audit a script and a printed history are read from a source, and the history is judged.
 #![tactic(auto)]
 
 mod auditor;
@@ -10,7 +10,6 @@ mod rules;
 mod source_audit;
 
 pub use auditor::{AuditRefusal, audit};
-pub use history_walk::{HistoryRefusal, read_history};
 pub use laws::{a_text_has_one_verdict, an_accepted_text_is_one_history};
 pub use rules::AuditRule;
 pub use source_audit::{AuditStop, HistoryFault, MOST_AUDIT_BYTES, audit_source};

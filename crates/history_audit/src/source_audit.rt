@@ -18,9 +18,10 @@ pub const MOST_AUDIT_BYTES: usize = 276_824_064;
 /// In what a history fails first.
 #[derive(Clone, Copy, Debug, PartialEq, Eq)]
 pub struct HistoryFault {
-    /// The number of the entry, counted from 1; of a history that ends too early, the number of its entries.
+    /// The number of the first entry that fails, counted from 1; of a history that ends too early, the number of its
+    /// entries.
     pub entry: u64,
-    /// What fails there.
+    /// What fails there first.
     pub rule: AuditRule,
 }
 
@@ -84,9 +85,7 @@ impl From<AuditRefusal> for AuditStop {
 
     fn from(refusal: AuditRefusal) -> Self {
         match refusal {
-            AuditRefusal::Refused { entry, rule } => {
-                AuditStop::History(HistoryFault { entry, rule })
-            }
+            AuditRefusal::Refused(fault) => AuditStop::History(fault),
             AuditRefusal::NoMemory => AuditStop::NoMemory,
         }
     }
@@ -94,7 +93,7 @@ impl From<AuditRefusal> for AuditStop {
 
 /// Reads a script and a history from a source to its end, judges the history, and gives the line that says how many entries
 /// it has, where it is accepted whole. The first line that is exactly `history` divides what is read; where there is none all
-/// is the script, and the history is empty. Takes memory by what is read, and time by its length.
+/// is the script, and the history is empty. Takes memory by what is read, and time by its length and by what `audit` takes.
 pub fn audit_source<S: Source>(alloc: Global, source: &mut S) -> Result<Text, AuditStop>
     ensures accepted { IfOk result (λ text. (n : ℕ) × IsAuditOf (S.left source.old) (S.left source.new) (Ok n)
         × (text ≡ accepted_line n)) }

@@ -80,7 +80,7 @@ fronts_of s h rest g left post other (First front e more is like begins) =
 
 pub fronts : (s : ScriptData) → IsValid s → (text : List ℕ) (h : List Entry) (rest : List ℕ) (g : List Entry) (left : List ℕ)
     → IsRead s text h rest → IsRead s text g left → Fronts s h rest g left
-fronts s valid text h rest g left a b = fronts_of s h rest g left a.postal b.postal (meet s valid text h rest g left a.read b.read)
+fronts s valid text h rest g left a b = fronts_of s h rest g left a.postal b.postal (meet s valid text h rest g left a.begins b.begins)
 
 -- what is read whole is one history
 one_history_by : (s : ScriptData) (h g : List Entry) → Fronts s h [] g [] → h ≡ g

@@ -1,12 +1,11 @@
 -- What the next entry of a walk comes to, by what was read and found.
-use Rattle.std.proofs.Common.{◌≡◌, ◌==◌, ℕ, ◌-◌, true, false, List, [], ◌∷◌, ◌++◌, length, drop, take, sym, ap, ◌∙◌, subst, arith, Some, None}
-use Rattle.std.proofs.lemmas.List.{length-drop, take_all}
+use Rattle.std.proofs.Common.{◌≡◌, ◌==◌, ℕ, true, false, List, [], ◌∷◌, ◌++◌, length, sym, ap, ◌∙◌, subst, Some, None}
 use Rattle.letter_types.specs.declared.entries.Entry.{Entry}
 use Rattle.letter_types.specs.declared.entries.Letter.{Letter}
 use Rattle.tx_trees.specs.ScriptData.{ScriptData, client_of}
 use Rattle.tx_trees.specs.Valid.{IsValid}
 use Rattle.history_text.specs.Printable.{Begins}
-use Rattle.history_walk.specs.Walks.{IsUnpostedAt, IsUnreadAt, LettersLeft, WalkData, ComesBehind}
+use Rattle.history_walk.specs.Walks.{IsUnpostedAt, IsUnread, LettersLeft, WalkData, ComesBehind}
 use Rattle.history_walk.specs.inside.Finding.{entry_with, left_without, letter_for}
 use Rattle.history_walk.proofs.OneMore.{found_for_id}
 use Rattle.history_walk.proofs.Walked.{begins_alike, none_goes_on, walked_more, with_sent}
@@ -22,9 +21,9 @@ module _ (s : ScriptData) (rest : List ℕ) (n : ℕ) (letters : LettersLeft) wh
   walk = record { script = s; rest = rest; count = n; letters = letters }
 
   pub unread : (w : WalkData) → walk ≡ w → false ≡ (length rest == 0)
-      → ((e : Entry) (more : List ℕ) → Begins s rest e more → ⊥) → IsUnreadAt w
+      → ((e : Entry) (more : List ℕ) → Begins s rest e more → ⊥) → IsUnread w.script w.rest
   unread w is some none =
-      subst IsUnreadAt is (record {
+      subst (λ (x : WalkData). IsUnread x.script x.rest) is (record {
         more = λ (end : rest ≡ []).
             let zero_is : (length rest == 0) ≡ true = ap (λ (t : List ℕ). length t == 0) end in
             cc;
@@ -35,13 +34,13 @@ module _ (s : ScriptData) (rest : List ℕ) (n : ℕ) (letters : LettersLeft) wh
     pub unposted : (w : WalkData) → walk ≡ w → (more : List ℕ) → IsValid s → Begins s rest e more
         → None ≡ letter_for client letters e → IsUnpostedAt w
     unposted w is more valid begins none =
-        subst IsUnpostedAt is (λ text h walked. (
-          e,
-          more,
-          begins,
-          none_goes_on s text h walk walked e more valid begins
-              (ap (λ (c : ℕ). letter_for c letters e) (sym own) ∙ sym none),
-        ))
+        subst IsUnpostedAt is (λ text h walked. record {
+          entry = e;
+          behind = more;
+          begins = begins;
+          none = none_goes_on s text h walk walked e more valid begins
+              (ap (λ (c : ℕ). letter_for c letters e) (sym own) ∙ sym none);
+        })
 
     pub goes_on : (w : WalkData) → walk ≡ w → (new : WalkData) (l : Letter) → Begins s rest e new.rest
         → Some l ≡ letter_for client letters e → new.letters ≡ with_sent e (left_without e.took.id letters)

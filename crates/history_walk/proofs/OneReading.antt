@@ -1,5 +1,5 @@
 -- A text has one reading.
-use Rattle.std.proofs.Common.{◌≡◌, ◌≢◌, ℕ, ◌+◌, List, [], ◌∷◌, ◌++◌, length, refl, sym, ◌∙◌, subst, append_assoc}
+use Rattle.std.proofs.Common.{◌≡◌, ℕ, ◌+◌, List, [], ◌∷◌, ◌++◌, length, refl, sym, ◌∙◌, subst, append_assoc}
 use Rattle.std.specs.Prelude.{Err, Ok, Result}
 use Rattle.letter_types.specs.declared.entries.Entry.{Entry}
 use Rattle.tx_trees.specs.ScriptData.{ScriptData}
@@ -7,16 +7,15 @@ use Rattle.tx_trees.specs.Valid.{IsValid}
 use Rattle.history_text.specs.Printable.{Begins}
 use Rattle.history_walk.specs.declared.reading.HistoryRefusal.{HistoryRefusal}
 use Rattle.history_walk.specs.declared.reading.HistoryRefusal.TheVariants.{Postal, Text}
-use Rattle.history_walk.specs.Walks.{IsPostal, IsRead, Reading, Unposted, Unread, Whole}
+use Rattle.history_walk.specs.Walks.{IsPostal, IsRead, IsUnposted, IsUnread, Reading, Unposted, Unread, Whole}
 use Rattle.history_walk.proofs.Fronts.{Fronts, Longer, Same, Shorter, fronts, nothing_begins}
 use Rattle.history_walk.proofs.SameEntries.{postal_front}
 
 -- why a reading stops behind these entries
 data Why (s : ScriptData) (h : List Entry) (rest : List ℕ) : Result (List Entry) HistoryRefusal → Type 0 where
   AtEnd : rest ≡ [] → Why s h rest (Ok h)
-  NoEntry : rest ≢ [] → ((e : Entry) (more : List ℕ) → Begins s rest e more → ⊥) → Why s h rest (Err (Text (length h + 1)))
-  NoLetter : (e : Entry) (more : List ℕ) → Begins s rest e more
-      → ((f : Entry) (q : List ℕ) → Begins s rest f q → IsPostal s (h ++ f ∷ []) → ⊥) → Why s h rest (Err (Postal (length h + 1)))
+  NoEntry : IsUnread s rest → Why s h rest (Err (Text (length h + 1)))
+  NoLetter : IsUnposted s h rest → Why s h rest (Err (Postal (length h + 1)))
 
 record Stop (s : ScriptData) (text : List ℕ) (a : Result (List Entry) HistoryRefusal) : Type 0 where
   entries : List Entry
@@ -26,29 +25,28 @@ record Stop (s : ScriptData) (text : List ℕ) (a : Result (List Entry) HistoryR
 
 stop_of : (s : ScriptData) (text : List ℕ) (a : Result (List Entry) HistoryRefusal) → Reading s text a → Stop s text a
 stop_of s text a (Whole h read) = record { entries = h; rest = []; read = read; why = AtEnd refl }
-stop_of s text a (Unread h rest read more none) = record { entries = h; rest = rest; read = read; why = NoEntry more none }
-stop_of s text a (Unposted h rest e more read begins none) =
-    record { entries = h; rest = rest; read = read; why = NoLetter e more begins none }
+stop_of s text a (Unread h rest read at) = record { entries = h; rest = rest; read = read; why = NoEntry at }
+stop_of s text a (Unposted h rest read at) = record { entries = h; rest = rest; read = read; why = NoLetter at }
 
 module _ (s : ScriptData) (h : List Entry) (rest : List ℕ) where
   -- nothing goes on there
   no_next : (a : Result (List Entry) HistoryRefusal) → Why s h rest a → (f : Entry) (q : List ℕ) → Begins s rest f q
       → IsPostal s (h ++ f ∷ []) → ⊥
   no_next a (AtEnd none) f q begins post = nothing_begins s rest f q none begins
-  no_next a (NoEntry some none) f q begins post = none f q begins
-  no_next a (NoLetter e more next none) f q begins post = none f q begins post
+  no_next a (NoEntry at) f q begins post = at.none f q begins
+  no_next a (NoLetter at) f q begins post = at.none f q begins post
 
   -- and why is one thing
   one_why : (a b : Result (List Entry) HistoryRefusal) → Why s h rest a → Why s h rest b → a ≡ b
   one_why a b (AtEnd is) (AtEnd so) = refl
-  one_why a b (AtEnd is) (NoEntry some none) = absurd (some is)
-  one_why a b (AtEnd is) (NoLetter e more begins none) = absurd (nothing_begins s rest e more is begins)
-  one_why a b (NoEntry some none) (AtEnd is) = absurd (some is)
-  one_why a b (NoEntry some none) (NoEntry more never) = refl
-  one_why a b (NoEntry some none) (NoLetter e more begins never) = absurd (none e more begins)
-  one_why a b (NoLetter e more begins none) (AtEnd is) = absurd (nothing_begins s rest e more is begins)
-  one_why a b (NoLetter e more begins none) (NoEntry some never) = absurd (never e more begins)
-  one_why a b (NoLetter e more begins none) (NoLetter f q next never) = refl
+  one_why a b (AtEnd is) (NoEntry at) = absurd (at.more is)
+  one_why a b (AtEnd is) (NoLetter at) = absurd (nothing_begins s rest at.entry at.behind is at.begins)
+  one_why a b (NoEntry at) (AtEnd is) = absurd (at.more is)
+  one_why a b (NoEntry at) (NoEntry too) = refl
+  one_why a b (NoEntry at) (NoLetter other) = absurd (at.none other.entry other.behind other.begins)
+  one_why a b (NoLetter at) (AtEnd is) = absurd (nothing_begins s rest at.entry at.behind is at.begins)
+  one_why a b (NoLetter at) (NoEntry other) = absurd (other.none at.entry at.behind at.begins)
+  one_why a b (NoLetter at) (NoLetter too) = refl
 
 -- so what stops behind one history doesn't go on to a longer one
 no_longer : (s : ScriptData) (text : List ℕ) (h : List Entry) (rest : List ℕ) (a : Result (List Entry) HistoryRefusal)

@@ -64,13 +64,15 @@ begins_more s text h rest e more old b = record {
 pub walk_begins : (s : ScriptData) (text : List ℕ) (w : WalkData) → w.rest ≡ text → w.count ≡ 0
     → w.letters ≡ letters_left [] → IsWalked s text [] w
 walk_begins s text w rest count letters = record {
-  read = record { lines = sym rest; may = tt; ends = inl refl };
-  postal = record {
-    stamps = λ k e at. absurd (cc at);
-    sent = λ k e at. absurd (cc at);
-    once = λ j k e f lt at here. absurd (cc at);
-    addressee = λ k e at. absurd (cc at);
-    known = λ k e at. absurd (cc at);
+  read = record {
+    begins = record { lines = sym rest; may = tt; ends = inl refl };
+    postal = record {
+      stamps = λ k e at. absurd (cc at);
+      sent = λ k e at. absurd (cc at);
+      once = λ j k e f lt at here. absurd (cc at);
+      addressee = λ k e at. absurd (cc at);
+      known = λ k e at. absurd (cc at);
+    };
   };
   count = count;
   letters = letters;
@@ -87,15 +89,17 @@ module _ (s : ScriptData) (text : List ℕ) (h : List Entry) (old : WalkData) (w
   walked_more new l b is letters count =
       let here : letter_for (client_of s) (letters_left h) e ≡ Some l =
       ap (λ (x : LettersLeft). letter_for (client_of s) x e) (sym walked.letters) ∙ is in
-      let same : l.id ≡ e.took.id = next_same s h walked.postal e b.may l here in
-      let begun = next_begun s h walked.postal e b.may l here in
-      let senders = next_senders s h walked.postal e b.may l here in
+      let same : l.id ≡ e.took.id = next_same s h walked.read.postal e b.may l here in
+      let begun = next_begun s h walked.read.postal e b.may l here in
+      let senders = next_senders s h walked.read.postal e b.may l here in
       let left : new.letters ≡ letters_left (h ++ entry_with e l ∷ []) =
       letters ∙ ap (λ (x : LettersLeft). with_sent e (left_without e.took.id x)) walked.letters
       ∙ (λ i. record { begun = sym begun i; senders = sym senders i }) in
       record {
-        read = begins_more s text h old.rest (entry_with e l) new.rest walked.read (begins_alike s old.rest e new.rest l same b);
-        postal = next_postal s h walked.postal e b.may l here;
+        read = record {
+          begins = begins_more s text h old.rest (entry_with e l) new.rest walked.read.begins (begins_alike s old.rest e new.rest l same b);
+          postal = next_postal s h walked.read.postal e b.may l here;
+        };
         count = count ∙ ap (λ (x : LettersLeft). length x.senders) left
             ∙ senders_count (h ++ entry_with e l ∷ []) 1 (h ++ entry_with e l ∷ []);
         letters = left;
@@ -106,7 +110,7 @@ module _ (s : ScriptData) (text : List ℕ) (h : List Entry) (old : WalkData) (w
       → (f : Entry) (more : List ℕ) → Begins s old.rest f more → IsPostal s (h ++ f ∷ []) → ⊥
   none_goes_on rest valid b none f more other post =
       let alike = one_entry s old.rest e f rest more valid b other in
-      let found : letter_for (client_of s) (letters_left h) e ≡ Some f.took = finds_next s h walked.read.may e f alike.1 post in
+      let found : letter_for (client_of s) (letters_left h) e ≡ Some f.took = finds_next s h walked.read.begins.may e f alike.1 post in
       let not : letter_for (client_of s) (letters_left h) e ≡ None =
       ap (λ (x : LettersLeft). letter_for (client_of s) x e) (sym walked.letters) ∙ none in
       cc

@@ -24,6 +24,23 @@ pub record BeginsWith (s : ScriptData) (text : List ℕ) (h : List Entry) (rest 
   pub may : AllByRecursion (IsPrintable s) h
   pub ends : (h ≡ []) ⊎ EndsEntry rest
 
+-- the text begins with these entries, and letters went in them as letters do
+pub record IsRead (s : ScriptData) (text : List ℕ) (h : List Entry) (rest : List ℕ) : Type 0 where
+  pub begins : BeginsWith s text h rest
+  pub postal : IsPostal s h
+
+-- something is left of the text, and no entry may be read there
+pub record IsUnread (s : ScriptData) (rest : List ℕ) : Type 0 where
+  pub more : rest ≢ []
+  pub none : (e : Entry) (more : List ℕ) → Begins s rest e more → ⊥
+
+-- behind these entries an entry may be read, but none that may be read there goes on as letters do
+pub record IsUnposted (s : ScriptData) (h : List Entry) (rest : List ℕ) : Type 0 where
+  pub entry : Entry
+  pub behind : List ℕ
+  pub begins : Begins s rest entry behind
+  pub none : (f : Entry) (q : List ℕ) → Begins s rest f q → IsPostal s (h ++ f ∷ []) → ⊥
+
 -- the id of the letter that was sent at this stamp and place
 abbrev pub id_at : ℕ → ℕ → LetterId
 id_at stamp place = record { stamp = record { 0 = stamp }; place = place }
@@ -65,8 +82,7 @@ pub record WalkData : Type 0 where
 
 -- the walk of a text has come behind these entries
 pub record IsWalked (s : ScriptData) (text : List ℕ) (h : List Entry) (w : WalkData) : Type 0 where
-  pub read : BeginsWith s text h w.rest
-  pub postal : IsPostal s h
+  pub read : IsRead s text h w.rest
   pub count : w.count ≡ length h
   pub letters : w.letters ≡ letters_left h
 
@@ -75,30 +91,17 @@ pub record ComesBehind (old : WalkData) (e : Entry) (new : WalkData) : Type 0 wh
   pub begins : Begins old.script old.rest e new.rest
   pub walked : (text : List ℕ) (h : List Entry) → IsWalked old.script text h old → IsWalked old.script text (h ++ e ∷ []) new
 
--- where a walk is, the text doesn't end, and no entry may be read
-pub record IsUnreadAt (w : WalkData) : Type 0 where
-  pub more : w.rest ≢ []
-  pub none : (e : Entry) (more : List ℕ) → Begins w.script w.rest e more → ⊥
-
--- where a walk is, an entry may be read, but none that may be read there goes on as letters do
+-- where a walk is, an entry may be read, but none goes on as letters do, whatever entries it has come behind
 abbrev pub IsUnpostedAt : WalkData → Type 0
-IsUnpostedAt w = (text : List ℕ) (h : List Entry) → IsWalked w.script text h w
-    → (e : Entry) × (more : List ℕ) × Begins w.script w.rest e more
-    × ((f : Entry) (q : List ℕ) → Begins w.script w.rest f q → IsPostal w.script (h ++ f ∷ []) → ⊥)
-
--- the text begins with these entries, and letters went in them as letters do
-pub record IsRead (s : ScriptData) (text : List ℕ) (h : List Entry) (rest : List ℕ) : Type 0 where
-  pub read : BeginsWith s text h rest
-  pub postal : IsPostal s h
+IsUnpostedAt w = (text : List ℕ) (h : List Entry) → IsWalked w.script text h w → IsUnposted w.script h w.rest
 
 -- what a text is read as: a history; or the number of the first entry that fails, counted from 1. It fails in its text
 -- where no entry may be read there, and in its letters where nothing that may be read there went as letters do.
 pub data Reading (s : ScriptData) (text : List ℕ) : Result (List Entry) HistoryRefusal → Type 0 where
   Whole : (h : List Entry) → IsRead s text h [] → Reading s text (Ok h)
-  Unread : (h : List Entry) (rest : List ℕ) → IsRead s text h rest → rest ≢ []
-      → ((e : Entry) (more : List ℕ) → Begins s rest e more → ⊥) → Reading s text (Err (refusals.Text (length h + 1)))
-  Unposted : (h : List Entry) (rest : List ℕ) (e : Entry) (more : List ℕ) → IsRead s text h rest → Begins s rest e more
-      → ((f : Entry) (q : List ℕ) → Begins s rest f q → IsPostal s (h ++ f ∷ []) → ⊥)
+  Unread : (h : List Entry) (rest : List ℕ) → IsRead s text h rest → IsUnread s rest
+      → Reading s text (Err (refusals.Text (length h + 1)))
+  Unposted : (h : List Entry) (rest : List ℕ) → IsRead s text h rest → IsUnposted s h rest
       → Reading s text (Err (refusals.Postal (length h + 1)))
 
 -- what is read is the reading of the text, unless memory ran out

@@ -1,8 +1,8 @@
 // The walk over a text, entry by entry.
-ghost use Rattle.std.specs.Prelude.{ℕ, List, [], ◌≡◌, ◌+◌, ◌<◌, ◌≤◌, ◌^◌, length, IfOk, IfSome, IsNone, Err};
+ghost use Rattle.std.specs.Prelude.{[], ◌≡◌, ◌+◌, ◌<◌, ◌^◌, length, IfOk, IfSome, IsNone, Err};
 ghost use Rattle.tx_trees.specs.ScriptData.{client_of};
 ghost use Rattle.tx_trees.specs.Valid.{IsValid};
-ghost use Rattle.history_walk.specs.Walks.{IsUnpostedAt, IsUnreadAt, IsWalked, ComesBehind};
+ghost use Rattle.history_walk.specs.Walks.{IsUnpostedAt, IsUnread, IsWalked, ComesBehind};
 ghost use Rattle.history_walk.specs.inside.Finding.{entry_with};
 
 use crate::in_flight::InFlight;
@@ -90,7 +90,7 @@ impl<'a> Walk<'a> {
     pub fn next(&mut self) -> Result<Option<Entry>, Fault>
         ensures some { IfOk result (λ next. IfSome next (λ e. ComesBehind self.old e self.new)) }
         ensures none { IfOk result (λ next. IsNone next → (self.old.rest ≡ []) × (self.new ≡ self.old)) }
-        ensures text { result ≡ Err Fault.Text → IsUnreadAt self.old }
+        ensures text { result ≡ Err Fault.Text → IsUnread self.old.script self.old.rest }
         ensures postal { result ≡ Err Fault.Postal → IsUnpostedAt self.old }
         ensures script { self.new.script ≡ self.old.script }
     {

@@ -11,7 +11,7 @@ mod runs;
 use month::{Month, booked_month};
 use printed::print_ledger;
 use runs::{run_middle_first, run_on_threads};
-use std::alloc::{AllocError, Global};
+use std::alloc::Global;
 use std::io;
 use std::process::ExitCode;
 use std::sync::Wait;

@@ -1,6 +1,7 @@
 // What a read tree got.
-ghost use Rattle.std.specs.Prelude.{◌≡◌, Contains, IfSome};
-ghost use Rattle.board_rules.specs.Histories.{version_of};
+ghost use Rattle.std.specs.Prelude.{◌≡◌, ◌&&◌, Contains, IfSome, is_some};
+ghost use Rattle.std.specs.List.{list_any};
+ghost use Rattle.board_rules.specs.Histories.{does, places_of, version_of, was_done};
 ghost use Rattle.board_rules.specs.Right.{IsShown};
 ghost use Rattle.board_rules.specs.Worth.{worth};
 ghost use Rattle.headline.specs.Headline.{HasHeadline};
@@ -22,20 +23,35 @@ fn is_read(script: &Script, tree: TreeNo) -> bool
     }
 }
 
-// The values that a subtransaction got in one of these acts.
-fn got_in(acts: &[Act], tree: TreeNo, sub: SubNo) -> Option<&Values>
-    ensures { IfSome result (λ values. Contains acts.now (Did tree sub values.now)) }
+// The values that a subtransaction got by this act.
+fn got_by(act: &Act, tree: TreeNo, sub: SubNo) -> Option<&Values>
+    ensures values { IfSome result (λ values. act.now ≡ Did tree sub values.now) }
+    ensures some { is_some result ≡ does tree.0 sub.0 act.now }
 {
-    for act in acts {
-        if let Act::Did {
+    match act {
+        Act::Did {
             tree: t,
             sub: k,
             values,
-        } = act
-        {
+        } => {
             if *t == tree && *k == sub {
-                return Some(values);
+                Some(values)
+            } else {
+                None
             }
+        }
+        _ => None,
+    }
+}
+
+// The values that a subtransaction got in one of these acts.
+fn got_in(acts: &[Act], tree: TreeNo, sub: SubNo) -> Option<&Values>
+    ensures values { IfSome result (λ values. Contains acts.now (Did tree sub values.now)) }
+    ensures some { is_some result ≡ list_any (does tree.0 sub.0) acts.now }
+{
+    for act in acts {
+        if let Some(values) = got_by(act, tree, sub) {
+            return Some(values);
         }
     }
     None
@@ -52,8 +68,9 @@ pub(crate) fn reported<'a>(
     sub: SubNo,
 ) -> Option<&'a Values>
     requires { HasHeadline script.now history.now }
-    ensures { IfSome result (λ values. IsShown (worth script.now history.now) (ops_of script.now tree.0 sub.0)
+    ensures values { IfSome result (λ values. IsShown (worth script.now history.now) (ops_of script.now tree.0 sub.0)
         values.now (version_of history.now tree.0)) }
+    ensures some { is_some result ≡ (reads script.now tree.0 && was_done tree.0 sub.0 (places_of history.now)) }
 {
     if !is_read(script, tree) {
         return None;

@@ -1,5 +1,5 @@
 // The script run in two ways.
-ghost use Rattle.std.specs.Prelude.{◌<◌, ◌≡◌, ◌/◌, ℕ, IfOk, List, length};
+ghost use Rattle.std.specs.Prelude.{◌/◌, IfOk, length};
 ghost use Rattle.headline.specs.Headline.{HasHeadline};
 
 use crate::Fault;

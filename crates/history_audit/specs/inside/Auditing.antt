@@ -10,6 +10,7 @@ use Rattle.history_walk.specs.declared.walk.Fault.{Fault}
 use Rattle.history_walk.specs.declared.walk.Fault.TheVariants as faults
 use Rattle.history_audit.specs.declared.auditor.AuditRefusal.{AuditRefusal}
 use Rattle.history_audit.specs.declared.auditor.AuditRefusal.TheVariants as refusals
+use Rattle.history_audit.specs.declared.rules.AuditRule.{AuditRule}
 use Rattle.history_audit.specs.declared.rules.AuditRule.TheVariants as rules
 
 -- the walk of the text has come behind these entries, and the judge has taken them
@@ -19,17 +20,21 @@ pub record IsUnderAudit (s : ScriptData) (text : List ℕ) (h : List Entry) (w :
   pub walked : IsWalked s text h w
   pub taken : HasJudged j h
 
+-- the refusal of the entry of this number by this rule
+abbrev pub refused_by : ℕ → AuditRule → AuditRefusal
+refused_by entry rule = refusals.Refused (record { entry = entry; rule = rule })
+
 -- how an audit of so many entries ends, where the client has finished or hasn't
 abbrev pub end_of : ℕ → Bool → Result ℕ AuditRefusal
 end_of count true = Ok count
-end_of count false = Err (refusals.Refused count rules.End)
+end_of count false = Err (refused_by count rules.End)
 
 -- the refusal of the entry of this number, which couldn't be read, and of one that was judged
 abbrev pub unread_of : Fault → ℕ → AuditRefusal
-unread_of faults.Text number = refusals.Refused number rules.Text
-unread_of faults.Postal number = refusals.Refused number rules.Postal
+unread_of faults.Text number = refused_by number rules.Text
+unread_of faults.Postal number = refused_by number rules.Postal
 unread_of faults.NoMemory number = refusals.NoMemory
 
 abbrev pub judged_refusal : Refused → ℕ → AuditRefusal
-judged_refusal (refused.Wrong wrong) number = refusals.Refused number (rules.Judged wrong.rule)
+judged_refusal (refused.Wrong wrong) number = refused_by number (rules.Judged wrong.rule)
 judged_refusal refused.NoMemory number = refusals.NoMemory

@@ -20,5 +20,5 @@ by_script (scripts.Fault f) = stops.Script f
 by_script scripts.NoMemory = stops.NoMemory
 
 abbrev pub by_history : AuditRefusal → AuditStop
-by_history (audits.Refused entry rule) = stops.History (record { entry = entry; rule = rule })
+by_history (audits.Refused f) = stops.History f
 by_history audits.NoMemory = stops.NoMemory
