@@ -3,7 +3,7 @@ ghost use Rattle.std.specs.Prelude.{ℕ, ◌≡◌, ◌+◌, ◌<◌, ◌++◌, 
 ghost use Rattle.letter_types.specs.declared.entries.Entry.{Entry};
 ghost use Rattle.tx_trees.specs.ScriptData.{ScriptData};
 ghost use Rattle.history_audit.specs.Audited.{IsAudited};
-ghost use Rattle.history_audit.specs.inside.Auditing.{IsUnderAudit, end_of, judged_refusal, refused_by, unread_of};
+ghost use Rattle.history_audit.specs.inside.Auditing.{IsUnderAudit, audit_refusal, end_of, judged_refusal, unread_of};
 
 use crate::rules::AuditRule;
 use crate::source_audit::HistoryFault;
@@ -71,8 +71,8 @@ fn take_next(walk: &mut Walk, judge: &mut Judge) -> Result<bool, AuditRefusal>
 }
 
 // The refusal of the entry of this number by this rule.
-fn refused_by(entry: u64, rule: AuditRule) -> AuditRefusal
-    ensures { result ≡ refused_by entry rule }
+fn audit_refusal(entry: u64, rule: AuditRule) -> AuditRefusal
+    ensures { result ≡ audit_refusal entry rule }
 {
     AuditRefusal::Refused(HistoryFault { entry, rule })
 }
@@ -84,7 +84,7 @@ fn end(count: u64, finished: bool) -> Result<u64, AuditRefusal>
     if finished {
         Ok(count)
     } else {
-        Err(refused_by(count, AuditRule::End))
+        Err(audit_refusal(count, AuditRule::End))
     }
 }
 
@@ -93,8 +93,8 @@ fn unread(fault: Fault, number: u64) -> AuditRefusal
     ensures { result ≡ unread_of fault number }
 {
     match fault {
-        Fault::Text => refused_by(number, AuditRule::Text),
-        Fault::Postal => refused_by(number, AuditRule::Postal),
+        Fault::Text => audit_refusal(number, AuditRule::Text),
+        Fault::Postal => audit_refusal(number, AuditRule::Postal),
         Fault::NoMemory => AuditRefusal::NoMemory,
     }
 }
@@ -104,7 +104,7 @@ fn refusal(refused: Refused, number: u64) -> AuditRefusal
     ensures { result ≡ judged_refusal refused number }
 {
     match refused {
-        Refused::Wrong(wrong) => refused_by(number, AuditRule::Judged(wrong.rule)),
+        Refused::Wrong(wrong) => audit_refusal(number, AuditRule::Judged(wrong.rule)),
         Refused::NoMemory => AuditRefusal::NoMemory,
     }
 }

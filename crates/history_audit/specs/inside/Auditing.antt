@@ -21,20 +21,20 @@ pub record IsUnderAudit (s : ScriptData) (text : List ℕ) (h : List Entry) (w :
   pub taken : HasJudged j h
 
 -- the refusal of the entry of this number by this rule
-abbrev pub refused_by : ℕ → AuditRule → AuditRefusal
-refused_by entry rule = refusals.Refused (record { entry = entry; rule = rule })
+abbrev pub audit_refusal : ℕ → AuditRule → AuditRefusal
+audit_refusal entry rule = refusals.Refused (record { entry = entry; rule = rule })
 
 -- how an audit of so many entries ends, where the client has finished or hasn't
 abbrev pub end_of : ℕ → Bool → Result ℕ AuditRefusal
 end_of count true = Ok count
-end_of count false = Err (refused_by count rules.End)
+end_of count false = Err (audit_refusal count rules.End)
 
 -- the refusal of the entry of this number, which couldn't be read, and of one that was judged
 abbrev pub unread_of : Fault → ℕ → AuditRefusal
-unread_of faults.Text number = refused_by number rules.Text
-unread_of faults.Postal number = refused_by number rules.Postal
+unread_of faults.Text number = audit_refusal number rules.Text
+unread_of faults.Postal number = audit_refusal number rules.Postal
 unread_of faults.NoMemory number = refusals.NoMemory
 
 abbrev pub judged_refusal : Refused → ℕ → AuditRefusal
-judged_refusal (refused.Wrong wrong) number = refused_by number (rules.Judged wrong.rule)
+judged_refusal (refused.Wrong wrong) number = audit_refusal number (rules.Judged wrong.rule)
 judged_refusal refused.NoMemory number = refusals.NoMemory
