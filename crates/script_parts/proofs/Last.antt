@@ -1,9 +1,7 @@
 -- The last of a list, by its place.
 use Rattle.std.proofs.Common.{◌≡◌, ℕ, suc, zero, List, [], ◌∷◌, ◌++◌, length, get_or, refl, sym, ap, ◌∙◌, arith}
-use Rattle.std.specs.Prelude.{Some, slice_get, Result, Ok, Err, OnErr}
+use Rattle.std.specs.Prelude.{Some, Result, Ok, Err, OnErr}
 use Rattle.std.proofs.Math.ListN.{set}
-use Rattle.std.proofs.lemmas.List.{set-get_or}
-use Rattle.std.proofs.lemmas.Option.{get_or_from_slice_get}
 use Rattle.script_parts.specs.declared.parts.Sub.{Sub}
 use Rattle.script_parts.specs.declared.parts.SubOp.{SubOp}
 use Rattle.script_parts.specs.declared.parts.Tree.{Tree}
@@ -56,22 +54,9 @@ pub push_last_op : (ts : List Tree) (k : ℕ) (t : Tree) (o : SubOp) (subs : Lis
     → set ts k (let u : Tree = record t { subs = subs } in u) ≡ on_last (on_last_sub (push_op o)) ts
 push_last_op ts k t o subs e is pushed = rw pushed (ap (λ (u : Tree). set ts k (on_last_sub (push_op o) u)) is ∙ on_last_is (on_last_sub (push_op o)) ts k t e)
 
-set-set : {A : Type 0} (xs : List A) (k : ℕ) (a b : A) → set (set xs k a) k b ≡ set xs k b
-set-set [] k a b = refl
-set-set (x ∷ xs) zero a b = refl
-set-set (x ∷ xs) (suc k) a b = ap (λ (r : List _). x ∷ r) (set-set xs k a b)
-
--- what was taken out of a place and put back is as it was, but for what was done to it
-pub put_changed : {A : Type 0} (f : A → A) (xs ys zs : List A) (k : ℕ) (x y spare : A) → suc k ≡ length xs → slice_get xs k ≡ Some x → ys ≡ set xs k spare → zs ≡ set ys k y → y ≡ f x
-    → zs ≡ on_last f xs
-put_changed f xs ys zs k x y spare e was out back is =
-    let at : x ≡ get_or xs k x = sym (get_or_from_slice_get xs k x x was) in
-    back ∙ ap (λ (r : List _). set r k y) out ∙ set-set xs k spare y ∙ ap (set xs k) (is ∙ ap f at) ∙ on_last_is f xs k x e
-
-pub put_back : {A : Type 0} (xs ys zs : List A) (k : ℕ) (x y spare : A) → slice_get xs k ≡ Some x → ys ≡ set xs k spare → zs ≡ set ys k y → y ≡ x → zs ≡ xs
-put_back xs ys zs k x y spare was out back is =
-    let at : x ≡ get_or xs k x = sym (get_or_from_slice_get xs k x x was) in
-    back ∙ ap (λ (r : List _). set r k y) out ∙ set-set xs k spare y ∙ ap (set xs k) (is ∙ at) ∙ set-get_or xs k x
+pub push_op_last : (ss : List Sub) (k : ℕ) (s : Sub) (o : SubOp) (ops : List SubOp) → suc k ≡ length ss → s ≡ get_or ss k s → ops ≡ s.ops ++ o ∷ []
+    → set ss k (let u : Sub = record s { ops = ops } in u) ≡ on_last (push_op o) ss
+push_op_last ss k s o ops e is pushed = rw pushed (ap (λ (u : Sub). set ss k (push_op o u)) is ∙ on_last_is (push_op o) ss k s e)
 
 pub on_err : {T E : Type 0} (P : Type 0) (r : Result T E) → P → OnErr r P
 on_err P (Ok t) p = tt

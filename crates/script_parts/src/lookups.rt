@@ -6,6 +6,7 @@ ghost use Rattle.script_parts.specs.Adding.{item_kind_at, last_count, last_kind,
 use crate::parts::{Deed, ItemRow, Sub, SubOp, Subs, Tree, TreeKind};
 use commute_ops::{Kind, Op};
 use std::alloc::Global;
+use std::mem;
 use tv_base::{Name, NoMemory, NodeNo, Seq, SubNo};
 
 /// For so many subtransactions a tree has room from the beginning: most have no more.
@@ -133,11 +134,11 @@ fn push_to_last(alloc: Global, subs: &mut Subs, op: SubOp) -> Result<(), NoMemor
     ensures ok { OnOk result (subs.new ≡ on_last (push_op op) subs.old) }
     ensures err { OnErr result (subs.new ≡ subs.old) }
 {
-    let last = subs.items().len() - 1;
-    let spare = empty_sub(alloc, SubNo(0), NodeNo(0));
-    let mut sub = subs.put(last, spare);
+    let mut open = mem::replace(subs, Seq::new(alloc)).into_vec();
+    let last = open.len() - 1;
+    let sub = &mut open[last];
     let pushed = sub.ops.push(op);
-    let _ = subs.put(last, sub);
+    *subs = Seq::from_vec(open);
     if let Err((none, _)) = pushed {
         return Err(none);
     }
