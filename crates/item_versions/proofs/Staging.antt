@@ -1,7 +1,8 @@
 -- Items that are staged already, at their places.
-use Rattle.std.specs.Prelude.{IfSome, IsTrue}
+use Rattle.std.specs.Prelude.{IfOk, IfSome, IsTrue}
+use Rattle.std.specs.Bool.{OnTrue}
 use Rattle.std.specs.List.{slice_get}
-use Rattle.std.proofs.Common.{◌≡◌, ℕ, ◌<◌, ◌≤◌, true, false, OnOk, Ok, Err, Result, Option, Some, None, [], ◌∷◌, ◌++◌, length, set, refl, ap, sym, ◌∙◌, add-one, arith, inl, inr}
+use Rattle.std.proofs.Common.{◌≡◌, ℕ, ◌<◌, ◌≤◌, Bool, true, false, Ok, Err, Result, Option, Some, None, [], ◌∷◌, ◌++◌, length, set, refl, ap, sym, ◌∙◌, add-one, arith, inl, inr}
 use Rattle.std.proofs.lemmas.Bool.{cases_eq, eq-eqb, ne_eqb}
 use Rattle.std.proofs.lemmas.Bool.Decides.{nat_tests}
 use Rattle.tv_base.specs.declared.numbers.ItemNo.{ItemNo}
@@ -74,11 +75,12 @@ pub pending-last : (n : ItemNo) (s t : Table) (h : Held) → length s ≤ item_p
     → pending (s ++ (n, h) ∷ []) t ≡ replaced n h (pending s t)
 pending-last n s t h le = ap (λ (z : Table). pending z t) (sym (with_item-absent n h s le)) ∙ pending-with_item n h s t
 
-on_ok : {A B P Q : Type 0} (r : Result A B) → (P → Q) → OnOk r P → OnOk r Q
-on_ok (Ok x) f p = f p
-on_ok (Err e) f p = tt
+if_made : {E P Q : Type 0} (r : Result Bool E) → (P → Q) → IfOk r (λ made. OnTrue made P) → IfOk r (λ made. OnTrue made Q)
+if_made (Ok true) f p = f p
+if_made (Ok false) f p = tt
+if_made (Err e) f p = tt
 
--- an item that is staged, and may be updated, is updated at its place p
+-- an item that is staged is changed at its place p
 module _ (v : Version) (n : ItemNo) (s u t : Table) (p : ℕ)
     (same : s ≡ u) (at : p ≡ item_place n s) (lt : p < length s) where
   lies : (h : Held) → item_in n (pending u t) ≡ Some h → slice_get s p ≡ Some (n, h)
@@ -93,20 +95,8 @@ module _ (v : Version) (n : ItemNo) (s u t : Table) (p : ℕ)
       ap (λ (z : Table). pending z t) (put ∙ ap (λ (k : ℕ). set s k (n, h)) at)
       ∙ pending-set n s t h lt' ∙ ap (λ (z : Table). replaced n h (pending z t)) same
 
-  pub stage-may : (op : Op) → may_touch_in v n op (pending u t) ≡ true
-      → IfSome (slice_get s p) (λ e. IsTrue (may_touch v op e.1))
-  stage-may op may = let (h, now, can) = touch-there v op n (pending u t) may in rw (lies h now) can
-
   pub stage-room : has_room_in v n (pending u t) ≡ true → IfSome (slice_get s p) (λ e. IsTrue (has_room v e.1))
   stage-room room = let (h, now, can) = room-there v n (pending u t) room in rw (lies h now) can
-
-  pub stage-touched : {A B : Type 0} (r : Result A B) (op : Op) (s' : Table) → may_touch_in v n op (pending u t) ≡ true
-      → OnOk r (IfSome (slice_get s p) (λ e. s' ≡ set s p (e.0, touched v op e.1)))
-      → OnOk r (pending s' t ≡ touched_in v n op (pending u t))
-  stage-touched r op s' may put =
-      let (h, now, can) = touch-there v op n (pending u t) may in
-      let put' = rw (lies h now) at put in
-      on_ok r (λ (e : s' ≡ set s p (n, touched v op h)). put-there (touched v op h) s' e ∙ rw now refl) put'
 
   pub stage-put : (w : Value) (s' : Table) → has_room_in v n (pending u t) ≡ true
       → IfSome (slice_get s p) (λ e. s' ≡ set s p (e.0, put_value v w e.1))
@@ -116,6 +106,35 @@ module _ (v : Version) (n : ItemNo) (s u t : Table) (p : ℕ)
       let put' : s' ≡ set s p (n, put_value v w h) = rw (lies h now) at put in
       put-there (put_value v w h) s' put' ∙ rw now refl
 
+  -- of an item that the table has, what lies there is what is pending
+  held-there : (k : Held) → item_in n t ≡ Some k
+      → (h : Held) × (slice_get s p ≡ Some (n, h)) × (item_in n (pending u t) ≡ Some h)
+  held-there k there =
+      let lt' : item_place n s < length s = omega arith in
+      let (h, here, is) = at-place n s lt' in
+      (h, ap (λ (k : ℕ). slice_get s k) at ∙ here, ap (λ (z : Table). item_in n (pending z t)) (sym same) ∙ pending-staged n h k s t there is)
+
+  -- so whether the update may be made, and what it makes, is told there
+  module _ (op : Op) (k : Held) (there : item_in n t ≡ Some k) where
+    pub touch-room : (IsTrue (may_touch_in v n op (pending u t)) → IsTrue (has_room_in v n (pending u t)))
+        → IfSome (slice_get s p) (λ e. IsTrue (may_touch v op e.1) → IsTrue (has_room v e.1))
+    touch-room room =
+        let (h, here, now) = held-there k there in
+        let room' : IsTrue (may_touch v op h) → IsTrue (has_room v h) = rw (now, may_touch_in, has_room_in) at room in
+        rw here room'
+
+    pub touch-may : {E : Type 0} (r : Result Bool E) → IfOk r (λ made. IfSome (slice_get s p) (λ e. made ≡ may_touch v op e.1))
+        → IfOk r (λ made. made ≡ may_touch_in v n op (pending u t))
+    touch-may r may = let (h, here, now) = held-there k there in rw (now, may_touch_in) (rw here at may)
+
+    pub touch-made : {E : Type 0} (r : Result Bool E) (s' : Table)
+        → IfOk r (λ made. OnTrue made (IfSome (slice_get s p) (λ e. s' ≡ set s p (e.0, touched v op e.1))))
+        → IfOk r (λ made. OnTrue made (pending s' t ≡ touched_in v n op (pending u t)))
+    touch-made r s' put =
+        let (h, here, now) = held-there k there in
+        let put' : IfOk r (λ made. OnTrue made (s' ≡ set s p (n, touched v op h))) = rw here at put in
+        if_made r (λ (e : s' ≡ set s p (n, touched v op h)). put-there (touched v op h) s' e ∙ rw now refl) put'
+
 absent : (n : ItemNo) (s : Table) → length s ≤ item_place n s → item_in n s ≡ None
 absent n [] le = refl
 absent n (e ∷ es) le =
@@ -124,5 +143,16 @@ absent n (e ∷ es) le =
 -- what is pending of an item that is not staged is the table's
 pub pending-absent : (n : ItemNo) (s t : Table) → length s ≤ item_place n s → item_in n (pending s t) ≡ item_in n t
 pending-absent n s t le = item_in-pending_none n s t (absent n s le)
+
+-- an item that the table hasn't may not be updated; one that is not staged is updated as the table has it
+pub absent-may : (v : Version) (op : Op) (n : ItemNo) (s t : Table) → item_in n t ≡ None → false ≡ may_touch_in v n op (pending s t)
+absent-may v op n s t none = rw (item_in-pending_absent n s t none, may_touch_in) refl
+
+pub touched-last : (v : Version) (op : Op) (n : ItemNo) (s u s' t : Table) (k : Held) → s ≡ u → length s ≤ item_place n s
+    → item_in n t ≡ Some k → s' ≡ s ++ (n, touched v op k) ∷ [] → pending s' t ≡ touched_in v n op (pending u t)
+touched-last v op n s u s' t k same le there put =
+    let now : item_in n (pending u t) ≡ Some k = ap (λ (z : Table). item_in n (pending z t)) (sym same) ∙ pending-absent n s t le ∙ there in
+    ap (λ (z : Table). pending z t) put ∙ pending-last n s t (touched v op k) le
+    ∙ ap (λ (z : Table). replaced n (touched v op k) (pending z t)) same ∙ rw (now, touched_in) refl
 
 pub ruleset staging = (pending-last, pending-absent)

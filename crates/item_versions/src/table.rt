@@ -1,4 +1,5 @@
 ghost use Rattle.std.specs.Prelude.{◌≡◌, ◌++◌, ◌∷◌, ◌<◌, [], length, slice_get, slice_set, slice_index_or, IfOk, IfSome, IfNone, IsTrue, OnOk, OnErr, Some};
+ghost use Rattle.std.specs.Bool.{OnFalse, OnTrue};
 ghost use Rattle.std.specs.Option.{option_copied};
 ghost use Rattle.std.specs.List.{All};
 ghost use Rattle.item_versions.specs.Item.{CanCollect, collected, has_room, may_touch, put_value, touched};
@@ -135,16 +136,6 @@ impl ItemTable {
         }
     }
 
-    /// Whether the table has the item, and the update may be made to it as it is with what is staged.
-    pub fn may_stage(&self, staged: &Staged, v: Version, item: ItemNo, op: &Op) -> bool
-        ensures { result ≡ may_touch_in v item op.now (pending staged.now self.now) }
-    {
-        match self.current(staged, item) {
-            Some(current) => current.may_touch(v, op),
-            None => false,
-        }
-    }
-
     /// Whether the table has the item, and it has room for version `v` as it is with what is staged.
     pub fn has_room(&self, staged: &Staged, v: Version, item: ItemNo) -> bool
         ensures { result ≡ has_room_in v item (pending staged.now self.now) }
@@ -155,12 +146,49 @@ impl ItemTable {
         }
     }
 
+    /// Stages an update of one item in version `v`, where it may be made to the item as it is with what is staged.
+    /// False exactly where the table hasn't the item or the update may not be made; then nothing changes. The table
+    /// stays as it is. Where no memory is found, so does what is staged.
+    ///
+    /// An item that is staged already is changed in place, and needs memory only for bags: each from version `v` up is
+    /// copied once. Any other is copied.
+    #[tactic(auto, using(crate::proofs::Staging::staging))]
+    pub fn stage_if_may(
+        &self,
+        staged: &mut Staged,
+        v: Version,
+        item: ItemNo,
+        op: &Op,
+    ) -> Result<bool, NoMemory>
+        requires { IsTrue (may_touch_in v item op.now (pending staged.old self.now))
+            → IsTrue (has_room_in v item (pending staged.old self.now)) }
+        ensures may { IfOk result (λ made. made ≡ may_touch_in v item op.now (pending staged.old self.now)) }
+        ensures made { IfOk result (λ made. OnTrue made
+            (pending staged.new self.now ≡ touched_in v item op.now (pending staged.old self.now))) }
+        ensures not_made { IfOk result (λ made. OnFalse made (staged.new ≡ staged.old)) }
+        ensures err { OnErr result (staged.new ≡ staged.old) }
+    {
+        let Some(held) = self.item(item) else {
+            return Ok(false);
+        };
+        let alloc = *staged.entries.allocator();
+        let place = staged_place(&staged.entries, item);
+        if place < staged.entries.len() {
+            return touch_entry(&mut staged.entries, place, alloc, v, op);
+        }
+        if !held.may_touch(v, op) {
+            return Ok(false);
+        }
+        let next = held.touched(alloc, v, op)?;
+        staged.entries.push((item, next))?;
+        Ok(true)
+    }
+
     /// Stages an update of one item in version `v`, made to the item as it is with what is staged. The table stays
     /// as it is. Where no memory is found, so does what is staged.
     ///
     /// An item that is staged already is changed in place, and needs memory only for bags: each from version `v` up is
     /// copied once. Any other is copied.
-    #[tactic(auto, using(crate::proofs::Staging::staging))]
     pub fn stage(
         &self,
         staged: &mut Staged,
@@ -174,13 +202,7 @@ impl ItemTable {
             (pending staged.new self.now ≡ touched_in v item op.now (pending staged.old self.now)) }
         ensures err { OnErr result (staged.new ≡ staged.old) }
     {
-        let alloc = *staged.entries.allocator();
-        let place = staged_place(&staged.entries, item);
-        if place < staged.entries.len() {
-            return touch_entry(&mut staged.entries, place, alloc, v, op);
-        }
-        let next = self.item(item).unwrap().touched(alloc, v, op)?;
-        staged.entries.push((item, next))?;
+        self.stage_if_may(staged, v, item, op)?;
         Ok(())
     }
 
@@ -298,23 +320,30 @@ fn staged_place(entries: &[(ItemNo, Item)], item: ItemNo) -> usize
     entries.len()
 }
 
-/// Makes an update to the item at a place.
+/// Makes an update to the item at a place, where it may be made. False exactly where it may not.
 fn touch_entry(
     entries: &mut Vec<(ItemNo, Item)>,
     place: usize,
     alloc: Global,
     v: Version,
     op: &Op,
-) -> Result<(), NoMemory>
+) -> Result<bool, NoMemory>
     requires within { place < length entries.old.items }
-    requires may { IfSome (slice_get entries.old.items place) (λ e. IsTrue (may_touch v op.now e.1)) }
-    requires room { IfSome (slice_get entries.old.items place) (λ e. IsTrue (has_room v e.1)) }
-    ensures ok { OnOk result (IfSome (slice_get entries.old.items place)
-        (λ e. entries.new.items ≡ slice_set entries.old.items place (e.0, touched v op.now e.1))) }
+    requires room { IfSome (slice_get entries.old.items place)
+        (λ e. IsTrue (may_touch v op.now e.1) → IsTrue (has_room v e.1)) }
+    ensures may { IfOk result (λ made. IfSome (slice_get entries.old.items place)
+        (λ e. made ≡ may_touch v op.now e.1)) }
+    ensures made { IfOk result (λ made. OnTrue made (IfSome (slice_get entries.old.items place)
+        (λ e. entries.new.items ≡ slice_set entries.old.items place (e.0, touched v op.now e.1)))) }
+    ensures not_made { IfOk result (λ made. OnFalse made (entries.new.items ≡ entries.old.items)) }
     ensures err { OnErr result (entries.new.items ≡ entries.old.items) }
 {
     let entry = &mut entries[place];
-    entry.1.touch(alloc, v, op)
+    if !entry.1.may_touch(v, op) {
+        return Ok(false);
+    }
+    entry.1.touch(alloc, v, op)?;
+    Ok(true)
 }
 
 /// Gives version `v` of the item at a place this value.

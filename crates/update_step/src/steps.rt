@@ -41,10 +41,9 @@ fn touch_all(
         let Deed::Apply(change) = &op.deed else {
             return Ok(None);
         };
-        if !items.may_stage(&staged, v, op.item, change) {
+        if !items.stage_if_may(&mut staged, v, op.item, change)? {
             return Ok(None);
         }
-        items.stage(&mut staged, v, op.item, change)?;
     }
     Ok(Some(Effect {
         staged,
