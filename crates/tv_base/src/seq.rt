@@ -1,5 +1,5 @@
 // The one list type of the public surface.
-ghost use Rattle.std.specs.Prelude.{◌≡◌, ◌+◌, ◌<◌, ◌≤◌, ◌↔◌, [], ◌∷◌, ◌++◌, length, slice_set, slice_get, Some, IsNone, OnOk, OnErr, IfErr, IfOk, IfSome};
+ghost use Rattle.std.specs.Prelude.{◌≡◌, ◌+◌, ◌<◌, ◌≤◌, ◌↔◌, [], ◌∷◌, ◌++◌, length, slice_set, slice_get, vec_capacity, vec_len, Some, IsNone, OnOk, OnErr, IfErr, IfOk, IfSome};
 
 use crate::numbers::NoMemory;
 use std::alloc::Global;
@@ -80,17 +80,11 @@ impl<T, const MOST: usize> Seq<T, MOST> {
         ensures refused { IfErr result (λ e. e.1 ≡ one) }
         ensures err { OnErr result (self.new ≡ self.old) }
     {
-        if MOST <= self.inner.len() {
+        if MOST <= self.inner.len() || make_room(&mut self.inner).is_err() {
             return Err((NoMemory, one));
         }
-        // A short list has no place to spare: most lists of a run stay as short as they are made.
-        if self.inner.len() < SHORT && self.inner.reserve_exact(1).is_err() {
-            return Err((NoMemory, one));
-        }
-        match self.inner.push(one) {
-            Ok(()) => Ok(()),
-            Err(refused) => Err((NoMemory, refused.value)),
-        }
+        self.inner.push_reserved(one);
+        Ok(())
     }
 
     /// Takes the last item off. None exactly where the list is empty.
@@ -124,4 +118,17 @@ impl<T, const MOST: usize> Seq<T, MOST> {
     {
         mem::replace(&mut self.inner[place], one)
     }
+}
+
+/// Makes room for one more item. A short list has no place to spare: most lists of a run stay as short as they are made.
+fn make_room<T>(items: &mut Vec<T>) -> Result<(), NoMemory>
+    ensures items { items.new.items ≡ items.old.items }
+    ensures room { OnOk result (vec_len items.new < vec_capacity items.new) }
+{
+    if items.len() < SHORT {
+        items.reserve_exact(1)?;
+    } else {
+        items.reserve(1)?;
+    }
+    Ok(())
 }
