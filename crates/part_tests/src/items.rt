@@ -77,3 +77,25 @@ fn a_value_is_put_between_two_versions(rt: HostRuntime) -> Result<(), Fail> {
     assert!(rt; holds(item, &[(0, 1), (1, 5), (2, 4)]));
     Ok(())
 }
+
+#[test]
+fn an_update_is_staged_where_it_may_be_made(rt: HostRuntime) -> Result<(), Fail> {
+    let alloc = rt.alloc();
+    let mut table = ItemTable::new(alloc);
+    table.add(ItemNo(4), sum(1))?;
+    let mut staged = Staged::new(alloc);
+    let one = Op::Add(1);
+    let item = table.item(ItemNo(4)).ok_or("the item is there")?;
+    if item.may_touch(Version(1), &one) && item.has_room(Version(1)) {
+        table.stage(&mut staged, Version(1), ItemNo(4), &one)?;
+    }
+    let put = Op::Put(1);
+    if table.has_room(&staged, Version(1), ItemNo(4)) {
+        assert!(rt; !table.stage_if_may(&mut staged, Version(1), ItemNo(4), &put)?);
+        assert!(rt; table.stage_if_may(&mut staged, Version(1), ItemNo(4), &Op::Add(2))?);
+    }
+    table.put_staged(staged);
+    let item = table.item(ItemNo(4)).ok_or("the item is there")?;
+    assert!(rt; holds(item, &[(0, 1), (1, 4)]));
+    Ok(())
+}
