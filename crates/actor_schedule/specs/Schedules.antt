@@ -1,4 +1,4 @@
--- Which actor a worker is given, and when a worker that sleeps is called.
+-- Which actor a worker is given, and when a worker that sleeps is notified.
 use Rattle.std.specs.Prelude.{ℕ, zero, suc, ◌+◌, ◌-◌, ◌%◌, ◌^◌, min, Bool, true, false, ◌&&◌, ◌||◌, ◌==◌, nat_lt, List, [], ◌∷◌, replicate, set, slice_index, is_some, slice_index_or, find, Option, Some, None}
 use Rattle.std.specs.Option.{option_or}
 use Rattle.tv_base.specs.Outside.{one_more}
@@ -12,7 +12,7 @@ at_first = record {
   waiting = 0;
   server = replicate MOST_ACTORS NOBODY;
   asleep = 0;
-  called = 0;
+  notified = 0;
   finished = false;
   stopped = None;
 }
@@ -60,14 +60,14 @@ with_given worker (Some actor) s = record s {
   waiting = (s.waiting + (2 ^ 64 - 1)) % 2 ^ 64;
 }
 
--- whether one of those who sleep is called: more actors are ready than those who were called, and the caller, take
-abbrev pub calls_one : ℕ → Schedule → Bool
-calls_one own s = nat_lt 0 s.asleep && nat_lt (min (s.called + own) (2 ^ 64 - 1)) s.waiting
+-- whether one of those who sleep is notified: more actors are ready than those who were notified, and the caller, take
+abbrev pub notifies_one : ℕ → Schedule → Bool
+notifies_one own s = nat_lt 0 s.asleep && nat_lt (min (s.notified + own) (2 ^ 64 - 1)) s.waiting
 
--- one of those who sleep is called
-abbrev pub with_call : Schedule → Schedule
-with_call s = record s { asleep = s.asleep - 1; called = one_more s.called }
+-- one of those who sleep is notified
+abbrev pub with_notified : Schedule → Schedule
+with_notified s = record s { asleep = s.asleep - 1; notified = one_more s.notified }
 
--- whether a worker that sleeps is to get up: one was called, or all workers are to end
+-- whether a worker that sleeps is to get up: one was notified, or all workers are to end
 abbrev pub is_to_get_up : Schedule → Bool
-is_to_get_up s = nat_lt 0 s.called || s.finished || is_some s.stopped
+is_to_get_up s = nat_lt 0 s.notified || s.finished || is_some s.stopped

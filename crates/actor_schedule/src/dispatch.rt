@@ -29,9 +29,9 @@ pub struct Dispatch<P: PostName> {
     actors: u8,
     mailboxes: Vec<CachePadded<Mutex<Mailbox<P>>>>,
     schedule: CachePadded<Mutex<Schedule>>,
-    // How many workers sleep and weren't called, for those who look without the schedule's lock.
+    // How many workers sleep and weren't notified, for those who look without the schedule's lock.
     asleep: CachePadded<AtomicU64>,
-    called: Condvar,
+    wakes: Condvar,
     ghost has_actors: { P.post.actors ≡ actors },
     ghost has_mailboxes: { length mailboxes.items ≡ actors },
 }
@@ -44,7 +44,7 @@ impl<P: PostName> Drop for Dispatch<P> {
             mailboxes: _,
             schedule: _,
             asleep: _,
-            called: _,
+            wakes: _,
         } = self;
     }
 }
@@ -60,12 +60,12 @@ impl<P: PostName> Dispatch<P> {
             mailboxes,
             schedule: CachePadded::new(Mutex::new(Schedule::new())),
             asleep: CachePadded::new(AtomicU64::new(0)),
-            called: Condvar::new(),
+            wakes: Condvar::new(),
         })
     }
 
     /// Puts an envelope into its addressee's mailbox. It comes back if memory runs out. Where so many actors more are
-    /// ready than `own`, which the caller takes itself, a worker that sleeps is called.
+    /// ready than `own`, which the caller takes itself, a worker that sleeps is notified.
     pub fn put<R: Wait>(
         &self,
         rt: &R,
@@ -139,36 +139,36 @@ impl<P: PostName> Dispatch<P> {
     pub fn mark_ready<R: Wait>(&self, rt: &R, actor: u8, own: u64) {
         let mut schedule = self.schedule.lock(rt);
         schedule.mark(actor);
-        let calls = schedule.call(own);
-        if calls {
+        let notifies = schedule.notify(own);
+        if notifies {
             self.asleep.store(schedule.asleep(), Ordering::SeqCst);
         }
         drop(schedule);
-        if calls {
-            self.called.notify_one();
+        if notifies {
+            self.wakes.notify_one();
         }
     }
 
-    /// Calls a worker that sleeps, if an actor is ready that nobody is about to take. Who has fallen asleep since the
-    /// caller last marked an actor has seen that one.
-    pub fn call_help<R: Wait>(&self, rt: &R) {
+    /// Notifies a worker that sleeps, if an actor is ready that nobody is about to take. Who has fallen asleep since
+    /// the caller last marked an actor has seen that one.
+    pub fn notify_other<R: Wait>(&self, rt: &R) {
         if self.asleep.load(Ordering::SeqCst) == 0 {
             return;
         }
         let mut schedule = self.schedule.lock(rt);
-        let calls = schedule.call(0);
-        if calls {
+        let notifies = schedule.notify(0);
+        if notifies {
             self.asleep.store(schedule.asleep(), Ordering::SeqCst);
         }
         drop(schedule);
-        if calls {
-            self.called.notify_one();
+        if notifies {
+            self.wakes.notify_one();
         }
     }
 
     /// The actor that a worker serves next, which was ready: the first from this place on, in cyclic order, of those
     /// that it was the last to serve or that nobody has served, or else of all. Where none is, the worker sleeps until
-    /// it is called, and is to look again.
+    /// it is notified, and is to look again.
     pub fn next<R: Wait>(&self, rt: &R, worker: u32, from: u8) -> Result<Option<u8>, Ending>
         ensures { IfOk result (λ next. IfSome next (λ actor. actor < P.post.actors)) }
     {
@@ -184,7 +184,7 @@ impl<P: PostName> Dispatch<P> {
             schedule.fall_asleep();
             self.asleep.store(schedule.asleep(), Ordering::SeqCst);
             let mut up = self
-                .called
+                .wakes
                 .wait_while(rt, schedule, |schedule| !schedule.wakes());
             up.get_up();
         }
@@ -194,12 +194,12 @@ impl<P: PostName> Dispatch<P> {
     /// The client has finished: all workers end.
     pub fn finish<R: Wait>(&self, rt: &R) {
         self.schedule.lock(rt).finish();
-        self.called.notify_all();
+        self.wakes.notify_all();
     }
 
     /// A worker has stopped: so do all others.
     pub fn stop<R: Wait>(&self, rt: &R, stop: RunStop) {
         self.schedule.lock(rt).stop(stop);
-        self.called.notify_all();
+        self.wakes.notify_all();
     }
 }

@@ -1,6 +1,6 @@
 // Which actors are ready to be served, and which workers sleep until one is.
 ghost use Rattle.std.specs.Prelude.{◌≡◌, ℕ, ◌-◌, ◌<◌, true, false, IfSome, IfNone, if◌then◌else◌};
-ghost use Rattle.actor_schedule.specs.Schedules.{at_first, is_ready, first_ready, next_for, with_ready, with_given, calls_one, with_call, is_to_get_up};
+ghost use Rattle.actor_schedule.specs.Schedules.{at_first, is_ready, first_ready, next_for, with_ready, with_given, notifies_one, with_notified, is_to_get_up};
 ghost use Rattle.tv_base.specs.Outside.{one_more};
 
 use crate::stop::RunStop;
@@ -12,16 +12,16 @@ const MOST_ACTORS: usize = 256;
 const NOBODY: u32 = u32::MAX;
 
 // What workers tell one another, under one lock: which actors are ready, and how many these are; which worker was the
-// last to serve each; how many workers sleep and weren't called, and how many were called and aren't up yet; whether
-// the client has finished, and why a worker has stopped. An actor is ready where a letter lies in its mailbox and no
-// worker has it.
+// last to serve each; how many workers sleep and weren't notified, and how many were notified and aren't up yet;
+// whether the client has finished, and why a worker has stopped. An actor is ready where a letter lies in its mailbox
+// and no worker has it.
 #[derive(Clone, Copy)]
 pub(crate) struct Schedule {
     ready: [bool; MOST_ACTORS],
     waiting: u64,
     server: [u32; MOST_ACTORS],
     asleep: u64,
-    called: u64,
+    notified: u64,
     finished: bool,
     stopped: Option<RunStop>,
 }
@@ -36,7 +36,7 @@ impl Schedule {
             waiting: 0,
             server: [NOBODY; MOST_ACTORS],
             asleep: 0,
-            called: 0,
+            notified: 0,
             finished: false,
             stopped: None,
         }
@@ -117,7 +117,7 @@ impl Schedule {
         self.stopped
     }
 
-    // How many workers sleep and weren't called.
+    // How many workers sleep and weren't notified.
     pub(crate) fn asleep(&self) -> u64
         ensures { result ≡ self.now.asleep }
     {
@@ -131,31 +131,31 @@ impl Schedule {
         self.asleep = self.asleep.saturating_add(1);
     }
 
-    // Calls a worker that sleeps, where more actors are ready than those who were called take, and than `own`, which
-    // the caller takes. Says whether it did.
-    pub(crate) fn call(&mut self, own: u64) -> bool
-        ensures calls { result ≡ calls_one own self.old }
-        ensures after { self.new ≡ if result then with_call self.old else self.old }
+    // Notifies a worker that sleeps, where more actors are ready than those who were notified take, and than `own`,
+    // which the caller takes. Says whether it did.
+    pub(crate) fn notify(&mut self, own: u64) -> bool
+        ensures notifies { result ≡ notifies_one own self.old }
+        ensures after { self.new ≡ if result then with_notified self.old else self.old }
     {
-        let calls = self.asleep > 0 && self.waiting > self.called.saturating_add(own);
-        if calls {
+        let notifies = self.asleep > 0 && self.waiting > self.notified.saturating_add(own);
+        if notifies {
             self.asleep = self.asleep.saturating_sub(1);
-            self.called = self.called.saturating_add(1);
+            self.notified = self.notified.saturating_add(1);
         }
-        calls
+        notifies
     }
 
     // Whether a worker that sleeps is to get up.
     pub(crate) fn wakes(&self) -> bool
         ensures { result ≡ is_to_get_up self.now }
     {
-        self.called > 0 || self.finished || self.stopped.is_some()
+        self.notified > 0 || self.finished || self.stopped.is_some()
     }
 
     // A worker has got up.
     pub(crate) fn get_up(&mut self)
-        ensures { self.new ≡ record self.old { called = self.old.called - 1 } }
+        ensures { self.new ≡ record self.old { notified = self.old.notified - 1 } }
     {
-        self.called = self.called.saturating_sub(1);
+        self.notified = self.notified.saturating_sub(1);
     }
 }

@@ -46,12 +46,13 @@ impl<'a, K: ClusterName, G: Gate> Cluster<'a, K, G> {
         Ok(ends(&acts))
     }
 
-    // The same, and tells the others of the end, or of what stopped it. First it calls for help with what it leaves.
+    // The same, and tells the others of the end, or of what stopped it. First it notifies another worker of what it
+    // leaves.
     fn work_on<R: Wait>(&self, rt: &R, envelope: Envelope) -> Result<(), Stopped>
         requires { envelope.post ≡ K.post }
         ensures { IfErr result (λ s. KeepsLetter K.post envelope s.held) }
     {
-        self.dispatch.call_help(rt);
+        self.dispatch.notify_other(rt);
         match self.pass_on(rt, envelope) {
             Ok(true) => {
                 self.dispatch.finish(rt);
