@@ -140,7 +140,7 @@ fn push_counts(text: &mut Text, script: &Script, seed: u64) -> Result<(), NoMemo
     text.push_all(b"\n")
 }
 
-// How many trees there are, of both kinds, and how many subtransactions.
+// How many trees there are, how many of them update trees and read trees, and how many subtransactions.
 fn push_tree_counts(text: &mut Text, trees: &[Tree]) -> Result<(), NoMemory>
     requires { all_subs trees.now < 2 ^ 64 }
     ensures { OnOk result (text.new ≡ text.old ++ trees_counts trees.now) }
