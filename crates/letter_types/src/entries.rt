@@ -1,5 +1,6 @@
 // Letters, the steps that send them, and the entries that keep them.
 ghost use Rattle.std.specs.Prelude.{◌≡◌, [], ◌∷◌, IfOk};
+ghost use Rattle.letter_types.specs.Letters.{go};
 
 use crate::acts::{Act, Acts, copy_acts};
 use crate::bodies::Body;
@@ -45,6 +46,21 @@ pub struct StepOut {
 pub struct Step {
     pub given: StepOut,
     pub kept: StepOut,
+}
+
+/// The first letter, which the client of this number has from itself.
+pub fn go(client: ActorNo) -> Letter
+    ensures { result ≡ go client.0 }
+{
+    Letter {
+        id: LetterId {
+            stamp: Stamp(0),
+            place: 0,
+        },
+        from: client,
+        to: client,
+        body: Body::Go,
+    }
 }
 
 /// One letter of this body to an actor.
