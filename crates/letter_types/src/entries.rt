@@ -6,7 +6,7 @@ use crate::acts::{Act, Acts, copy_acts};
 use crate::bodies::Body;
 use std::alloc::Global;
 use std::mem::size_of;
-use tv_base::{ActorNo, NoMemory, Seq, Stamp};
+use tv_base::{ActorNo, MOST_ENTRIES, NoMemory, Seq, Stamp};
 
 /// A letter's identity: the stamp of the entry that sent it, and its place there from 0. Go has stamp 0 and place 0.
 #[derive(Clone, Copy, Debug, PartialEq, Eq)]
@@ -144,7 +144,7 @@ pub struct Posting {
 }
 
 /// Entries by stamp. At most 2^40 of them: a growth past that finds no memory.
-pub type History = Seq<Entry, 0x100_0000_0000>;
+pub type History = Seq<Entry, MOST_ENTRIES>;
 
 // What a history of a million entries takes depends on these: a letter has 80 bytes, one that is to be sent 64, an act
 // 40, and an entry 144 beside the letters and acts in its lists.
