@@ -48,8 +48,8 @@ impl InFlight {
         self.senders.len() as u64
     }
 
-    // Takes the letter of an entry, where the entry may come next: its stamp is the next one, and the letter is in flight
-    // and addressed to its actor. None where it may not.
+    // Takes the letter of an entry, where the entry may come next: its stamp is the next one, and the letter is in
+    // flight and addressed to its actor. None where it may not.
     pub(crate) fn letter_for(&mut self, client: ActorNo, entry: &Entry) -> Option<Letter>
         requires { length self.old.senders + 1 < 2 ^ 64 }
         ensures letter { result ≡ letter_for client.0 self.old entry.now }
