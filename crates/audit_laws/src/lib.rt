@@ -1,4 +1,5 @@
-//! The laws that join runs and audits: the text of a run that has finished is accepted, and that of any run is read back.
+//! The laws that join runs and audits: the text of a run that has finished is accepted, and that of any run is read
+//! back.
 #![tactic(auto)]
 
 mod laws;

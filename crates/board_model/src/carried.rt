@@ -5,7 +5,7 @@ ghost use Rattle.board_model.specs.Carried.{IsCarried};
 ghost use Rattle.board_model.specs.SerialList.{IsSerial};
 
 use crate::balances::{Balances, all_after_tree, first_values};
-use crate::serial::Members;
+use crate::serial::{Members, outcomes_of};
 use letter_types::History;
 use std::alloc::Global;
 use tv_base::{NoMemory, Version};
@@ -68,4 +68,22 @@ pub fn carry(
         place,
         values,
     })
+}
+
+/// What all items are worth at a version of a history: their initial values, and all that the trees that take effect up
+/// to this version did to them.
+///
+/// One pass over the history, and one over the serial order up to the version. Running out of memory is the only error.
+pub fn worths_at(
+    alloc: Global,
+    script: &Script,
+    history: &History,
+    version: Version,
+) -> Result<Balances, NoMemory>
+    ensures { IfOk result (λ values. values ≡ worths script.now history.now version.0) }
+{
+    let outcomes = outcomes_of(alloc, script, history)?;
+    let first = start(alloc, script, &outcomes.serial)?;
+    let reached = carry(alloc, script, history, &outcomes.serial, first, version)?;
+    Ok(reached.values)
 }

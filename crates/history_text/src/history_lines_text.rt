@@ -18,8 +18,19 @@ pub fn history_lines(alloc: Global, script: &Script, history: &History) -> Resul
     ensures { IfOk result (λ text. text ≡ history_lines_of script.now history.now) }
 {
     let mut text = Text::new(alloc);
-    push_entries(&mut text, script, history.items())?;
+    push_history_lines(&mut text, script, history)?;
     Ok(text)
+}
+
+/// The same lines, behind what the text has.
+pub fn push_history_lines(
+    text: &mut Text,
+    script: &Script,
+    history: &History,
+) -> Result<(), NoMemory>
+    ensures { OnOk result (text.new ≡ text.old ++ history_lines_of script.now history.now) }
+{
+    push_entries(text, script, history.items())
 }
 
 // The lines of entries.

@@ -1,12 +1,11 @@
 // The letters that are in flight, by the stamp of the entry that sent them and their place there.
 ghost use Rattle.std.specs.Prelude.{◌≡◌, [], ◌∷◌, ◌++◌, ◌+◌, ◌-◌, ◌<◌, ◌^◌, true, false, length, IsSome, OnOk, OnErr, slice_get};
-ghost use Rattle.letter_types.specs.Letters.{go};
 ghost use Rattle.history_walk.specs.inside.Finding.{addressee_of, go_left, left_without, letter_by, letter_for, letter_of, spent_at, spent_by};
 
-use letter_types::{Body, Entry, Letter, LetterId, Letters, Outgoing, copy_letters};
+use letter_types::{Body, Entry, Letter, LetterId, Letters, Outgoing, copy_letters, go};
 use std::alloc::Global;
 use std::marker::Model;
-use tv_base::{ActorNo, NoMemory, Stamp};
+use tv_base::{ActorNo, NoMemory};
 
 // What an entry sent: who, and the letters. Go stands for what a letter said that was taken since; no entry sends Go.
 #[derive(Drop)]
@@ -49,8 +48,8 @@ impl InFlight {
         self.senders.len() as u64
     }
 
-    // Takes the letter of an entry, where the entry may come next: its stamp is the next one, and the letter is in flight
-    // and addressed to its actor. None where it may not.
+    // Takes the letter of an entry, where the entry may come next: its stamp is the next one, and the letter is in
+    // flight and addressed to its actor. None where it may not.
     pub(crate) fn letter_for(&mut self, client: ActorNo, entry: &Entry) -> Option<Letter>
         requires { length self.old.senders + 1 < 2 ^ 64 }
         ensures letter { result ≡ letter_for client.0 self.old entry.now }
@@ -90,7 +89,7 @@ impl InFlight {
             return None;
         }
         self.begun = true;
-        Some(first_letter(client))
+        Some(go(client))
     }
 
     // What an entry sent is in flight. No memory leaves as many senders as there were.
@@ -106,21 +105,6 @@ impl InFlight {
             sent,
         })?;
         Ok(())
-    }
-}
-
-// Go, which the client has from itself.
-fn first_letter(client: ActorNo) -> Letter
-    ensures { result ≡ go client.0 }
-{
-    Letter {
-        id: LetterId {
-            stamp: Stamp(0),
-            place: 0,
-        },
-        from: client,
-        to: client,
-        body: Body::Go,
     }
 }
 

@@ -6,8 +6,8 @@ ghost use Rattle.tx_trees.specs.Valid.{IsValid};
 ghost use Rattle.history_walk.specs.declared.reading.HistoryRefusal.{HistoryRefusal};
 ghost use Rattle.history_walk.specs.Walks.{Reading};
 
-/// A text has one reading: whoever reads it finds the same history, with the same letters taken, or the same fault at the
-/// same entry.
+/// A text has one reading: whoever reads it finds the same history, with the same letters taken, or the same fault at
+/// the same entry.
 pub fn a_text_has_one_reading()
     ensures { (s : ScriptData) (text : List ℕ) (a b : Result (List Entry) HistoryRefusal)
         → IsValid s → Reading s text a → Reading s text b → a ≡ b }

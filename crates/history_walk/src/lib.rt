@@ -1,5 +1,5 @@
-//! The walk over the text of a printed history, entry by entry, with the letters that are in flight; and the history that
-//! a text is of.
+//! The walk over the text of a printed history, entry by entry, with the letters that are in flight; and the history
+//! that a text is of.
 #![tactic(auto)]
 
 mod in_flight;

@@ -34,8 +34,8 @@ impl From<NoMemory> for Fault {
     }
 }
 
-/// A walk over the text of a history: the text that is left, and the letters in flight there. It keeps no entries, so it
-/// takes memory by the letters that were sent. Contracts see it as plain data (`WalkData`).
+/// A walk over the text of a history: the text that is left, and the letters in flight there. It keeps no entries, so
+/// it takes memory by the letters that were sent. Contracts see it as plain data (`WalkData`).
 pub struct Walk<'a> {
     alloc: Global,
     script: &'a Script,
@@ -85,8 +85,8 @@ impl<'a> Walk<'a> {
         }
     }
 
-    /// The next entry, with the letter that it took. None at the text's end, where the walk stays as it is. It takes time in
-    /// proportion to the entry's lines. Of a walk that has failed nothing more is promised.
+    /// The next entry, with the letter that it took. None at the text's end, where the walk stays as it is. It takes
+    /// time in proportion to the entry's lines. Of a walk that has failed nothing more is promised.
     pub fn next(&mut self) -> Result<Option<Entry>, Fault>
         ensures some { IfOk result (λ next. IfSome next (λ e. ComesBehind self.old e self.new)) }
         ensures none { IfOk result (λ next. IsNone next → (self.old.rest ≡ []) × (self.new ≡ self.old)) }

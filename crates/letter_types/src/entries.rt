@@ -1,11 +1,12 @@
 // Letters, the steps that send them, and the entries that keep them.
 ghost use Rattle.std.specs.Prelude.{◌≡◌, [], ◌∷◌, IfOk};
+ghost use Rattle.letter_types.specs.Letters.{go};
 
 use crate::acts::{Act, Acts, copy_acts};
 use crate::bodies::Body;
 use std::alloc::Global;
 use std::mem::size_of;
-use tv_base::{ActorNo, NoMemory, Seq, Stamp};
+use tv_base::{ActorNo, MOST_ENTRIES, NoMemory, Seq, Stamp};
 
 /// A letter's identity: the stamp of the entry that sent it, and its place there from 0. Go has stamp 0 and place 0.
 #[derive(Clone, Copy, Debug, PartialEq, Eq)]
@@ -45,6 +46,21 @@ pub struct StepOut {
 pub struct Step {
     pub given: StepOut,
     pub kept: StepOut,
+}
+
+/// The first letter, which the client of this number has from itself.
+pub fn go(client: ActorNo) -> Letter
+    ensures { result ≡ go client.0 }
+{
+    Letter {
+        id: LetterId {
+            stamp: Stamp(0),
+            place: 0,
+        },
+        from: client,
+        to: client,
+        body: Body::Go,
+    }
 }
 
 /// One letter of this body to an actor.
@@ -128,7 +144,7 @@ pub struct Posting {
 }
 
 /// Entries by stamp. At most 2^40 of them: a growth past that finds no memory.
-pub type History = Seq<Entry, 0x100_0000_0000>;
+pub type History = Seq<Entry, MOST_ENTRIES>;
 
 // What a history of a million entries takes depends on these: a letter has 80 bytes, one that is to be sent 64, an act
 // 40, and an entry 144 beside the letters and acts in its lists.

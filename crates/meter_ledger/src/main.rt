@@ -2,7 +2,6 @@
 //! and what its monthly report read is printed, with what each item is worth.
 #![tactic(auto)]
 
-mod balances;
 mod month;
 mod printed;
 mod report;

@@ -2,8 +2,8 @@
 ghost use Rattle.headline.specs.Headline.{HasHeadline};
 
 use crate::Fault;
-use crate::balances::balances;
 use crate::report::reported;
+use board_model::worths_at;
 use commute_ops::Value;
 use letter_types::History;
 use std::alloc::Global;
@@ -49,7 +49,7 @@ fn print_balances(
     history: &History,
     version: Version,
 ) -> Result<(), Fault> {
-    let values = balances(alloc, script, history, version)?;
+    let values = worths_at(alloc, script, history, version)?;
     for (number, value) in values.items().iter().enumerate() {
         print_item(rt, script, ItemNo(number as u32), value)?;
     }

@@ -22,7 +22,8 @@ lines_from : (s : ScriptData) (h : List Entry) (a x : ℕ) (rows : List ItemRow)
     → rows_lines a rows (by_number (λ (k : ℕ). worth s h k a) x rows) (by_number (λ (k : ℕ). worth s h k (a + 1)) x rows)
     (by_number (λ (k : ℕ). is_written s h k (a + 1)) x rows) ≡ items_text s h a x rows
 lines_from s h a x [] = refl
-lines_from s h a x (row ∷ rows) = ap (λ (z : List ℕ). item_line s h a x row ++ z) (lines_from s h a (x + 1) rows)
+lines_from s h a x (row ∷ rows) =
+    ap (λ (z : List ℕ). item_line a row (worth s h x a) (worth s h x (a + 1)) (is_written s h x (a + 1)) ++ z) (lines_from s h a (x + 1) rows)
 
 pub items_all : (s : ScriptData) (h : List Entry) (a : ℕ)
     → rows_lines a s.items (worths s h a) (worths s h (a + 1)) (written_items s h (a + 1)) ≡ items_text s h a 0 s.items

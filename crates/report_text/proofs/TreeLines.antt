@@ -6,6 +6,7 @@ use Rattle.tv_base.specs.declared.numbers.Version.{Version}
 use Rattle.commute_ops.specs.declared.value.Value.{Value}
 use Rattle.letter_types.specs.declared.acts.Act.{Act}
 use Rattle.letter_types.specs.declared.entries.Entry.{Entry}
+use Rattle.tx_trees.specs.Counts.{ops_in}
 use Rattle.tx_trees.specs.ScriptData.{ScriptData, is_read}
 use Rattle.tx_trees.specs.Valid.{AreSubs, IsOp, OpAt}
 use Rattle.tx_trees.specs.declared.parts.ItemRow.{ItemRow}
@@ -21,12 +22,12 @@ use Rattle.board_rules.specs.Right.{shown}
 use Rattle.board_model.specs.Standings.{standings_from, standings_of}
 use Rattle.board_rules.specs.Worth.{worth}
 use Rattle.board_model.proofs.AllItems.{length-standings_from}
-use Rattle.report_text.specs.inside.Lines.{born_line, found_text, ops_texts, subs_texts, trees_lines}
+use Rattle.report_text.specs.inside.Lines.{found_text, ops_texts, subs_texts, trees_lines}
 use Rattle.report_text.specs.inside.Served.{AreRead}
 use Rattle.report_text.specs.Outcomes.{outcome_of, strict_line}
 use Rattle.report_text.proofs.OutcomeLines.{outcome_kept}
 use Rattle.history_text.specs.Values.{get_text}
-use Rattle.report_text.specs.Report.{gets_of, gets_text, item_name, read_line, tree_line, trees_text, values_text}
+use Rattle.report_text.specs.Report.{gets_text, item_name, read_line, tree_line, trees_text, values_text}
 
 -- the value of an item that is there, by number
 by_number_get : {A : Type 0} (f : ℕ → A) (k : ℕ) (rows : List ItemRow) (x : ℕ) (row : ItemRow)
@@ -77,7 +78,7 @@ subs_text s h v kind k (x ∷ ss) all =
     let rest = subs_text s h v kind (k + 1) ss all.1 in
     ap (λ (z : List ℕ). z ++ subs_texts s.items (worths s h v) ss) here
     ∙ ap (λ (z : List ℕ). values_text s.items (shown s h v x.ops) ++ z) rest
-    ∙ sym (shown-append s h v x.ops (gets_of ss))
+    ∙ sym (shown-append s h v x.ops (ops_in ss))
 
 -- a text at each place, which is that of the read tree there, where the list begins with tree t
 abbrev pub ReadFrom : ScriptData → List Entry → ℕ → List Tree → List (List ℕ) → Type 0
@@ -85,10 +86,15 @@ ReadFrom s h t ts texts =
     (i : ℕ) (tree : Tree) (v : Version) → slice_get ts i ≡ Some tree → is_read tree.kind ≡ true → version_of h (t + i) ≡ Some v
     → slice_get texts i ≡ Some (gets_text s h v.0 tree.subs)
 
+-- the line of tree t by the history
+abbrev line_of : ScriptData → List Entry → Tree → ℕ → TreeKind → Option Version → List ℕ
+line_of s h tree t kind born =
+    tree_line tree kind born (λ (v : ℕ). gets_text s h v tree.subs) (outcome_of s (acts_in (places_of h)) t tree.subs)
+
 line_is : (s : ScriptData) (h : List Entry) (tree : Tree) (t : ℕ) (kind : TreeKind) (born : Option Version) (text outcome : List ℕ)
     → ((v : Version) → is_read kind ≡ true → born ≡ Some v → text ≡ gets_text s h v.0 tree.subs)
     → outcome ≡ outcome_of s (acts_in (places_of h)) t tree.subs
-    → born_line tree kind born text outcome ≡ tree_line s h tree t kind born
+    → tree_line tree kind born (λ (v : ℕ). text) outcome ≡ line_of s h tree t kind born
 line_is s h tree t Update None text outcome is came = refl
 line_is s h tree t Update (Some v) text outcome is came = refl
 line_is s h tree t Read None text outcome is came = refl
@@ -107,7 +113,7 @@ lines_from s h t (tree ∷ ts) (text ∷ texts) len is =
     (line_is s h tree t tree.kind (version_of h t) text (outcome_of s (filter (tells_of t) acts) t tree.subs)
     (λ (v : Version) kind born. head_is (is 0 tree v refl kind (ap (λ (k : ℕ). version_of h k) (at_zero t) ∙ born)))
     (outcome_kept s acts t tree.subs))
-    ∙ ap (λ (z : List ℕ). tree_line s h tree t tree.kind (version_of h t) ++ z)
+    ∙ ap (λ (z : List ℕ). line_of s h tree t tree.kind (version_of h t) ++ z)
     (lines_from s h (t + 1) ts texts (omega arith)
     (λ (i : ℕ) (one : Tree) (v : Version) there kind born. is (suc i) one v there kind (ap (λ (k : ℕ). version_of h k) (at_next t i) ∙ born))) where
       at_zero : (t : ℕ) → t + 0 ≡ t

@@ -1,5 +1,4 @@
--- Parts of the report over the standings of the trees and the values of the items, and the line of a script that was
--- read. Only the code of the report cites them, but for `check_line_of`.
+-- The line of a script that was read.
 use Rattle.std.specs.Prelude.{List, ℕ, ◌++◌, length, codes}
 use Rattle.tx_trees.specs.Adding.{all_subs}
 use Rattle.tx_trees.specs.ScriptData.{ScriptData}

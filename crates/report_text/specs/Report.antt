@@ -1,14 +1,14 @@
 -- The text of the report: a function of the script and the history.
-use Rattle.std.specs.Prelude.{if◌then◌else◌, ℕ, zero, suc, ◌+◌, List, [], ◌∷◌, ◌++◌, codes, decimal, Option, Some, None, slice_get}
+use Rattle.std.specs.Prelude.{if◌then◌else◌, ℕ, zero, suc, ◌+◌, Bool, List, [], ◌∷◌, ◌++◌, codes, decimal, Option, Some, None, slice_get}
 use Rattle.tv_base.specs.declared.numbers.ItemNo.{ItemNo}
 use Rattle.tv_base.specs.declared.numbers.Version.{Version}
 use Rattle.commute_ops.specs.declared.value.Value.{Value}
 use Rattle.letter_types.specs.declared.entries.Entry.{Entry}
 use Rattle.tx_trees.specs.Adding.{advances_in}
+use Rattle.tx_trees.specs.Counts.{ops_in}
 use Rattle.tx_trees.specs.ScriptData.{ScriptData}
 use Rattle.tx_trees.specs.declared.parts.ItemRow.{ItemRow}
 use Rattle.tx_trees.specs.declared.parts.Sub.{Sub}
-use Rattle.tx_trees.specs.declared.parts.SubOp.{SubOp}
 use Rattle.tx_trees.specs.declared.parts.Tree.{Tree}
 use Rattle.tx_trees.specs.declared.parts.TreeKind.{TreeKind}
 use Rattle.tx_trees.specs.declared.parts.TreeKind.TheVariants.{Update, Read, Strict}
@@ -34,11 +34,6 @@ abbrev pub values_text : List ItemRow → List (ItemNo × Value) → List ℕ
 values_text rows [] = []
 values_text rows (got ∷ more) = get_text (item_name rows got.0.0) got.1 ++ values_text rows more
 
--- the operations of subtransactions by number, and then in order; those of a read tree are gets alone
-abbrev pub gets_of : List Sub → List SubOp
-gets_of [] = []
-gets_of (k ∷ ks) = k.ops ++ gets_of ks
-
 -- the mark of a tree that is undone
 abbrev pub undone_mark : Option Written → List ℕ
 undone_mark None = []
@@ -52,21 +47,23 @@ update_line name v written = version_text (codes "tree ") name v ++ (undone_mark
 abbrev pub read_line : List ℕ → ℕ → List ℕ → List ℕ
 read_line name v values = version_text (codes "read ") name v ++ (values ++ codes "\n")
 
--- what a read tree's gets are worth at version v in the whole history
+-- what a read tree's gets are worth at version v in the whole history; its operations are gets alone
 abbrev pub gets_text : ScriptData → List Entry → ℕ → List Sub → List ℕ
-gets_text s h v ks = values_text s.items (shown s h v (gets_of ks))
+gets_text s h v ks = values_text s.items (shown s h v (ops_in ks))
 
--- the line of tree t, which has one where it is born
-abbrev pub tree_line : ScriptData → List Entry → Tree → ℕ → TreeKind → Option Version → List ℕ
-tree_line s h tree t Update (Some v) = update_line tree.name v.0 tree.written
-tree_line s h tree t Read (Some v) = read_line tree.name v.0 (gets_text s h v.0 tree.subs)
-tree_line s h tree t Strict (Some v) = strict_line tree.name v.0 (outcome_of s (acts_in (places_of h)) t tree.subs)
-tree_line s h tree t _ _ = []
+-- the line of a tree, which has one where it is born, by the text of its values at a version and of how it came out
+abbrev pub tree_line : Tree → TreeKind → Option Version → (ℕ → List ℕ) → List ℕ → List ℕ
+tree_line tree Update (Some v) values outcome = update_line tree.name v.0 tree.written
+tree_line tree Read (Some v) values outcome = read_line tree.name v.0 (values v.0)
+tree_line tree Strict (Some v) values outcome = strict_line tree.name v.0 outcome
+tree_line tree _ _ values outcome = []
 
 -- where the list begins with tree t
 abbrev pub trees_text : ScriptData → List Entry → ℕ → List Tree → List ℕ
 trees_text s h t [] = []
-trees_text s h t (tree ∷ ts) = tree_line s h tree t tree.kind (version_of h t) ++ trees_text s h (t + 1) ts
+trees_text s h t (x ∷ xs) =
+    tree_line x x.kind (version_of h t) (λ v. gets_text s h v x.subs) (outcome_of s (acts_in (places_of h)) t x.subs)
+    ++ trees_text s h (t + 1) xs
 
 abbrev pub node_line : ℕ → ℕ → List ℕ
 node_line a p =
@@ -82,18 +79,19 @@ nodes_text a (suc n) = nodes_text a n ++ node_line a n
 abbrev pub balance : ℕ → Value → List ℕ
 balance v w = codes " " ++ (decimal v ++ (codes ":" ++ value_text w))
 
--- what item x is worth at the versions that the nodes hold at the end
-abbrev pub balances : ScriptData → List Entry → ℕ → ℕ → List ℕ
-balances s h a x =
-    balance a (worth s h x a) ++ (if is_written s h x (a + 1) then balance (a + 1) (worth s h x (a + 1)) else [])
+-- a value at version a, and one at the next if that is written
+abbrev pub balances : ℕ → Value → Value → Bool → List ℕ
+balances a w next written = balance a w ++ (if written then balance (a + 1) next else [])
 
-abbrev pub item_line : ScriptData → List Entry → ℕ → ℕ → ItemRow → List ℕ
-item_line s h a x row = codes "item " ++ (row.name ++ (balances s h a x ++ codes "\n"))
+-- the line of an item of these values
+abbrev pub item_line : ℕ → ItemRow → Value → Value → Bool → List ℕ
+item_line a row w next written = codes "item " ++ (row.name ++ (balances a w next written ++ codes "\n"))
 
--- where the list begins with item x
+-- what each item is worth at the versions that the nodes hold at the end, where the list begins with item x
 abbrev pub items_text : ScriptData → List Entry → ℕ → ℕ → List ItemRow → List ℕ
 items_text s h a x [] = []
-items_text s h a x (row ∷ rows) = item_line s h a x row ++ items_text s h a (x + 1) rows
+items_text s h a x (row ∷ rows) =
+    item_line a row (worth s h x a) (worth s h x (a + 1)) (is_written s h x (a + 1)) ++ items_text s h a (x + 1) rows
 
 -- trees in the script's order, then nodes by number, then items in the script's order
 abbrev pub report_of : ScriptData → List Entry → List ℕ

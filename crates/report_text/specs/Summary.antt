@@ -49,7 +49,7 @@ abbrev pub kind_worth : ScriptData → List Entry → Kind → ℕ → ℕ → L
 kind_worth s h kind v x [] = pos 0
 kind_worth s h kind v x (row ∷ rows) = part_of kind row.kind (worth s h x v) +ℤ kind_worth s h kind v (x + 1) rows
 
--- how many trees there are, of both kinds, and how many subtransactions; roots are among these
+-- how many trees there are, how many of them update and read trees, and how many subtransactions, roots among these
 abbrev pub trees_counts : List Tree → List ℕ
 trees_counts ts =
     count_text (codes " trees ") (length ts) ++ (count_text (codes " updates ") (update_trees ts)

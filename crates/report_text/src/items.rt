@@ -1,8 +1,8 @@
 // The lines of items.
 ghost use Rattle.std.specs.Prelude.{◌≡◌, ◌++◌, ◌+◌, OnOk, length};
 ghost use Rattle.std.specs.Str.{IsAscii};
-ghost use Rattle.report_text.specs.Report.{balance};
-ghost use Rattle.report_text.specs.inside.Lines.{values_line, rows_lines, two_balances};
+ghost use Rattle.report_text.specs.Report.{balance, balances, item_line};
+ghost use Rattle.report_text.specs.inside.Lines.{rows_lines};
 ghost use Rattle.tx_trees.specs.AsciiNames.{AreAsciiItems};
 
 use commute_ops::{Value, push_number};
@@ -48,7 +48,7 @@ fn push_row(
     written: bool,
 ) -> Result<(), NoMemory>
     requires { IsAscii row.now.name }
-    ensures { OnOk result (text.new ≡ text.old ++ values_line advances row.now shown.now later.now written) }
+    ensures { OnOk result (text.new ≡ text.old ++ item_line advances row.now shown.now later.now written) }
 {
     text.push_all(b"item ")?;
     text.push_all(row.name.bytes())?;
@@ -64,7 +64,7 @@ fn push_balances(
     later: &Value,
     written: bool,
 ) -> Result<(), NoMemory>
-    ensures { OnOk result (text.new ≡ text.old ++ two_balances advances shown.now later.now written) }
+    ensures { OnOk result (text.new ≡ text.old ++ balances advances shown.now later.now written) }
 {
     let version = Version(advances as u64);
     push_balance(text, version, shown)?;

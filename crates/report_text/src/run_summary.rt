@@ -3,13 +3,12 @@ ghost use Rattle.std.specs.Prelude.{◌≡◌, ◌++◌, ◌<◌, ◌≤◌, ◌
 ghost use Rattle.commute_ops.specs.declared.kinds.TheConstants.{MOST_AMOUNT};
 ghost use Rattle.tx_trees.specs.Adding.{all_subs};
 ghost use Rattle.tx_trees.specs.Counts.{if_update};
-ghost use Rattle.board_model.specs.Balances.{worths};
 ghost use Rattle.report_text.specs.Summary.{counts_line, number_of, one_read, kind_worth, part_of, read_trees, summary_of, totals_line, trees_counts, update_trees};
 ghost use Rattle.report_text.specs.inside.Totals.{AreAmounts, kind_total};
 
 use crate::check_text::count_subs;
 use crate::run_report::advances;
-use board_model::{Balances, carry, outcomes_of, start};
+use board_model::worths_at;
 use commute_ops::{Amount, Kind, Value, push_amount};
 use history_text::push_count;
 use letter_types::History;
@@ -61,21 +60,6 @@ fn totals_at(
     let balances = values.items();
     let totals = totals_of(rows, balances);
     Ok(totals)
-}
-
-// What all items are worth at the version.
-fn worths_at(
-    alloc: Global,
-    script: &Script,
-    history: &History,
-    version: Version,
-) -> Result<Balances, NoMemory>
-    ensures { IfOk result (λ values. values ≡ worths script.now history.now version.0) }
-{
-    let outcomes = outcomes_of(alloc, script, history)?;
-    let first = start(alloc, script, &outcomes.serial)?;
-    let carried = carry(alloc, script, history, &outcomes.serial, first, version)?;
-    Ok(carried.values)
 }
 
 // What all sums and all tops have of these values of all items.
@@ -140,7 +124,7 @@ fn push_counts(text: &mut Text, script: &Script, seed: u64) -> Result<(), NoMemo
     text.push_all(b"\n")
 }
 
-// How many trees there are, of both kinds, and how many subtransactions.
+// How many trees there are, how many of them update trees and read trees, and how many subtransactions.
 fn push_tree_counts(text: &mut Text, trees: &[Tree]) -> Result<(), NoMemory>
     requires { all_subs trees.now < 2 ^ 64 }
     ensures { OnOk result (text.new ≡ text.old ++ trees_counts trees.now) }

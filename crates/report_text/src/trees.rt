@@ -1,9 +1,9 @@
 // The lines of trees and of nodes.
 ghost use Rattle.std.specs.Prelude.{◌≡◌, ◌++◌, ◌+◌, ◌<◌, ◌^◌, OnOk, length};
 ghost use Rattle.std.specs.Str.{IsAscii};
-ghost use Rattle.report_text.specs.inside.Lines.{born_line, trees_lines};
+ghost use Rattle.report_text.specs.inside.Lines.{trees_lines};
 ghost use Rattle.tx_trees.specs.AsciiNames.{AreAsciiTrees};
-ghost use Rattle.report_text.specs.Report.{node_line, nodes_text, read_line, undone_mark, update_line};
+ghost use Rattle.report_text.specs.Report.{node_line, nodes_text, read_line, tree_line, undone_mark, update_line};
 ghost use Rattle.report_text.specs.Outcomes.{outcome_of};
 
 use crate::outcomes::{Voters, push_strict};
@@ -50,7 +50,8 @@ fn push_tree(
     values: &Text,
 ) -> Result<(), NoMemory>
     requires { IsAscii voters.tree.now.name }
-    ensures { OnOk result (text.new ≡ text.old ++ born_line voters.entry.tree.now voters.entry.tree.now.kind born values.now
+    ensures { OnOk result (text.new ≡ text.old
+        ++ tree_line voters.entry.tree.now voters.entry.tree.now.kind born (λ _. values.now)
         (outcome_of script.now voters.entry.ballot.now voters.entry.number.0 voters.entry.tree.now.subs)) }
 {
     let tree = voters.tree;

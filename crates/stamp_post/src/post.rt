@@ -14,7 +14,7 @@ use crate::rule::{
 };
 use crate::seats::{ActorSeat, Envelope, Gatherer, Outbox, Receipt, Receipts, Seats};
 use atomic_table::Table;
-use letter_types::{Body, Letter, LetterId, Letters};
+use letter_types::{Letter, LetterId, Letters, go};
 use std::alloc::Global;
 use std::collections::VecDeque;
 use std::marker::{Brand, Model};
@@ -145,16 +145,7 @@ impl Post {
         let (post, mut first) = Post::open(alloc, actors)?;
         let seats = post.split_actors(alloc, &mut first, actors)?;
         let last = ActorNo(actors - 1);
-        let letter = Letter {
-            id: LetterId {
-                stamp: Stamp(0),
-                place: 0,
-            },
-            from: last,
-            to: last,
-            body: Body::Go,
-        };
-        let envelope = post.split_go(&mut first, letter);
+        let envelope = post.split_go(&mut first, go(last));
         Ok(PostParts {
             post,
             gatherer: Gatherer { first },

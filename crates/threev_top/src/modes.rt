@@ -12,7 +12,7 @@ ghost use Rattle.world_model.specs.Scheduled.{IsScheduled};
 
 use crate::texts::{HELP, VERSION};
 use command_words::Mode;
-use history_text::history_lines;
+use history_text::push_history_lines;
 use letter_types::History;
 use node_threads::run;
 use report_text::{check_line, report};
@@ -78,8 +78,7 @@ fn report_with(
 {
     let mut text = report(alloc, script, history)?;
     if lines {
-        let more = history_lines(alloc, script, history)?;
-        text.push_all(more.bytes())?;
+        push_history_lines(&mut text, script, history)?;
     }
     Ok(text)
 }

@@ -1,7 +1,7 @@
 // A world: all actors, the letters in flight, and the history so far.
 ghost use Rattle.std.specs.Prelude.{◌≡◌, ◌<◌, ◌≤◌, ◌+◌, ◌-◌, ◌^◌, ◌++◌, [], length, slice_get, slice_set, take, IfOk, IfSome, MatchResult, OnOk, OnErr, Some};
 ghost use Rattle.std.specs.List.{remove};
-ghost use Rattle.letter_types.specs.Letters.{go, sealed};
+ghost use Rattle.letter_types.specs.Letters.{sealed};
 ghost use Rattle.tv_base.specs.declared.numbers.TheConstants.{MOST_ENTRIES};
 ghost use Rattle.tx_trees.specs.ScriptData.{ScriptData};
 ghost use Rattle.world_model.specs.Runs.{actor_after};
@@ -12,7 +12,7 @@ ghost use Rattle.pair_counters.specs.Numbers.{MOST_COUNT};
 
 use crate::actor::{ActorPrepared, ActorState, actor_done, actor_prepare};
 use letter_bag::Bag;
-use letter_types::{Acts, Body, Entry, History, Letter, LetterId, Letters, StepOut};
+use letter_types::{Acts, Entry, History, Letter, LetterId, Letters, StepOut, go};
 use std::alloc::Global;
 use std::marker::Model;
 use std::mem;
@@ -34,21 +34,6 @@ impl Model for World {
     ghost Value = { WorldData };
 
     ghost view = { λ w. record { actors = w.actors.items; bag = w.bag.items; history = w.history } };
-}
-
-/// The first letter, which the client of this number has from itself.
-fn go(client: ActorNo) -> Letter
-    ensures { result ≡ go client.0 }
-{
-    Letter {
-        id: LetterId {
-            stamp: Stamp(0),
-            place: 0,
-        },
-        from: client,
-        to: client,
-        body: Body::Go,
-    }
 }
 
 /// An entry that holds a place in a history until the step is made.
