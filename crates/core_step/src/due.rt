@@ -5,7 +5,7 @@ ghost use Rattle.item_versions.specs.Window.{in_window};
 ghost use Rattle.tree_home.specs.HeldAnswers.{held_answers, held_in};
 ghost use Rattle.tree_home.specs.Homes.{open_trees};
 ghost use Rattle.tx_trees.specs.ScriptData.{node_of, sub_at};
-ghost use Rattle.world_model.specs.Epochs.{is_of_coordinator, is_of_forgetting, is_of_remembering};
+ghost use Rattle.world_model.specs.Epochs.{is_of_forgetting, is_of_remembering, suits_coordinator};
 ghost use Rattle.world_model.specs.Named.{is_strict_at};
 ghost use Rattle.world_model.specs.Notices.{answer_noted, values_of};
 ghost use Rattle.world_model.specs.Strict.{is_near_answer, is_unheld};
@@ -61,8 +61,8 @@ fn is_of_remembering(body: &Body) -> bool
 }
 
 /// Whether a letter is none that only the other kind of coordinator has, which the script doesn't run.
-pub fn is_of_coordinator(script: &Script, body: &Body) -> bool
-    ensures { result ≡ is_of_coordinator script.now body.now }
+pub fn suits_coordinator(script: &Script, body: &Body) -> bool
+    ensures { result ≡ suits_coordinator script.now body.now }
 {
     if script.is_lossy() {
         return !is_of_remembering(body);

@@ -4,7 +4,7 @@ ghost use Rattle.letter_types.specs.declared.bodies.Body.TheVariants.{Decide, De
 ghost use Rattle.tree_home.specs.HeldAnswers.{held_answers};
 ghost use Rattle.tx_trees.specs.declared.parts.TreeKind.TheVariants.{Read, Strict, Update};
 ghost use Rattle.world_model.specs.Asked.{asked_ops};
-ghost use Rattle.world_model.specs.Epochs.{is_of_coordinator};
+ghost use Rattle.world_model.specs.Epochs.{suits_coordinator};
 ghost use Rattle.world_model.specs.Named.{tree_kind_at};
 ghost use Rattle.world_model.specs.Reads.{can_read};
 ghost use Rattle.world_model.specs.Strict.{core_by_kind, is_unheld, kept_by_kind, meets, read_core, strict_core, update_core};
@@ -19,8 +19,8 @@ ghost use Rattle.core_step.specs.Apt.{IsOwnPlan, asks_a_sub, makes_by, tree_apt}
 use crate::orders::{plan_advancing, still_step};
 use crate::trees::{prepare_read_tree, prepare_update_tree};
 use core_step::{
-    CorePlan, acked_apt, decide_apt, decides_near, is_free, is_of_coordinator, meets, parked,
-    release_apt, root_waiting, waits_for_show, wake_apt,
+    CorePlan, acked_apt, decide_apt, decides_near, is_free, meets, parked, release_apt,
+    root_waiting, suits_coordinator, waits_for_show, wake_apt,
 };
 use letter_types::{Body, Letter, Notice};
 use nc_commit::Decision;
@@ -361,7 +361,7 @@ pub fn plan_core(
     requires { IsCoreReady script.now letter.now.to.0 core.now }
     ensures { IfOk result (IsPlanOf script.now letter.now core.now) }
 {
-    if !is_of_coordinator(script, &letter.body) {
+    if !suits_coordinator(script, &letter.body) {
         return Ok(CorePlan::Still);
     }
     plan_own(alloc, core, letter, script)
