@@ -1,12 +1,10 @@
 // Whether a letter is apt, as far as its operations don't decide.
 ghost use Rattle.std.specs.Prelude.{◌≡◌, ◌==◌, ◌&&◌, is_some, nat_lt, IfOk};
 ghost use Rattle.std.specs.Option.{option_copied};
-ghost use Rattle.item_versions.specs.Window.{in_window};
 ghost use Rattle.tree_home.specs.HeldAnswers.{held_answers, held_in};
 ghost use Rattle.tree_home.specs.Homes.{open_trees};
 ghost use Rattle.tx_trees.specs.ScriptData.{node_of, sub_at};
 ghost use Rattle.world_model.specs.Epochs.{is_of_forgetting, is_of_remembering, suits_coordinator};
-ghost use Rattle.world_model.specs.Named.{is_strict_at};
 ghost use Rattle.world_model.specs.Notices.{answer_noted, values_of};
 ghost use Rattle.world_model.specs.Strict.{is_near_answer, is_unheld};
 ghost use Rattle.tree_step.specs.Due.{is_due};
@@ -17,16 +15,12 @@ ghost use Rattle.core_step.specs.Apt.{acked_apt, acks_here, decide_apt, decides_
 use commute_ops::Values;
 use letter_types::{Body, Letter, Notice};
 use nc_commit::{Decision, may_apply_decision};
-use node_versions::Turns;
 use script_parts::children::visits;
 use std::alloc::Global;
 use tree_home::{Answered, Homes};
-use tree_step::{NodeCore, Request, is_due, kind_of};
+use tree_step::{NodeCore, Request, is_due, is_near, is_strict};
 use tv_base::{ActorNo, NoMemory, NodeNo, SubNo, TreeNo, Version};
-use tx_trees::{Script, Sub, TreeKind};
-
-/// How many versions a node goes by at a time.
-const VERSIONS: u64 = 3;
+use tx_trees::{Script, Sub};
 
 /// Whether a letter is of, or to, a coordinator that forgets.
 fn is_of_forgetting(body: &Body) -> bool
@@ -68,20 +62,6 @@ pub fn suits_coordinator(script: &Script, body: &Body) -> bool
         return !is_of_remembering(body);
     }
     !is_of_forgetting(body)
-}
-
-/// Whether a version is one of the three that begin with the low version.
-fn is_near(turns: &Turns, version: Version) -> bool
-    ensures { result ≡ in_window turns.now.low.0 version.0 }
-{
-    turns.low.0 <= version.0 && version.0 - turns.low.0 < VERSIONS
-}
-
-/// Whether a tree is there and is strict.
-fn is_strict(script: &Script, tree: TreeNo) -> bool
-    ensures { result ≡ is_strict_at script.now tree.0 }
-{
-    matches!(kind_of(script, tree), Some(TreeKind::Strict))
 }
 
 /// Whether the answer of a tree is held.

@@ -9,7 +9,6 @@ ghost use Rattle.tree_home.specs.Maps.{by_tree};
 ghost use Rattle.tx_trees.specs.ScriptData.{subs_at};
 ghost use Rattle.world_model.specs.Core.{lesser};
 ghost use Rattle.world_model.specs.Done.{note_part};
-ghost use Rattle.world_model.specs.Named.{is_strict_at};
 ghost use Rattle.world_model.specs.Notices.{answer_noted, values_of};
 ghost use Rattle.world_model.specs.Strict.{is_near_answer, is_unheld, note_core, notice_by, strict_core};
 ghost use Rattle.world_model.specs.Votes.{wanted_by};
@@ -29,10 +28,10 @@ use node_versions::Turns;
 use std::alloc::Global;
 use tree_step::{
     CorePrepared, Effect, InVersion, NodeCore, NodeParts, Refusals, Request, TreePrepared,
-    VoteChange, WantedLocks, asked_ops, asked_version, kind_of, prepare_notice, prepare_tree,
+    VoteChange, WantedLocks, asked_ops, asked_version, is_strict, prepare_notice, prepare_tree,
 };
 use tv_base::{NoMemory, SubNo, TreeNo, Version};
-use tx_trees::{Script, SubOp, TreeKind};
+use tx_trees::{Script, SubOp};
 use world_model::Refusal;
 
 /// Of two noes that of the lesser number.
@@ -94,13 +93,6 @@ fn refused_there(core: &NodeCore, request: Request, notice: &Notice) -> VoteChan
         return VoteChange::Stay;
     }
     refusal_of(&core.refusals, tree, sub, notice)
-}
-
-/// Whether a tree is there and is strict.
-fn is_strict(script: &Script, tree: TreeNo) -> bool
-    ensures { result ≡ is_strict_at script.now tree.0 }
-{
-    matches!(kind_of(script, tree), Some(TreeKind::Strict))
 }
 
 /// Prepares that a tree's home takes a notice down and counts its completion. Where none is missing any more, an update
