@@ -1,25 +1,23 @@
 // Whether a letter is apt, as far as its operations don't decide.
-ghost use Rattle.std.specs.Prelude.{◌≡◌, ◌==◌, ◌&&◌, is_some, nat_lt, IfOk};
+ghost use Rattle.std.specs.Prelude.{◌≡◌, ◌==◌, ◌&&◌, is_some, nat_lt};
 ghost use Rattle.std.specs.Option.{option_copied};
 ghost use Rattle.tree_home.specs.HeldAnswers.{held_answers, held_in};
-ghost use Rattle.tree_home.specs.Homes.{open_trees};
+ghost use Rattle.tree_home.specs.Homes.{Gets, open_trees};
 ghost use Rattle.tx_trees.specs.ScriptData.{node_of, sub_at};
 ghost use Rattle.world_model.specs.Epochs.{is_of_forgetting, is_of_remembering, suits_coordinator};
-ghost use Rattle.world_model.specs.Notices.{answer_noted, values_of};
+ghost use Rattle.world_model.specs.Notices.{answer_noted};
 ghost use Rattle.world_model.specs.Strict.{is_near_answer, is_unheld};
 ghost use Rattle.tree_step.specs.Due.{is_due};
 ghost use Rattle.tree_step.specs.Node.{data_of};
 ghost use Rattle.tree_step.specs.Core.{core_of};
-ghost use Rattle.core_step.specs.Apt.{acked_apt, acks_here, decide_apt, decides_here, near_if, release_apt, wake_apt};
+ghost use Rattle.core_step.specs.Apt.{acked_apt, acks_here, decide_apt, decides_here, release_apt, wake_apt};
 
-use commute_ops::Values;
-use letter_types::{Body, Letter, Notice};
+use letter_types::{Body, Letter};
 use nc_commit::{Decision, may_apply_decision};
 use script_parts::children::visits;
-use std::alloc::Global;
-use tree_home::{Answered, Homes};
+use tree_home::Homes;
 use tree_step::{NodeCore, Request, is_due, is_near, is_strict};
-use tv_base::{ActorNo, NoMemory, NodeNo, SubNo, TreeNo, Version};
+use tv_base::{ActorNo, NodeNo, SubNo, TreeNo, Version};
 use tx_trees::{Script, Sub};
 
 /// Whether a letter is of, or to, a coordinator that forgets.
@@ -90,52 +88,19 @@ pub fn is_free(core: &NodeCore, letter: &Letter, script: &Script) -> bool
     is_due(&core.parts, letter, script) && is_unheld(&core.parts.homes, &letter.body)
 }
 
-/// The answer of a tree once its home has this notice, where the notice is the last that it misses.
-fn answer_noted(
-    alloc: Global,
-    homes: &Homes,
-    request: Request,
-    notice: &Notice,
-) -> Result<Option<Answered>, NoMemory>
-    ensures { IfOk result (λ answered. answered
-        ≡ answer_noted request.tree request.sub (values_of notice.now) (open_trees homes.now)) }
-{
-    let Request { tree, sub, .. } = request;
-    let found = match notice {
-        Notice::Did(values) => homes.would_answer(tree, sub, values)?,
-        Notice::Yes(values) => homes.would_answer(tree, sub, values)?,
-        Notice::No(_) => homes.would_answer(tree, sub, &Values::new(alloc))?,
-    };
-    Ok(found.flatten())
-}
-
-/// Whether an answer, if there is one, is of a version that the node counts in.
-fn near_if(core: &NodeCore, answered: &Option<Answered>) -> bool
-    ensures { result ≡ near_if (data_of core.now.parts) answered.now }
-{
-    match answered {
-        Some(answered) => is_near(&core.parts.turns, answered.version),
-        None => true,
-    }
-}
-
-/// Whether the answer that a notice completes, where its tree is strict, is of a version in which the home counts. It is
-/// so where the tree isn't strict, or the notice completes none.
-pub fn decides_near(
-    alloc: Global,
-    core: &NodeCore,
-    script: &Script,
-    request: Request,
-    notice: &Notice,
-) -> Result<bool, NoMemory>
-    ensures { IfOk result (λ near. near ≡ is_near_answer script.now (data_of core.now.parts)
-        (answer_noted request.tree request.sub (values_of notice.now) (open_trees core.now.parts.homes))) }
+/// Whether the answer that a notice completes, where its tree is strict, is of a version in which the home counts,
+/// whatever values the notice brings. It is so where the tree isn't strict, or the notice completes none.
+pub fn decides_near(core: &NodeCore, script: &Script, request: Request) -> bool
+    ensures { (values : Gets) → result ≡ is_near_answer script.now (data_of core.now.parts)
+        (answer_noted request.tree request.sub values (open_trees core.now.parts.homes)) }
 {
     if !is_strict(script, request.tree) {
-        return Ok(true);
+        return true;
     }
-    let answered = answer_noted(alloc, &core.parts.homes, request, notice)?;
-    Ok(near_if(core, &answered))
+    match core.parts.homes.would_answer_in(request.tree, request.sub) {
+        Some(version) => is_near(&core.parts.turns, version),
+        None => true,
+    }
 }
 
 /// Whether the script has strict trees, this one has a subtransaction at the letter's addressee, and a node sent the

@@ -208,7 +208,7 @@ fn plan_note(
     if !is_due(&core.parts, letter, script) {
         return Ok(CorePlan::Still);
     }
-    if !decides_near(alloc, core, script, request, notice)? {
+    if !decides_near(core, script, request) {
         return Ok(CorePlan::Still);
     }
     let prepared = prepare_note(alloc, core, script, request, notice)?;
