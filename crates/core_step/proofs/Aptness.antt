@@ -18,7 +18,7 @@ use Rattle.tx_trees.specs.declared.parts.TreeKind.TheVariants.{Update, Read, Str
 use Rattle.world_model.specs.Apt.{can_make, can_make_by}
 use Rattle.world_model.specs.Core.{Core}
 use Rattle.world_model.specs.Decisions.{can_decide}
-use Rattle.world_model.specs.Epochs.{is_core_timely, is_of_coordinator, plain_order}
+use Rattle.world_model.specs.Epochs.{is_core_timely, plain_order, suits_coordinator}
 use Rattle.world_model.specs.Named.{is_named, is_near, is_new, is_strict_at, is_timely, tree_kind_at}
 use Rattle.world_model.specs.Node.{Node}
 use Rattle.world_model.specs.Notices.{answer_noted, values_of}
@@ -155,12 +155,12 @@ is_apt_there s p c l =
     && (is_new s c.node l.body && is_unheld l.body c.holds
     && (is_core_timely s c l.body && decides_near s c.node l.body && can_make_at s p c l.body))
 
-pub own_apt : (s : ScriptData) (p : ℕ) (c : Core) (l : Letter) → is_of_coordinator s l.body ≡ true
+pub own_apt : (s : ScriptData) (p : ℕ) (c : Core) (l : Letter) → suits_coordinator s l.body ≡ true
     → apt_by s p l.from.0 c l.body ≡ is_core_apt s p c l
 own_apt s p c l own =
-    own_first (has_strict s || not (is_of_strict l.body)) (is_of_coordinator s l.body) (is_apt_there s p c l) own
+    own_first (has_strict s || not (is_of_strict l.body)) (suits_coordinator s l.body) (is_apt_there s p c l) own
 
-pub other_unapt : (s : ScriptData) (p : ℕ) (c : Core) (l : Letter) → is_of_coordinator s l.body ≡ false
+pub other_unapt : (s : ScriptData) (p : ℕ) (c : Core) (l : Letter) → suits_coordinator s l.body ≡ false
     → is_core_apt s p c l ≡ false
 other_unapt s p c l other =
-    other_first (has_strict s || not (is_of_strict l.body)) (is_of_coordinator s l.body) (is_apt_there s p c l) other
+    other_first (has_strict s || not (is_of_strict l.body)) (suits_coordinator s l.body) (is_apt_there s p c l) other

@@ -11,7 +11,7 @@ use Rattle.letter_types.specs.declared.entries.Letter.{Letter}
 use Rattle.tx_trees.specs.ScriptData.{ScriptData}
 use Rattle.tree_home.specs.HeldAnswers.{held_answers}
 use Rattle.tx_trees.specs.declared.parts.TreeKind.{TreeKind}
-use Rattle.world_model.specs.Epochs.{is_of_coordinator}
+use Rattle.world_model.specs.Epochs.{suits_coordinator}
 use Rattle.world_model.specs.Named.{tree_kind_at}
 use Rattle.world_model.specs.Strict.{core_by_kind, core_keeping, core_row, is_unheld, kept_by_kind}
 use Rattle.tree_step.specs.Due.{is_due}
@@ -105,6 +105,6 @@ sub_plan s l n t k v r is planned =
 
 -- a plan of a letter that the script's coordinator has
 pub own_plan : (s : ScriptData) (l : Letter) (n : NodeCore) (r : Result CorePlan NoMemory)
-    → is_of_coordinator s l.body ≡ true → IfOk r (IsOwnPlan s l n) → IfOk r (IsPlanOf s l n)
+    → suits_coordinator s l.body ≡ true → IfOk r (IsOwnPlan s l n) → IfOk r (IsPlanOf s l n)
 own_plan s l n r own planned =
     subst (λ (x : Bool). IfOk r (λ (plan : CorePlan). IsPlanWhere x s l n plan)) (own_apt s l.to.0 (core_of n) l own) planned

@@ -6,7 +6,6 @@ use Rattle.tv_base.specs.declared.numbers.Version.{Version}
 use Rattle.letter_types.specs.declared.bodies.Body.{Body}
 use Rattle.letter_types.specs.declared.bodies.Body.TheVariants.{Root, Sub as SubLetter, Done, Turn, Show, Sweep, AskDone, AskAsked, Decide, Decided, Release, Wake, Order, Ask}
 use Rattle.letter_types.specs.declared.entries.Letter.{Letter}
-use Rattle.tree_home.specs.declared.homes.Answered.{Answered}
 use Rattle.tx_trees.specs.Counts.{has_strict}
 use Rattle.tx_trees.specs.ScriptData.{ScriptData, home_of, node_of, subs_at, visits}
 use Rattle.tx_trees.specs.declared.parts.TreeKind.{TreeKind}
@@ -54,11 +53,6 @@ makes_by s st body None = false
 abbrev pub tree_apt : ScriptData → ℕ → ℕ → Core → TreeNo → Body → Bool
 tree_apt s p from c t body =
     is_due s p c.node from body && (is_unheld body c.holds && makes_by s c.node body (tree_kind_at s t.0))
-
--- the answer of a strict tree, if there is one, is of a version that the node counts in
-abbrev pub near_if : Node → Option Answered → Bool
-near_if st None = true
-near_if st (Some a) = is_near st a.version
 
 -- a tree is there that may be told a decision at node p by a node
 abbrev pub decides_here : ScriptData → ℕ → ℕ → TreeNo → Bool

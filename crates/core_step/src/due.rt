@@ -1,32 +1,24 @@
 // Whether a letter is apt, as far as its operations don't decide.
-ghost use Rattle.std.specs.Prelude.{◌≡◌, ◌==◌, ◌&&◌, is_some, nat_lt, IfOk};
+ghost use Rattle.std.specs.Prelude.{◌≡◌, ◌==◌, ◌&&◌, is_some, nat_lt};
 ghost use Rattle.std.specs.Option.{option_copied};
-ghost use Rattle.item_versions.specs.Window.{in_window};
 ghost use Rattle.tree_home.specs.HeldAnswers.{held_answers, held_in};
-ghost use Rattle.tree_home.specs.Homes.{open_trees};
+ghost use Rattle.tree_home.specs.Homes.{Gets, open_trees};
 ghost use Rattle.tx_trees.specs.ScriptData.{node_of, sub_at};
-ghost use Rattle.world_model.specs.Epochs.{is_of_coordinator, is_of_forgetting, is_of_remembering};
-ghost use Rattle.world_model.specs.Named.{is_strict_at};
-ghost use Rattle.world_model.specs.Notices.{answer_noted, values_of};
+ghost use Rattle.world_model.specs.Epochs.{is_of_forgetting, is_of_remembering, suits_coordinator};
+ghost use Rattle.world_model.specs.Notices.{answer_noted};
 ghost use Rattle.world_model.specs.Strict.{is_near_answer, is_unheld};
 ghost use Rattle.tree_step.specs.Due.{is_due};
 ghost use Rattle.tree_step.specs.Node.{data_of};
 ghost use Rattle.tree_step.specs.Core.{core_of};
-ghost use Rattle.core_step.specs.Apt.{acked_apt, acks_here, decide_apt, decides_here, near_if, release_apt, wake_apt};
+ghost use Rattle.core_step.specs.Apt.{acked_apt, acks_here, decide_apt, decides_here, release_apt, wake_apt};
 
-use commute_ops::Values;
-use letter_types::{Body, Letter, Notice};
+use letter_types::{Body, Letter};
 use nc_commit::{Decision, may_apply_decision};
-use node_versions::Turns;
 use script_parts::children::visits;
-use std::alloc::Global;
-use tree_home::{Answered, Homes};
-use tree_step::{NodeCore, Request, is_due, kind_of};
-use tv_base::{ActorNo, NoMemory, NodeNo, SubNo, TreeNo, Version};
-use tx_trees::{Script, Sub, TreeKind};
-
-/// How many versions a node goes by at a time.
-const VERSIONS: u64 = 3;
+use tree_home::Homes;
+use tree_step::{NodeCore, Request, is_due, is_near, is_strict};
+use tv_base::{ActorNo, NodeNo, SubNo, TreeNo, Version};
+use tx_trees::{Script, Sub};
 
 /// Whether a letter is of, or to, a coordinator that forgets.
 fn is_of_forgetting(body: &Body) -> bool
@@ -61,27 +53,13 @@ fn is_of_remembering(body: &Body) -> bool
 }
 
 /// Whether a letter is none that only the other kind of coordinator has, which the script doesn't run.
-pub fn is_of_coordinator(script: &Script, body: &Body) -> bool
-    ensures { result ≡ is_of_coordinator script.now body.now }
+pub fn suits_coordinator(script: &Script, body: &Body) -> bool
+    ensures { result ≡ suits_coordinator script.now body.now }
 {
     if script.is_lossy() {
         return !is_of_remembering(body);
     }
     !is_of_forgetting(body)
-}
-
-/// Whether a version is one of the three that begin with the low version.
-fn is_near(turns: &Turns, version: Version) -> bool
-    ensures { result ≡ in_window turns.now.low.0 version.0 }
-{
-    turns.low.0 <= version.0 && version.0 - turns.low.0 < VERSIONS
-}
-
-/// Whether a tree is there and is strict.
-fn is_strict(script: &Script, tree: TreeNo) -> bool
-    ensures { result ≡ is_strict_at script.now tree.0 }
-{
-    matches!(kind_of(script, tree), Some(TreeKind::Strict))
 }
 
 /// Whether the answer of a tree is held.
@@ -110,52 +88,19 @@ pub fn is_free(core: &NodeCore, letter: &Letter, script: &Script) -> bool
     is_due(&core.parts, letter, script) && is_unheld(&core.parts.homes, &letter.body)
 }
 
-/// The answer of a tree once its home has this notice, where the notice is the last that it misses.
-fn answer_noted(
-    alloc: Global,
-    homes: &Homes,
-    request: Request,
-    notice: &Notice,
-) -> Result<Option<Answered>, NoMemory>
-    ensures { IfOk result (λ answered. answered
-        ≡ answer_noted request.tree request.sub (values_of notice.now) (open_trees homes.now)) }
-{
-    let Request { tree, sub, .. } = request;
-    let found = match notice {
-        Notice::Did(values) => homes.would_answer(tree, sub, values)?,
-        Notice::Yes(values) => homes.would_answer(tree, sub, values)?,
-        Notice::No(_) => homes.would_answer(tree, sub, &Values::new(alloc))?,
-    };
-    Ok(found.flatten())
-}
-
-/// Whether an answer, if there is one, is of a version that the node counts in.
-fn near_if(core: &NodeCore, answered: &Option<Answered>) -> bool
-    ensures { result ≡ near_if (data_of core.now.parts) answered.now }
-{
-    match answered {
-        Some(answered) => is_near(&core.parts.turns, answered.version),
-        None => true,
-    }
-}
-
-/// Whether the answer that a notice completes, where its tree is strict, is of a version in which the home counts. It is
-/// so where the tree isn't strict, or the notice completes none.
-pub fn decides_near(
-    alloc: Global,
-    core: &NodeCore,
-    script: &Script,
-    request: Request,
-    notice: &Notice,
-) -> Result<bool, NoMemory>
-    ensures { IfOk result (λ near. near ≡ is_near_answer script.now (data_of core.now.parts)
-        (answer_noted request.tree request.sub (values_of notice.now) (open_trees core.now.parts.homes))) }
+/// Whether the answer that a notice completes, where its tree is strict, is of a version in which the home counts,
+/// whatever values the notice brings. It is so where the tree isn't strict, or the notice completes none.
+pub fn decides_near(core: &NodeCore, script: &Script, request: Request) -> bool
+    ensures { (values : Gets) → result ≡ is_near_answer script.now (data_of core.now.parts)
+        (answer_noted request.tree request.sub values (open_trees core.now.parts.homes)) }
 {
     if !is_strict(script, request.tree) {
-        return Ok(true);
+        return true;
     }
-    let answered = answer_noted(alloc, &core.parts.homes, request, notice)?;
-    Ok(near_if(core, &answered))
+    match core.parts.homes.would_answer_in(request.tree, request.sub) {
+        Some(version) => is_near(&core.parts.turns, version),
+        None => true,
+    }
 }
 
 /// Whether the script has strict trees, this one has a subtransaction at the letter's addressee, and a node sent the

@@ -6,7 +6,7 @@ mod meeting;
 mod plans;
 
 pub use due::{
-    acked_apt, decide_apt, decides_near, is_free, is_of_coordinator, release_apt, wake_apt,
+    acked_apt, decide_apt, decides_near, is_free, release_apt, suits_coordinator, wake_apt,
 };
 pub use meeting::{CoreKept, meets, parked, root_waiting, waits_for_show};
 pub use plans::CorePlan;

@@ -5,4 +5,4 @@ mod decisions;
 mod votes;
 
 pub use decisions::{Decision, apply_decision, may_apply_decision, stage_decision};
-pub use votes::{mode_wanted, vote, vote_on};
+pub use votes::{vote, vote_on, wanted_by};

@@ -12,7 +12,7 @@ use item_versions::{Item, ItemTable};
 use letter_types::{Boxed, Cause, Vote};
 use nc_locks::{Locks, Mode};
 use std::alloc::Global;
-use tv_base::{ItemNo, NoMemory, TreeNo, Version};
+use tv_base::{ItemNo, NoMemory, Seq, TreeNo, Version};
 use tx_trees::{Deed, Sub, SubOp};
 
 /// How a subtransaction of a strict tree votes in version `version`. It looks at its operations in order, three times:
@@ -45,7 +45,7 @@ pub fn vote_on(
     ensures { IfOk result (λ vote. vote ≡ vote_of locks.now items.now tree version ops.now) }
 {
     let wanted = wanted_by(alloc, ops)?;
-    if let Some(met) = locks.met(tree, &wanted) {
+    if let Some(met) = locks.met(tree, wanted.items()) {
         let cause = Cause::Conflict {
             item: met.item,
             holder: met.holder,
@@ -71,10 +71,10 @@ fn no(alloc: Global, cause: Cause) -> Result<Vote, NoMemory>
 }
 
 /// The locks that the operations of a strict tree want.
-fn wanted_by(alloc: Global, ops: &[SubOp]) -> Result<Vec<(ItemNo, Mode)>, NoMemory>
-    ensures { IfOk result (λ wanted. wanted.items ≡ wanted_by ops.now) }
+pub fn wanted_by(alloc: Global, ops: &[SubOp]) -> Result<Seq<(ItemNo, Mode), 0xffff_ffff>, NoMemory>
+    ensures { IfOk result (λ wanted. wanted ≡ wanted_by ops.now) }
 {
-    let mut wanted = Vec::new(alloc);
+    let mut wanted = Seq::with_capacity(alloc, ops.len())?;
     for op in ops {
         wanted.push((op.item, mode_wanted(&op.deed)))?;
     }
@@ -82,7 +82,7 @@ fn wanted_by(alloc: Global, ops: &[SubOp]) -> Result<Vec<(ItemNo, Mode)>, NoMemo
 }
 
 /// How a deed of a strict tree locks its item: a get looks at it, and a set or a draw holds it.
-pub fn mode_wanted(deed: &Deed) -> Mode
+fn mode_wanted(deed: &Deed) -> Mode
     ensures { result ≡ mode_wanted deed.now }
 {
     match deed {

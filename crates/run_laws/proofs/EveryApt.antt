@@ -33,7 +33,7 @@ use Rattle.advance_laws.proofs.Brought.{BringsTo, brought_meant, brought_outstan
 use Rattle.advance_laws.proofs.Governed.{IsGoverned, remembering}
 use Rattle.advance_laws.proofs.Lawful.{IsLawful, IsTreeLawful}
 use Rattle.advance_laws.proofs.Forgetting.{forgetting}
-use Rattle.world_model.specs.Epochs.{is_core_timely, is_of_coordinator}
+use Rattle.world_model.specs.Epochs.{is_core_timely, suits_coordinator}
 use Rattle.world_model.proofs.Bags.{one_if_both}
 
 -- what the laws of phases need of trees
@@ -119,23 +119,23 @@ not_of s forgets remembers lossy plain = by (is_lossy s) forgets remembers lossy
   by false false r lossy plain = refl
   by false true r lossy plain = absurd (cc (lossy refl))
 
-of_coordinator : (s : ScriptData) (p from : ℕ) (b : Body) → IsMeant s from p b → is_of_coordinator s b ≡ true
-of_coordinator s p from Lose meant = not_of s true false (λ is. meant.1) (λ is. absurd (cc is))
-of_coordinator s p from (AdvanceNo i) meant = not_of s true false (λ is. meant.1) (λ is. absurd (cc is))
-of_coordinator s p from (Ask e) meant = not_of s true false (λ is. meant.1) (λ is. absurd (cc is))
-of_coordinator s p from (Numbers e u r l) meant = not_of s true false (λ is. meant.1) (λ is. absurd (cc is))
-of_coordinator s p from (Wanted e k) meant = not_of s true false (λ is. meant.1) (λ is. absurd (cc is))
-of_coordinator s p from (Order e what v) meant = not_of s true false (λ is. meant.1) (λ is. absurd (cc is))
-of_coordinator s p from (Obeyed e what v) meant = not_of s true false (λ is. meant.1) (λ is. absurd (cc is))
-of_coordinator s p from Advance meant = not_of s false true (λ is. absurd (cc is)) (λ is. meant.1)
-of_coordinator s p from (Turn v) meant = not_of s false true (λ is. absurd (cc is)) (λ is. meant.1)
-of_coordinator s p from (Show v) meant = not_of s false true (λ is. absurd (cc is)) (λ is. meant.1)
-of_coordinator s p from (Sweep v) meant = not_of s false true (λ is. absurd (cc is)) (λ is. meant.1)
-of_coordinator s p from (Turned v) meant = not_of s false true (λ is. absurd (cc is)) (λ is. meant.1)
-of_coordinator s p from (Shown v) meant = not_of s false true (λ is. absurd (cc is)) (λ is. meant.1)
-of_coordinator s p from (Swept v) meant = not_of s false true (λ is. absurd (cc is)) (λ is. meant.1)
-of_coordinator s p from Go meant = not_of s false false (λ is. absurd (cc is)) (λ is. absurd (cc is))
-of_coordinator s p from _ meant = not_of s false false (λ is. absurd (cc is)) (λ is. absurd (cc is))
+coordinator_suited : (s : ScriptData) (p from : ℕ) (b : Body) → IsMeant s from p b → suits_coordinator s b ≡ true
+coordinator_suited s p from Lose meant = not_of s true false (λ is. meant.1) (λ is. absurd (cc is))
+coordinator_suited s p from (AdvanceNo i) meant = not_of s true false (λ is. meant.1) (λ is. absurd (cc is))
+coordinator_suited s p from (Ask e) meant = not_of s true false (λ is. meant.1) (λ is. absurd (cc is))
+coordinator_suited s p from (Numbers e u r l) meant = not_of s true false (λ is. meant.1) (λ is. absurd (cc is))
+coordinator_suited s p from (Wanted e k) meant = not_of s true false (λ is. meant.1) (λ is. absurd (cc is))
+coordinator_suited s p from (Order e what v) meant = not_of s true false (λ is. meant.1) (λ is. absurd (cc is))
+coordinator_suited s p from (Obeyed e what v) meant = not_of s true false (λ is. meant.1) (λ is. absurd (cc is))
+coordinator_suited s p from Advance meant = not_of s false true (λ is. absurd (cc is)) (λ is. meant.1)
+coordinator_suited s p from (Turn v) meant = not_of s false true (λ is. absurd (cc is)) (λ is. meant.1)
+coordinator_suited s p from (Show v) meant = not_of s false true (λ is. absurd (cc is)) (λ is. meant.1)
+coordinator_suited s p from (Sweep v) meant = not_of s false true (λ is. absurd (cc is)) (λ is. meant.1)
+coordinator_suited s p from (Turned v) meant = not_of s false true (λ is. absurd (cc is)) (λ is. meant.1)
+coordinator_suited s p from (Shown v) meant = not_of s false true (λ is. absurd (cc is)) (λ is. meant.1)
+coordinator_suited s p from (Swept v) meant = not_of s false true (λ is. absurd (cc is)) (λ is. meant.1)
+coordinator_suited s p from Go meant = not_of s false false (λ is. absurd (cc is)) (λ is. absurd (cc is))
+coordinator_suited s p from _ meant = not_of s false false (λ is. absurd (cc is)) (λ is. absurd (cc is))
 
 -- A root is new.
 record IsNewRoot (s : ScriptData) (past : List Entry) (p : ℕ) (b : Body) : Type 0 where
@@ -177,7 +177,7 @@ apt_by s past e r valid apt run lt is =
     let near : decides_near s c.node r.body ≡ true = laws.near past e r run apt lt is in
     let made : can_make_at s p c r.body ≡ true =
     makes s past r p decided_once applied_where_decided valid apt run.1 lt out to own timely in
-    rw (same_true r.to.0 p (sym to), belongs s p r.from.0 r.body meant, of_coordinator s p r.from.0 r.body meant, own, fresh.new, fresh.unheld, timely, near, made) refl
+    rw (same_true r.to.0 p (sym to), belongs s p r.from.0 r.body meant, coordinator_suited s p r.from.0 r.body meant, own, fresh.new, fresh.unheld, timely, near, made) refl
 
 pub next_apt : (s : ScriptData) (past : List Entry) (e : Entry) → IsValid s → AllApt s past → IsStepRun s (e ∷ past) → WasApt s past e
 next_apt s past e valid apt run = λ lt.

@@ -9,10 +9,8 @@ ghost use Rattle.tree_home.specs.Maps.{by_tree};
 ghost use Rattle.tx_trees.specs.ScriptData.{subs_at};
 ghost use Rattle.world_model.specs.Core.{lesser};
 ghost use Rattle.world_model.specs.Done.{note_part};
-ghost use Rattle.world_model.specs.Named.{is_strict_at};
 ghost use Rattle.world_model.specs.Notices.{answer_noted, values_of};
 ghost use Rattle.world_model.specs.Strict.{is_near_answer, is_unheld, note_core, notice_by, strict_core};
-ghost use Rattle.world_model.specs.Votes.{wanted_by};
 ghost use Rattle.tree_step.specs.Changes.{IsTreePartOf};
 ghost use Rattle.tree_step.specs.Due.{is_due};
 ghost use Rattle.tree_step.specs.Node.{IsInWindow, data_of};
@@ -24,15 +22,15 @@ use crate::answers::{answered_step, decided_step};
 use commute_ops::Values;
 use item_versions::Staged;
 use letter_types::{Body, Boxed, Cause, Letter, Notice, Vote};
-use nc_commit::{mode_wanted, vote_on};
+use nc_commit::{vote_on, wanted_by};
 use node_versions::Turns;
 use std::alloc::Global;
 use tree_step::{
     CorePrepared, Effect, InVersion, NodeCore, NodeParts, Refusals, Request, TreePrepared,
-    VoteChange, WantedLocks, asked_ops, asked_version, kind_of, prepare_notice, prepare_tree,
+    VoteChange, asked_ops, asked_version, is_strict, prepare_notice, prepare_tree,
 };
 use tv_base::{NoMemory, SubNo, TreeNo, Version};
-use tx_trees::{Script, SubOp, TreeKind};
+use tx_trees::{Script, SubOp};
 use world_model::Refusal;
 
 /// Of two noes that of the lesser number.
@@ -96,13 +94,6 @@ fn refused_there(core: &NodeCore, request: Request, notice: &Notice) -> VoteChan
     refusal_of(&core.refusals, tree, sub, notice)
 }
 
-/// Whether a tree is there and is strict.
-fn is_strict(script: &Script, tree: TreeNo) -> bool
-    ensures { result ≡ is_strict_at script.now tree.0 }
-{
-    matches!(kind_of(script, tree), Some(TreeKind::Strict))
-}
-
 /// Prepares that a tree's home takes a notice down and counts its completion. Where none is missing any more, an update
 /// or a read tree is answered, and a strict tree is decided.
 pub fn prepare_note(
@@ -142,17 +133,6 @@ fn notice_by(vote: Vote) -> Notice
     }
 }
 
-/// The locks that the operations of a strict tree want.
-fn wanted_locks(alloc: Global, ops: &[SubOp]) -> Result<WantedLocks, NoMemory>
-    ensures { IfOk result (λ wanted. wanted ≡ wanted_by ops.now) }
-{
-    let mut wanted = WantedLocks::with_capacity(alloc, ops.len())?;
-    for op in ops {
-        wanted.push((op.item, mode_wanted(&op.deed)))?;
-    }
-    Ok(wanted)
-}
-
 /// What becomes of the noes at a no: that of a root is at its home.
 fn no_by(refusals: &Refusals, cause: Cause, body: &Body) -> VoteChange
     ensures { result ≡ no_by cause body.now (by_tree refusals.now) }
@@ -176,7 +156,7 @@ fn change_by(
 {
     match vote {
         Vote::Yes(_) => {
-            let wanted = wanted_locks(alloc, ops)?;
+            let wanted = wanted_by(alloc, ops)?;
             Ok(VoteChange::Take { tree, wanted })
         }
         Vote::No(cause) => Ok(no_by(refusals, *cause.get(), body)),

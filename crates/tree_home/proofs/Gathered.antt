@@ -1,12 +1,14 @@
 -- What is gathered of notices, how many are missing, and a tree that has one more.
-use Rattle.std.proofs.Common.{◌≡◌, ℕ, zero, suc, ◌+◌, ◌<◌, ◌≤◌, List, [], ◌∷◌, ◌++◌, length, set, refl, ap, subst, ◌∙◌, arith, append_assoc, append-nil, Option, Some, None, sym}
-use Rattle.std.specs.Prelude.{IsSome, IsNone, IsTrue, slice_get, ◌↔◌, slice_set}
+use Rattle.std.proofs.Common.{◌≡◌, ℕ, zero, suc, ◌+◌, ◌<◌, ◌≤◌, List, [], ◌∷◌, ◌++◌, length, set, refl, ap, subst, ◌∙◌, arith, append_assoc, append-nil, Bool, true, false, Option, Some, None, sym}
+use Rattle.std.specs.Prelude.{if◌then◌else◌, IsSome, IsNone, IsTrue, nat_le, slice_get, ◌↔◌, slice_set}
+use Rattle.std.proofs.lemmas.Bool.{leb-false, leb-true}
 use Rattle.tv_base.specs.declared.numbers.TreeNo.{TreeNo}
 use Rattle.tv_base.specs.declared.numbers.SubNo.{SubNo}
+use Rattle.tv_base.specs.declared.numbers.Version.{Version}
 use Rattle.tree_home.specs.declared.homes.OpenTree.{OpenTree}
 use Rattle.tree_home.specs.declared.homes.Answered.{Answered}
 use Rattle.tree_home.specs.declared.homes.Noted.TheVariants.{Missing}
-use Rattle.tree_home.specs.Homes.{Gets, OpenTrees, home_in, with_notice, noted, noted_of, prepended, gathered, missing_count, missing_of, missing_in, misses, misses_of, is_missing, told, answer_of, answer_with}
+use Rattle.tree_home.specs.Homes.{Gets, OpenTrees, home_in, with_notice, noted, noted_of, prepended, gathered, missing_count, missing_of, missing_in, misses, misses_of, is_missing, told, answer_of, answer_with, last_version, answered_version}
 use Rattle.tree_home.proofs.Maps.{put_at-same}
 
 pub prepended-append : (vs ws : Gets) (o : Option Gets) → prepended (vs ++ ws) o ≡ prepended vs (prepended ws o)
@@ -92,6 +94,29 @@ pub misses-here : (t : TreeNo) (s : SubNo) (hs : OpenTrees) (h : OpenTree) → I
     → home_in t hs ≡ Some h → IsTrue (is_missing (slice_get h.notices s.0))
 misses-here t s hs h is eq = misses-at s (home_in t hs) h is eq
 
+-- the version of the answer that a notice completes
+pub version-last : (t : TreeNo) (s : SubNo) (vs : Gets) (h : OpenTree) → IsTrue (is_missing (slice_get h.notices s.0))
+    → last_version h ≡ answered_version (answer_of t s vs (Some h))
+version-last t s vs h is = by (nat_le (missing_count h.notices) 1) refl where
+  by : (few : Bool) → nat_le (missing_count h.notices) 1 ≡ few
+      → (if few then Some h.version else None) ≡ answered_version (answer_of t s vs (Some h))
+  by true one =
+      sym (ap (λ (o : Option Gets). answered_version (answer_with t h o))
+      (gathered-last h.notices s.0 vs is (leb-true (missing_count h.notices) 1 one)))
+  by false more =
+      sym (ap (λ (o : Option Gets). answered_version (answer_with t h o))
+      (gathered-others h.notices s.0 vs is (leb-false (missing_count h.notices) 1 more)))
+
+pub version-told : (t : TreeNo) (s : SubNo) (vs : Gets) (o : Option OpenTree) (v : Option Version)
+    → (if misses_of s o then elim o [ Some h ↦ last_version h | None ↦ None ] else None) ≡ v
+    → v ≡ (if misses_of s o then answered_version (answer_of t s vs o) else None)
+version-told t s vs None v is = sym is
+version-told t s vs (Some h) v is = sym is ∙ by (is_missing (slice_get h.notices s.0)) refl where
+  by : (b : Bool) → is_missing (slice_get h.notices s.0) ≡ b
+      → (if b then last_version h else None) ≡ (if b then answered_version (answer_of t s vs (Some h)) else None)
+  by true at = version-last t s vs h at
+  by false at = refl
+
 -- what is told where a notice is missing
 pub told-missing : (k m : ℕ) (o : Option Answered) → k ≡ m → None ≡ o → Missing k ≡ told m o
 told-missing k m o left none = rw (← left, ← none) refl
@@ -105,6 +130,8 @@ pub ruleset gathering = (prepended-append, prepended-nil, append-nil)
 pub ruleset completing = (gathered-others, gathered-last)
 
 pub ruleset answering = (misses-there, misses-here)
+
+pub ruleset telling_version = (version-told)
 
 pub ruleset telling = (missing_in-noted, misses-there)
 

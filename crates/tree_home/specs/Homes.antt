@@ -1,5 +1,5 @@
 -- What a home keeps, and the notices of trees that are open there.
-use Rattle.std.specs.Prelude.{ℕ, ◌+◌, ◌<◌, Bool, true, false, List, [], ◌∷◌, ◌++◌, replicate, slice_set, slice_get, ⊤, Option, Some, None}
+use Rattle.std.specs.Prelude.{if◌then◌else◌, ℕ, ◌+◌, ◌<◌, nat_le, Bool, true, false, List, [], ◌∷◌, ◌++◌, replicate, slice_set, slice_get, ⊤, Option, Some, None}
 use Rattle.tv_base.specs.declared.numbers.TreeNo.{TreeNo}
 use Rattle.tv_base.specs.declared.numbers.SubNo.{SubNo}
 use Rattle.tv_base.specs.declared.numbers.ItemNo.{ItemNo}
@@ -124,6 +124,15 @@ answer_of t s vs (Some h) = answer_with t h (gathered (slice_set h.notices s.0 (
 -- its answer where it is open
 abbrev pub answer_in : TreeNo → SubNo → Gets → OpenTrees → Option Answered
 answer_in t s vs hs = answer_of t s vs (home_in t hs)
+
+-- the version of an answer, where there is one
+abbrev pub answered_version : Option Answered → Option Version
+answered_version None = None
+answered_version (Some a) = Some a.version
+
+-- the version of a tree that misses one notice at most
+abbrev pub last_version : OpenTree → Option Version
+last_version h = if nat_le (missing_count h.notices) 1 then Some h.version else None
 
 -- the answer where there is one, else how many notices are missing
 abbrev pub told : ℕ → Option Answered → Noted

@@ -1,8 +1,8 @@
-ghost use Rattle.std.specs.Prelude.{◌≡◌, ◌++◌, ◌-◌, ◌<◌, length, replicate, IfOk, IfErr, IfSome, IsNone, IsSome, IsTrue, OnErr, OnOk, Some, None, slice_set, slice_get, ◌↔◌};
+ghost use Rattle.std.specs.Prelude.{if◌then◌else◌, ◌≡◌, ◌++◌, ◌-◌, ◌<◌, length, replicate, IfOk, IfErr, IfSome, IsNone, IsSome, IsTrue, OnErr, OnOk, Some, None, slice_set, slice_get, ◌↔◌};
 ghost use Rattle.std.specs.Option.{option_copied, is_some};
 ghost use Rattle.tree_home.specs.Maps.{AreAscending, by_tree, put_at};
 ghost use Rattle.tree_home.specs.HeldAnswers.{acked, answer_when_acked, held_answers, held_for, held_in, holding, waits_for_more};
-ghost use Rattle.tree_home.specs.Homes.{no_homes, open_trees, home_in, begun, with_notice, noted, forgotten, gathered, missing_count, missing_in, misses, is_missing, after_notice, answer_in, answer_of, outcome, MissesSome};
+ghost use Rattle.tree_home.specs.Homes.{Gets, no_homes, open_trees, home_in, begun, with_notice, noted, forgotten, gathered, missing_count, missing_in, misses, is_missing, after_notice, answer_in, answer_of, answered_version, last_version, outcome, MissesSome};
 
 use crate::tree_map::{find, insert, remove};
 use commute_ops::{Value, Values};
@@ -169,6 +169,19 @@ impl Homes {
                 Ok(Some(answer(self.alloc, tree, opened, sub, values.items())?))
             }
             _ => Ok(None),
+        }
+    }
+
+    /// The version of the answer that the notice of `sub` completes, whatever values it brings. None exactly where that
+    /// notice isn't missing, or another notice of the tree is missing too. Needs no memory.
+    #[tactic(auto, using(crate::proofs::Gathered::telling_version))]
+    pub fn would_answer_in(&self, tree: TreeNo, sub: SubNo) -> Option<Version>
+        ensures { (values : Gets) → result ≡ (if misses tree sub (open_trees self.now)
+            then answered_version (answer_in tree sub values (open_trees self.now)) else None) }
+    {
+        match find(&self.trees, tree) {
+            Some(opened) if is_missing(opened.notices.items(), sub) => last_version(opened),
+            _ => None,
         }
     }
 
@@ -364,6 +377,17 @@ fn count_missing(notices: &Notices) -> u32
         }
     }
     missing
+}
+
+/// The version of a tree that misses one notice at most. None exactly where it misses more.
+fn last_version(opened: &OpenTree) -> Option<Version>
+    ensures { result ≡ last_version opened.now }
+{
+    if count_missing(&opened.notices) <= 1 {
+        Some(opened.version)
+    } else {
+        None
+    }
 }
 
 /// The answer of a tree with the values of `sub`, or None where another notice is missing too.

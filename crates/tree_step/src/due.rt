@@ -7,13 +7,13 @@ ghost use Rattle.world_model.specs.Named.{is_did, is_strict_at, suits};
 ghost use Rattle.tree_step.specs.Due.{can_obey, is_due};
 ghost use Rattle.tree_step.specs.Node.{data_of};
 
-use crate::lookups::{kind_of, node_of};
+use crate::lookups::{is_strict, node_of};
 use crate::node::NodeParts;
 use letter_types::{Body, Letter, Notice, What};
 use node_versions::Turns;
 use tree_home::Homes;
 use tv_base::{ActorNo, SubNo, TreeNo, Version};
-use tx_trees::{Script, TreeKind};
+use tx_trees::Script;
 
 /// How many versions a node goes by at a time.
 const VERSIONS: u64 = 3;
@@ -30,13 +30,6 @@ fn is_sub_at(script: &Script, at: ActorNo, from: ActorNo, tree: TreeNo, sub: Sub
     ensures { result ≡ (node_of script.now tree.0 sub.0 == at.0) && nat_lt from.0 script.now.nodes }
 {
     node_of(script, tree, sub) == at.0 && from.0 < script.nodes()
-}
-
-/// Whether a tree is there, and is strict.
-fn is_strict(script: &Script, tree: TreeNo) -> bool
-    ensures { result ≡ is_strict_at script.now tree.0 }
-{
-    matches!(kind_of(script, tree), Some(TreeKind::Strict))
 }
 
 /// Whether a notice tells that a subtransaction was done, and isn't a vote.
@@ -67,7 +60,7 @@ fn is_notice_for(script: &Script, at: ActorNo, from: ActorNo, tree: TreeNo, sub:
 }
 
 /// Whether a version is one of the three that begin with the low version.
-fn is_near(turns: &Turns, version: Version) -> bool
+pub fn is_near(turns: &Turns, version: Version) -> bool
     ensures { result ≡ in_window turns.now.low.0 version.0 }
 {
     turns.low.0 <= version.0 && version.0 - turns.low.0 < VERSIONS

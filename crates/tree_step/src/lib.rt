@@ -22,8 +22,8 @@ pub use change::{Change, HomeChange, Prepared, TreeChange, TreePrepared, done, d
 pub use core_change::{CorePrepared, HoldChange, Visited, VoteChange, WantedLocks};
 pub use core_steps::core_done;
 pub use counting::Counting;
-pub use due::{can_obey, is_due};
-pub use lookups::kind_of;
+pub use due::{can_obey, is_due, is_near};
+pub use lookups::{is_strict, kind_of};
 pub use node::{Effect, NodeParts};
 pub use node_core::NodeCore;
 pub use notices::prepare_notice;

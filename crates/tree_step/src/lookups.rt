@@ -2,7 +2,7 @@
 ghost use Rattle.std.specs.Prelude.{◌≡◌};
 ghost use Rattle.std.specs.Option.{option_copied};
 ghost use Rattle.tx_trees.specs.ScriptData.{node_of, ops_of, sub_at};
-ghost use Rattle.world_model.specs.Named.{tree_kind_at};
+ghost use Rattle.world_model.specs.Named.{is_strict_at, tree_kind_at};
 
 use tv_base::{SubNo, TreeNo};
 use tx_trees::{Script, Sub, SubOp, TreeKind};
@@ -15,6 +15,13 @@ pub fn kind_of(script: &Script, tree: TreeNo) -> Option<TreeKind>
         Some(found) => Some(found.kind),
         None => None,
     }
+}
+
+/// Whether a tree is there, and is strict.
+pub fn is_strict(script: &Script, tree: TreeNo) -> bool
+    ensures { result ≡ is_strict_at script.now tree.0 }
+{
+    matches!(kind_of(script, tree), Some(TreeKind::Strict))
 }
 
 /// A subtransaction of the script. None exactly where it isn't there.

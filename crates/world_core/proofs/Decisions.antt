@@ -1,5 +1,5 @@
 -- What the tests of notices, decisions and acknowledgements say.
-use Rattle.std.proofs.Common.{◌≡◌, ℕ, ◌<◌, ◌==◌, ◌&&◌, ◌||◌, Bool, true, false, not, List, [], ◌∷◌, length, refl, sym, ap, ◌∙◌, arith, Option, Some, None}
+use Rattle.std.proofs.Common.{◌≡◌, ℕ, ◌<◌, ◌==◌, ◌&&◌, Bool, true, false, not, List, [], ◌∷◌, length, refl, ap, arith}
 use Rattle.std.specs.Prelude.{nat_lt}
 use Rattle.std.proofs.lemmas.Bool.{ltb-true}
 use Rattle.tv_base.specs.declared.numbers.SubNo.{SubNo}
@@ -8,8 +8,6 @@ use Rattle.tv_base.specs.declared.numbers.Version.{Version}
 use Rattle.item_versions.specs.Window.{in_window}
 use Rattle.letter_types.specs.declared.bodies.Body.TheVariants.{Done}
 use Rattle.letter_types.specs.declared.bodies.Notice.{Notice}
-use Rattle.tree_home.specs.Homes.{Gets}
-use Rattle.tree_home.specs.declared.homes.Answered.{Answered}
 use Rattle.tx_trees.specs.Counts.{has_strict}
 use Rattle.tx_trees.specs.ScriptData.{ScriptData, home_of, subs_at, visits}
 use Rattle.tx_trees.specs.declared.parts.Sub.{Sub}
@@ -17,35 +15,10 @@ use Rattle.world_model.specs.Core.{Core}
 use Rattle.world_model.specs.Decisions.{can_decide}
 use Rattle.world_model.specs.Named.{is_near, is_strict_at, suits}
 use Rattle.world_model.specs.Node.{Node}
-use Rattle.world_model.specs.Notices.{answer_noted}
-use Rattle.world_model.specs.Strict.{is_near_answer}
 use Rattle.tree_step.specs.Due.{is_due}
-use Rattle.strict_step.proofs.Apart.{answered_gone}
 use Rattle.tree_step.specs.Core.{IsCoreReady}
 use Rattle.tree_step.specs.declared.node_core.NodeCore.{NodeCore}
-use Rattle.core_step.specs.Apt.{acked_apt, decide_apt, near_if}
-
--- a notice of a tree that isn't strict decides none
-pub decides_none : (s : ScriptData) (st : Node) (t : TreeNo) (k : SubNo) (values : Gets) → is_strict_at s t.0 ≡ false
-    → true ≡ is_near_answer s st (answer_noted t k values st.homes)
-decides_none s st t k values apart = by (answer_noted t k values st.homes) refl where
-  by : (o : Option Answered) → answer_noted t k values st.homes ≡ o → true ≡ is_near_answer s st o
-  by None is = refl
-  by (Some a) is =
-      let own : a.tree ≡ t = (answered_gone t k values st.homes a is).1 in
-      sym (ap (λ (u : TreeNo). not (is_strict_at s u.0) || is_near st a.version) own
-      ∙ ap (λ (b : Bool). not b || is_near st a.version) apart)
-
--- one of a strict tree does where there is an answer
-pub decides_if : (s : ScriptData) (st : Node) (t : TreeNo) (k : SubNo) (values : Gets) → is_strict_at s t.0 ≡ true
-    → near_if st (answer_noted t k values st.homes) ≡ is_near_answer s st (answer_noted t k values st.homes)
-decides_if s st t k values strict = by (answer_noted t k values st.homes) refl where
-  by : (o : Option Answered) → answer_noted t k values st.homes ≡ o → near_if st o ≡ is_near_answer s st o
-  by None is = refl
-  by (Some a) is =
-      let own : a.tree ≡ t = (answered_gone t k values st.homes a is).1 in
-      sym (ap (λ (u : TreeNo). not (is_strict_at s u.0) || is_near st a.version) own
-      ∙ ap (λ (b : Bool). not b || is_near st a.version) strict)
+use Rattle.core_step.specs.Apt.{acked_apt, decide_apt}
 
 some_below : (k n : ℕ) → k < n → 0 < n
 some_below k n lt = omega (arith, lt)

@@ -1,10 +1,10 @@
 // Which letter goes to which step of a core.
-ghost use Rattle.std.specs.Prelude.{◌≡◌, true, IfOk, IsTrue, Some};
+ghost use Rattle.std.specs.Prelude.{◌≡◌, true, IfOk, IsTrue, None, Some};
 ghost use Rattle.letter_types.specs.declared.bodies.Body.TheVariants.{Decide, Decided, Done, Release, Wake};
 ghost use Rattle.tree_home.specs.HeldAnswers.{held_answers};
-ghost use Rattle.tx_trees.specs.declared.parts.TreeKind.TheVariants.{Read, Strict, Update};
+ghost use Rattle.tx_trees.specs.declared.parts.TreeKind.TheVariants.{Strict, Update};
 ghost use Rattle.world_model.specs.Asked.{asked_ops};
-ghost use Rattle.world_model.specs.Epochs.{is_of_coordinator};
+ghost use Rattle.world_model.specs.Epochs.{suits_coordinator};
 ghost use Rattle.world_model.specs.Named.{tree_kind_at};
 ghost use Rattle.world_model.specs.Reads.{can_read};
 ghost use Rattle.world_model.specs.Strict.{core_by_kind, is_unheld, kept_by_kind, meets, read_core, strict_core, update_core};
@@ -19,8 +19,8 @@ ghost use Rattle.core_step.specs.Apt.{IsOwnPlan, asks_a_sub, makes_by, tree_apt}
 use crate::orders::{plan_advancing, still_step};
 use crate::trees::{prepare_read_tree, prepare_update_tree};
 use core_step::{
-    CorePlan, acked_apt, decide_apt, decides_near, is_free, is_of_coordinator, meets, parked,
-    release_apt, root_waiting, waits_for_show, wake_apt,
+    CorePlan, acked_apt, decide_apt, decides_near, is_free, meets, parked, release_apt,
+    root_waiting, suits_coordinator, waits_for_show, wake_apt,
 };
 use letter_types::{Body, Letter, Notice};
 use nc_commit::Decision;
@@ -85,24 +85,21 @@ fn plan_update(
     Ok(CorePlan::Does(prepared))
 }
 
-/// A subtransaction of a read tree.
+/// A subtransaction of a read tree, which is never kept.
 fn plan_read(
     alloc: Global,
     core: &NodeCore,
     letter: &Letter,
     script: &Script,
-    tree: TreeNo,
 ) -> Result<CorePlan, NoMemory>
     // What the caller knows.
     requires ready { IsCoreReady script.now letter.now.to.0 core.now }
     requires due { IsTrue (is_due script.now letter.now.to.0 (data_of core.now.parts) letter.now.from.0 letter.now.body) }
     requires unheld { IsTrue (is_unheld letter.now.body (held_answers core.now.parts.homes)) }
     // What is planned.
-    ensures { IfOk result (IsPlanBy (can_read script.now (data_of core.now.parts) letter.now.body)
-        (kept_by_kind script.now (core_of core.now) tree letter.now.body (Some Read))
+    ensures { IfOk result (IsPlanBy (can_read script.now (data_of core.now.parts) letter.now.body) None
         (read_core script.now letter.now.to.0 letter.now.from.0 letter.now.body (core_of core.now)) core.now) }
 {
-    let _ = tree;
     let Some(prepared) = prepare_read_tree(alloc, core, letter, script)? else {
         return Ok(CorePlan::Still);
     };
@@ -158,7 +155,7 @@ fn plan_kind(
     };
     match kind {
         TreeKind::Update => plan_update(alloc, core, letter, script, tree),
-        TreeKind::Read => plan_read(alloc, core, letter, script, tree),
+        TreeKind::Read => plan_read(alloc, core, letter, script),
         TreeKind::Strict => plan_strict(alloc, core, letter, script, tree),
     }
 }
@@ -208,7 +205,7 @@ fn plan_note(
     if !is_due(&core.parts, letter, script) {
         return Ok(CorePlan::Still);
     }
-    if !decides_near(alloc, core, script, request, notice)? {
+    if !decides_near(core, script, request) {
         return Ok(CorePlan::Still);
     }
     let prepared = prepare_note(alloc, core, script, request, notice)?;
@@ -361,7 +358,7 @@ pub fn plan_core(
     requires { IsCoreReady script.now letter.now.to.0 core.now }
     ensures { IfOk result (IsPlanOf script.now letter.now core.now) }
 {
-    if !is_of_coordinator(script, &letter.body) {
+    if !suits_coordinator(script, &letter.body) {
         return Ok(CorePlan::Still);
     }
     plan_own(alloc, core, letter, script)

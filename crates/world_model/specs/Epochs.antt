@@ -37,8 +37,8 @@ is_of_remembering (Swept v) = true
 is_of_remembering _ = false
 
 -- a letter that is none of the other kind of coordinator, which the script doesn't run
-abbrev pub is_of_coordinator : ScriptData → Body → Bool
-is_of_coordinator s body = if is_lossy s then not (is_of_remembering body) else not (is_of_forgetting body)
+abbrev pub suits_coordinator : ScriptData → Body → Bool
+suits_coordinator s body = if is_lossy s then not (is_of_remembering body) else not (is_of_forgetting body)
 
 -- the order for which it stands
 abbrev pub plain_order : What → Version → Body

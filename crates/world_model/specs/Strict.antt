@@ -39,7 +39,7 @@ use Rattle.world_model.specs.Core.{Core, Refusals, refused_by, in_core}
 use Rattle.world_model.specs.Decisions.{can_decide, decided_items}
 use Rattle.world_model.specs.Done.{TreeOut, counted_sub, note_part, raised_if, turned_if}
 use Rattle.world_model.specs.Named.{is_near, is_named, is_new, is_strict_at, tree_kind_at}
-use Rattle.world_model.specs.Epochs.{ask_core, is_core_timely, is_of_coordinator, is_widely_core_timely, order_core}
+use Rattle.world_model.specs.Epochs.{ask_core, is_core_timely, is_widely_core_timely, order_core, suits_coordinator}
 use Rattle.world_model.specs.Node.{Effect, Node}
 use Rattle.world_model.specs.Notices.{answer_noted, reply_letters, values_of}
 use Rattle.world_model.specs.Reads.{getting}
@@ -240,7 +240,7 @@ can_make_at s p c _ = true
 
 -- a letter that the script has: of strict trees where there are some, and of its coordinator
 abbrev pub is_of_script : ScriptData → Body → Bool
-is_of_script s body = (has_strict s || not (is_of_strict body)) && is_of_coordinator s body
+is_of_script s body = (has_strict s || not (is_of_strict body)) && suits_coordinator s body
 
 -- a letter is apt at a node: it is one that the script has, what it names belongs there, a root is new, its version is
 -- one that the node can go by, and what it asks for may be made

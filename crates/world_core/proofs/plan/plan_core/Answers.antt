@@ -4,12 +4,12 @@ use Rattle.core_step.proofs.Aptness.{other_unapt}
 use Rattle.core_step.proofs.Planned.{own_plan}
 use Rattle.world_core.proofs.plan.plan_core.Goals as goal
 
-pub returns-then-not-is_of_coordinator : goal.returns-then-not-is_of_coordinator
-returns-then-not-is_of_coordinator c =
+pub returns-then-not-suits_coordinator : goal.returns-then-not-suits_coordinator
+returns-then-not-suits_coordinator c =
     let l = c.args.letter.now in
-    other_unapt c.args.script.now l.to.0 (core_of c.args.core.now) l (sym c.if-not-is_of_coordinator.ensures)
+    other_unapt c.args.script.now l.to.0 (core_of c.args.core.now) l (sym c.if-not-suits_coordinator.ensures)
 
 pub returns : goal.returns
 returns c =
-    own_plan c.args.script.now c.args.letter.now c.args.core.now _ (sym c.if-not-is_of_coordinator.ensures)
+    own_plan c.args.script.now c.args.letter.now c.args.core.now _ (sym c.if-not-suits_coordinator.ensures)
     c.plan_own.ensures
