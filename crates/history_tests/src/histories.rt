@@ -1,4 +1,5 @@
 use history_reader::read_entry;
+use history_text::history_lines;
 use history_walk::{HistoryRefusal, read_history};
 use std::alloc::Global;
 use std::test::Fail;
@@ -95,6 +96,18 @@ fn outcome(alloc: Global, text: &[u8]) -> Result<[u64; 3], NoMemory> {
 #[test]
 fn a_history_is_read_whole(rt: HostRuntime) -> Result<(), Fail> {
     assert_eq!(rt; outcome(rt.alloc(), SIX)?, [6, 0, 0]);
+    Ok(())
+}
+
+#[test]
+fn a_history_is_printed_as_it_was_read(rt: HostRuntime) -> Result<(), Fail> {
+    let alloc = rt.alloc();
+    let script = script(alloc)?.ok_or("there is no script")?;
+    let Ok(history) = read_history(alloc, &script, SIX) else {
+        return Err("the text is of no history".into());
+    };
+    let text = history_lines(alloc, &script, &history)?;
+    assert_eq!(rt; text.bytes(), SIX);
     Ok(())
 }
 
