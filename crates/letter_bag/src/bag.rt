@@ -13,7 +13,7 @@ use tv_base::NoMemory;
 /// Items in the order in which they were put. The one at any place may be taken.
 ///
 /// Contracts see the items, the oldest first, and the room: how many more may be put without failing. Items are put
-/// into a queue. Whenever room is made, whole blocks of them move from its front behind the older ones.
+/// into a queue. Where it is full when room is made, it becomes a block behind the older ones, and a new one is begun.
 #[derive(Drop)]
 pub struct Bag<T> {
     older: Blocks<T>,
@@ -72,11 +72,10 @@ impl<T: Drop> Bag<T> {
         ensures ok { OnOk result (self.new ≡ record { items = self.old.items; room = room }) }
         ensures err { OnErr result (self.new ≡ self.old) }
     {
-        cut(&mut self.older, &mut self.newer)?;
         if room > usize::MAX - self.older.len() - self.newer.len() {
             return Err(NoMemory);
         }
-        self.newer.reserve(room)?;
+        make_room(&mut self.older, &mut self.newer, room)?;
         self.room = room;
         Ok(())
     }
@@ -117,16 +116,23 @@ impl<T: Drop> Bag<T> {
     }
 }
 
-/// Moves the first items of a queue into blocks until fewer than a block's are left.
-fn cut<T: Drop>(older: &mut Blocks<T>, newer: &mut VecDeque<T>) -> Result<(), AllocError>
+/// Makes room for so many more in the queue. One that has become long enough for a block doesn't grow: it is made a
+/// block, and a new one is begun.
+fn make_room<T: Drop>(
+    older: &mut Blocks<T>,
+    newer: &mut VecDeque<T>,
+    room: usize,
+) -> Result<(), AllocError>
     requires { length older.old + deque_len newer.old < 2 ^ 64 }
     ensures items { older.new ++ newer.new.items ≡ older.old ++ newer.old.items }
     ensures len { length older.new + deque_len newer.new ≡ length older.old + deque_len newer.old }
-    ensures shorter { deque_len newer.new ≤ deque_len newer.old }
-    ensures capacity { deque_capacity newer.new ≡ deque_capacity newer.old }
+    ensures room { OnOk result (deque_len newer.new + room ≤ deque_capacity newer.new) }
+    ensures err { OnErr result (deque_len newer.new ≡ deque_len newer.old) }
+    ensures capacity { OnErr result (deque_capacity newer.old ≤ deque_capacity newer.new) }
 {
-    while BLOCK <= newer.len() {
-        older.add(newer)?;
+    if BLOCK / 2 <= newer.len() && newer.capacity() - newer.len() < room {
+        older.add(newer, room)
+    } else {
+        newer.reserve(room)
     }
-    Ok(())
 }

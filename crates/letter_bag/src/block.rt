@@ -6,7 +6,7 @@ ghost use Rattle.std.specs.VecDeque.{deque_len, deque_capacity};
 use std::collections::VecDeque;
 use std::marker::Model;
 
-/// Some items in a row. It gets shorter, and gives memory back as it does, or takes over the items of another.
+/// Some items in a row. It gets shorter, or takes over the items of another.
 #[derive(Drop)]
 pub(crate) struct Block<T> {
     items: VecDeque<T>,
@@ -49,9 +49,7 @@ impl<T> Block<T> {
         ensures taken { slice_get self.old i ≡ Some result }
         ensures left { self.new ≡ remove self.old i }
     {
-        let item = take_item(&mut self.items, i);
-        give_back(&mut self.items);
-        item
+        take_item(&mut self.items, i)
     }
 
     /// Takes over all items of another, or none where no memory is found.
@@ -74,14 +72,4 @@ pub(crate) fn take_item<T>(items: &mut VecDeque<T>, i: usize) -> T
         return items.pop_front().unwrap();
     }
     items.remove(i).unwrap()
-}
-
-/// Gives half of the memory back where three quarters are not used.
-fn give_back<T>(items: &mut VecDeque<T>)
-    ensures { items.new.items ≡ items.old.items }
-{
-    let count = items.len();
-    if count <= items.capacity() / 4 {
-        items.shrink_to(2 * count);
-    }
 }

@@ -1,5 +1,6 @@
 // The report.
-ghost use Rattle.std.specs.Prelude.{◌≡◌, IfOk};
+ghost use Rattle.std.specs.Prelude.{◌≡◌, [], IfOk};
+ghost use Rattle.report_text.specs.inside.Lines.{with_votes};
 ghost use Rattle.report_text.specs.Report.{advances, report_of};
 
 use crate::items::push_rows;
@@ -18,8 +19,8 @@ use tx_trees::Script;
 /// versions of updates and reads after the script's advancements; a line for each item, with what it is worth at the
 /// version that reads are shown, and at the next one if it is written there.
 ///
-/// One pass over the history gives the trees' versions, their wholeness and the serial order, and a second one the votes
-/// of each tree and what was decided of it. One pass over the serial order carries the values of all items, version
+/// One pass over the history gives the trees' versions, their wholeness and the serial order, and where a tree is strict
+/// a second one gives the votes and what was decided. One pass over the serial order carries the values of all items, version
 /// after version; what a read tree shows, and what the lines of items show, is taken when the version is reached. So the
 /// work grows with the history, with the script and with the text, and with the sorting of the trees by version. Running
 /// out of memory is the only error.
@@ -44,13 +45,23 @@ pub fn report(alloc: Global, script: &Script, history: &History) -> Result<Text,
     let balances = shown.balances.items();
     let later = shown.later.items();
     let marks = written.items();
-    let ballots = ballots_of(alloc, script, history)?;
+    let none = History::new(alloc);
+    let voted = voted(script, history, &none);
+    let ballots = ballots_of(alloc, script, voted)?;
     let votes = ballots.rows();
     let mut text = Text::new(alloc);
     push_trees(&mut text, script, trees, standings, reads, votes)?;
     push_nodes(&mut text, advances, nodes)?;
     push_rows(&mut text, advances, rows, balances, later, marks)?;
     Ok(text)
+}
+
+// The history in which trees may have voted, which only strict ones do: this one, or `none` where no tree is strict.
+fn voted<'a>(script: &Script, history: &'a History, none: &'a History) -> &'a History
+    requires { none.now ≡ [] }
+    ensures { result.now ≡ with_votes script.now history.now }
+{
+    if script.has_strict() { history } else { none }
 }
 
 // How many advancements the script asks for.

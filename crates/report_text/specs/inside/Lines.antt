@@ -1,8 +1,10 @@
 -- What read trees show of these values of all items, and the lines of trees and items, one for each place of several
 -- lists. These are the definitions that private code alone cites.
-use Rattle.std.specs.Prelude.{ℕ, ◌+◌, Bool, List, [], ◌∷◌, ◌++◌, Option, Some, None, slice_get}
+use Rattle.std.specs.Prelude.{ℕ, ◌+◌, Bool, if◌then◌else◌, List, [], ◌∷◌, ◌++◌, Option, Some, None, slice_get}
 use Rattle.commute_ops.specs.declared.value.Value.{Value}
 use Rattle.letter_types.specs.declared.acts.Act.{Act}
+use Rattle.letter_types.specs.declared.entries.Entry.{Entry}
+use Rattle.tx_trees.specs.Counts.{has_strict}
 use Rattle.tx_trees.specs.ScriptData.{ScriptData}
 use Rattle.tx_trees.specs.declared.parts.ItemRow.{ItemRow}
 use Rattle.tx_trees.specs.declared.parts.Sub.{Sub}
@@ -35,6 +37,10 @@ trees_lines s t (tree ∷ ts) (st ∷ sts) (r ∷ rs) (b ∷ bs) =
     tree_line tree tree.kind st.born (λ (v : ℕ). r) (outcome_of s b t tree.subs) ++ trees_lines s (t + 1) ts sts rs bs
 trees_lines s t [] sts rs bs = []
 trees_lines s t _ _ _ _ = []
+
+-- the history in which trees may have voted: only strict ones vote
+abbrev pub with_votes : ScriptData → List Entry → List Entry
+with_votes s h = if has_strict s then h else []
 
 -- the lines of the items of these values
 abbrev pub rows_lines : ℕ → List ItemRow → List Value → List Value → List Bool → List ℕ
