@@ -1,5 +1,5 @@
 -- Without strict trees the lines of the trees are the same, whatever the votes.
-use Rattle.std.proofs.Common.{◌≡◌, ℕ, zero, ◌+◌, ◌==◌, Bool, true, false, not, List, [], ◌∷◌, ◌++◌, refl, ap, ◌∙◌, arith}
+use Rattle.std.proofs.Common.{◌≡◌, ℕ, ◌+◌, ◌==◌, Bool, true, false, not, List, [], ◌∷◌, ◌++◌, refl, ap, ◌∙◌, arith}
 use Rattle.std.specs.Prelude.{if◌then◌else◌, filter, Option, Some, None}
 use Rattle.std.proofs.lemmas.Bool.Decides.{nat_tests}
 use Rattle.tv_base.specs.declared.numbers.Version.{Version}
@@ -13,7 +13,7 @@ use Rattle.tx_trees.specs.declared.parts.TreeKind.TheVariants.{Update, Read, Str
 use Rattle.board_model.specs.Ballots.{acts_in, ballots_from, ballots_of, tells_of}
 use Rattle.board_model.specs.declared.standings.Standing.{Standing}
 use Rattle.board_rules.specs.Histories.{places_of}
-use Rattle.report_text.specs.inside.Lines.{trees_lines, with_votes}
+use Rattle.report_text.specs.inside.Lines.{trees_lines, history_of_votes}
 use Rattle.report_text.specs.Outcomes.{outcome_of}
 use Rattle.report_text.specs.Report.{tree_line}
 
@@ -39,7 +39,7 @@ none_of n is = grind (arith, nat_tests)
 
 -- so only strict trees' votes are looked for
 pub only_strict_vote : (s : ScriptData) (h : List Entry) (sts : List Standing) (texts : List (List ℕ))
-    → trees_lines s 0 s.trees sts texts (ballots_of s (with_votes s h)) ≡ trees_lines s 0 s.trees sts texts (ballots_of s h)
+    → trees_lines s 0 s.trees sts texts (ballots_of s (history_of_votes s h)) ≡ trees_lines s 0 s.trees sts texts (ballots_of s h)
 only_strict_vote s h sts texts = by (has_strict s) refl where
   by : (b : Bool) → has_strict s ≡ b
       → trees_lines s 0 s.trees sts texts (ballots_of s (if b then h else [])) ≡ trees_lines s 0 s.trees sts texts (ballots_of s h)

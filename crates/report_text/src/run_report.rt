@@ -1,6 +1,6 @@
 // The report.
 ghost use Rattle.std.specs.Prelude.{◌≡◌, [], IfOk};
-ghost use Rattle.report_text.specs.inside.Lines.{with_votes};
+ghost use Rattle.report_text.specs.inside.Lines.{history_of_votes};
 ghost use Rattle.report_text.specs.Report.{advances, report_of};
 
 use crate::items::push_rows;
@@ -19,11 +19,11 @@ use tx_trees::Script;
 /// versions of updates and reads after the script's advancements; a line for each item, with what it is worth at the
 /// version that reads are shown, and at the next one if it is written there.
 ///
-/// One pass over the history gives the trees' versions, their wholeness and the serial order, and where a tree is strict
-/// a second one gives the votes and what was decided. One pass over the serial order carries the values of all items, version
-/// after version; what a read tree shows, and what the lines of items show, is taken when the version is reached. So the
-/// work grows with the history, with the script and with the text, and with the sorting of the trees by version. Running
-/// out of memory is the only error.
+/// One pass over the history gives the trees' versions, their wholeness and the serial order; where a tree is strict a
+/// second one gives the votes and what was decided. One pass over the serial order carries the values of all items,
+/// version after version; what a read tree shows, and what the lines of items show, is taken when the version is reached.
+/// So the work grows with the history, with the script and with the text, and with the sorting of the trees by version.
+/// Running out of memory is the only error.
 pub fn report(alloc: Global, script: &Script, history: &History) -> Result<Text, NoMemory>
     ensures { IfOk result (λ text. text ≡ report_of script.now history.now) }
 {
@@ -46,8 +46,8 @@ pub fn report(alloc: Global, script: &Script, history: &History) -> Result<Text,
     let later = shown.later.items();
     let marks = written.items();
     let none = History::new(alloc);
-    let voted = voted(script, history, &none);
-    let ballots = ballots_of(alloc, script, voted)?;
+    let voting = history_of_votes(script, history, &none);
+    let ballots = ballots_of(alloc, script, voting)?;
     let votes = ballots.rows();
     let mut text = Text::new(alloc);
     push_trees(&mut text, script, trees, standings, reads, votes)?;
@@ -57,9 +57,9 @@ pub fn report(alloc: Global, script: &Script, history: &History) -> Result<Text,
 }
 
 // The history in which trees may have voted, which only strict ones do: this one, or `none` where no tree is strict.
-fn voted<'a>(script: &Script, history: &'a History, none: &'a History) -> &'a History
+fn history_of_votes<'a>(script: &Script, history: &'a History, none: &'a History) -> &'a History
     requires { none.now ≡ [] }
-    ensures { result.now ≡ with_votes script.now history.now }
+    ensures { result.now ≡ history_of_votes script.now history.now }
 {
     if script.has_strict() { history } else { none }
 }

@@ -4,7 +4,7 @@ use Rattle.std.specs.Prelude.{slice_get}
 use Rattle.std.specs.List.{position_or_len}
 use Rattle.std.proofs.lemmas.Bool.{lt-ltb, le-ltb}
 use Rattle.letter_types.specs.declared.entries.Letter.{Letter}
-use Rattle.sim_runner.specs.inside.Oldest.{oldest_where}
+use Rattle.sim_runner.specs.Pickers.{oldest_where}
 
 -- none of the first k letters passes
 abbrev pub NoneBefore : (Letter → Bool) → List Letter → ℕ → Type 0

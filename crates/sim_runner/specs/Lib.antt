@@ -1,4 +1,3 @@
 pub mod Picks
 pub mod Pickers
 pub mod Worlds
-pub mod inside

@@ -1,9 +1,13 @@
--- Histories whose letters were taken as a picker chose.
-use Rattle.std.specs.Prelude.{ℕ, zero, suc, ◌%◌, ◌≡◌, List, length, Some, slice_get}
+-- The places that pickers name, and histories whose letters were taken as a picker chose.
+use Rattle.std.specs.Prelude.{ℕ, zero, suc, ◌%◌, ◌≡◌, Bool, List, length, Some, slice_get, position, unwrap_or}
 use Rattle.letter_types.specs.declared.entries.Entry.{Entry}
 use Rattle.letter_types.specs.declared.entries.Letter.{Letter}
 use Rattle.tx_trees.specs.ScriptData.{ScriptData}
 use Rattle.world_model.specs.Scheduled.{waiting_at}
+
+-- the place of the oldest letter that passes a test, or 0 where none does
+abbrev pub oldest_where : (Letter → Bool) → List Letter → ℕ
+oldest_where test ls = unwrap_or (position test ls) 0
 
 -- the picker before entry k of a history
 abbrev pub picker_at : {P : Type 0} → (P → List Letter → P) → ScriptData → P → List Entry → ℕ → P

@@ -2,7 +2,7 @@
 ghost use Rattle.std.specs.Prelude.{◌≡◌, ◌==◌, ◌<◌, ◌-◌, ℕ, List, length, not};
 ghost use Rattle.letter_types.specs.declared.entries.Letter.{Letter};
 ghost use Rattle.letter_types.specs.Letters.{same_id};
-ghost use Rattle.sim_runner.specs.inside.Oldest.{oldest_where};
+ghost use Rattle.sim_runner.specs.Pickers.{oldest_where};
 
 use letter_types::{Letter, LetterId};
 use tv_base::ActorNo;

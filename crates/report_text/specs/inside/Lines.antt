@@ -39,8 +39,8 @@ trees_lines s t [] sts rs bs = []
 trees_lines s t _ _ _ _ = []
 
 -- the history in which trees may have voted: only strict ones vote
-abbrev pub with_votes : ScriptData → List Entry → List Entry
-with_votes s h = if has_strict s then h else []
+abbrev pub history_of_votes : ScriptData → List Entry → List Entry
+history_of_votes s h = if has_strict s then h else []
 
 -- the lines of the items of these values
 abbrev pub rows_lines : ℕ → List ItemRow → List Value → List Value → List Bool → List ℕ

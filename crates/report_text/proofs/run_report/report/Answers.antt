@@ -34,7 +34,7 @@ push_trees-requires-clause-standings c =
 pub push_trees-requires-clause-ballots : goal.push_trees-requires-clause-ballots
 push_trees-requires-clause-ballots c =
     ap (λ (z : List (List Act)). length z) (c.rows-votes.ensures ∙ c.in_ok-ballots.ensures)
-    ∙ length-ballots_of c.args.script.now c.voted-voted.result.now
+    ∙ length-ballots_of c.args.script.now c.history_of_votes-voting.result.now
     ∙ sym (ap (λ (z : List Tree). length z) c.trees-trees.ensures.trees)
 
 pub push_rows-requires-clause-names : goal.push_rows-requires-clause-names
@@ -75,7 +75,7 @@ returns c =
     ∙ ap (λ (z : List Standing). c.new-text.result ++ trees_lines s 0 s.trees z c.items-reads.result.now c.rows-votes.result.now) (c.items-standings.ensures.items ∙ c.in_ok-outcomes.ensures.standings)
     ∙ ap (λ (z : List (List ℕ)). c.new-text.result ++ trees_lines s 0 s.trees (standings_of s h) z c.rows-votes.result.now) c.items-reads.ensures.items
     ∙ ap (λ (z : List (List Act)). c.new-text.result ++ trees_lines s 0 s.trees (standings_of s h) texts z) (c.rows-votes.ensures ∙ c.in_ok-ballots.ensures)
-    ∙ ap (λ (z : List Entry). c.new-text.result ++ trees_lines s 0 s.trees (standings_of s h) texts (ballots_of s z)) c.voted-voted.ensures
+    ∙ ap (λ (z : List Entry). c.new-text.result ++ trees_lines s 0 s.trees (standings_of s h) texts (ballots_of s z)) c.history_of_votes-voting.ensures
     ∙ ap (λ (z : List ℕ). c.new-text.result ++ z) (only_strict_vote s h (standings_of s h) texts) in
     let nodes : t2 ≡ t1 ++ nodes_text (advances s) s.nodes
     = c.in_ok-push_nodes.ensures
