@@ -13,7 +13,7 @@ use tv_base::NoMemory;
 /// Items in the order in which they were put. The one at any place may be taken.
 ///
 /// Contracts see the items, the oldest first, and the room: how many more may be put without failing. Items are put
-/// into a queue. Where it is full when room is made, it becomes a block behind the older ones, and a new one is begun.
+/// into a queue. Once it fills a block it becomes one, behind the older ones, and a new queue is begun.
 #[derive(Drop)]
 pub struct Bag<T> {
     older: Blocks<T>,
@@ -116,8 +116,8 @@ impl<T: Drop> Bag<T> {
     }
 }
 
-/// Makes room for so many more in the queue. One that has become long enough for a block doesn't grow: it is made a
-/// block, and a new one is begun.
+/// Makes room for so many more in the queue. One that fills a block doesn't grow: it becomes the block itself, and a new
+/// one is begun. Of one that is longer, since many items were put at once, whole blocks move away before.
 fn make_room<T: Drop>(
     older: &mut Blocks<T>,
     newer: &mut VecDeque<T>,
@@ -127,12 +127,28 @@ fn make_room<T: Drop>(
     ensures items { older.new ++ newer.new.items ≡ older.old ++ newer.old.items }
     ensures len { length older.new + deque_len newer.new ≡ length older.old + deque_len newer.old }
     ensures room { OnOk result (deque_len newer.new + room ≤ deque_capacity newer.new) }
-    ensures err { OnErr result (deque_len newer.new ≡ deque_len newer.old) }
+    ensures shorter { OnErr result (deque_len newer.new ≤ deque_len newer.old) }
     ensures capacity { OnErr result (deque_capacity newer.old ≤ deque_capacity newer.new) }
 {
-    if BLOCK / 2 <= newer.len() && newer.capacity() - newer.len() < room {
+    cut(older, newer)?;
+    if BLOCK / 2 <= newer.len() && BLOCK - newer.len() < room {
         older.add(newer, room)
     } else {
         newer.reserve(room)
     }
+}
+
+/// Moves the first items of a queue into blocks until at most a block's are left.
+fn cut<T: Drop>(older: &mut Blocks<T>, newer: &mut VecDeque<T>) -> Result<(), AllocError>
+    requires { length older.old + deque_len newer.old < 2 ^ 64 }
+    ensures items { older.new ++ newer.new.items ≡ older.old ++ newer.old.items }
+    ensures len { length older.new + deque_len newer.new ≡ length older.old + deque_len newer.old }
+    ensures few { OnOk result (deque_len newer.new ≤ BLOCK) }
+    ensures shorter { deque_len newer.new ≤ deque_len newer.old }
+    ensures capacity { deque_capacity newer.new ≡ deque_capacity newer.old }
+{
+    while BLOCK < newer.len() {
+        older.cut(newer)?;
+    }
+    Ok(())
 }

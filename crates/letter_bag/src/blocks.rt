@@ -1,5 +1,5 @@
 // Blocks of items, one after the other.
-ghost use Rattle.std.specs.Prelude.{◌≡◌, ◌+◌, ◌<◌, ◌≤◌, ◌^◌, [], ◌++◌, length, slice_get, Some, OnOk, OnErr};
+ghost use Rattle.std.specs.Prelude.{◌≡◌, ◌+◌, ◌<◌, ◌≤◌, ◌^◌, [], ◌++◌, length, take, drop, slice_get, Some, OnOk, OnErr};
 ghost use Rattle.std.specs.List.{remove};
 ghost use Rattle.std.specs.VecDeque.{deque_len, deque_capacity};
 ghost use Rattle.letter_bag.specs.Blocks.{joined, block_of, place_in};
@@ -10,7 +10,7 @@ use std::collections::VecDeque;
 use std::marker::Model;
 use std::mem;
 
-/// For how many items a queue is begun, which becomes a block once it is at least half full and has no room.
+/// How many items a block begins with, at most.
 pub(crate) const BLOCK: usize = 512;
 
 /// Blocks of items, one after the other. None is empty.
@@ -65,6 +65,26 @@ impl<T: Drop> Blocks<T> {
     {
         self.count -= 1;
         take_at(&mut self.blocks, k)
+    }
+
+    /// Moves the first items of a queue into a block at the end. Where no memory is found both are as they were.
+    pub(crate) fn cut(&mut self, queue: &mut VecDeque<T>) -> Result<(), AllocError>
+        requires full { BLOCK ≤ deque_len queue.old }
+        requires fits { length self.old + deque_len queue.old < 2 ^ 64 }
+        ensures ok { OnOk result (self.new ≡ self.old ++ take BLOCK queue.old.items) }
+        ensures rest { OnOk result (queue.new.items ≡ drop BLOCK queue.old.items) }
+        ensures len { OnOk result (deque_len queue.new + BLOCK ≡ deque_len queue.old) }
+        ensures err { OnErr result (self.new ≡ self.old) }
+        ensures same { OnErr result (queue.new ≡ queue.old) }
+        ensures capacity { deque_capacity queue.new ≡ deque_capacity queue.old }
+    {
+        let alloc = *self.blocks.allocator();
+        let mut items = VecDeque::with_capacity(alloc, BLOCK)?;
+        self.blocks.reserve(1)?;
+        move_first(queue, &mut items, BLOCK);
+        self.blocks.push_reserved(Block::new(items));
+        self.count += BLOCK;
+        Ok(())
     }
 
     /// Makes a block of a queue, at the end, and begins a new queue, with room for so many. Where no memory is found
@@ -175,5 +195,21 @@ fn drop_empty<T: Drop>(blocks: &mut Vec<Block<T>>, j: usize)
 {
     if blocks[j].len() == 0 {
         let _empty = blocks.remove(j);
+    }
+}
+
+/// Moves the first `count` items of a queue to another that is empty and has room.
+fn move_first<T>(from: &mut VecDeque<T>, to: &mut VecDeque<T>, count: usize)
+    requires there { count ≤ deque_len from.old }
+    requires empty { to.old.items ≡ [] }
+    requires none { deque_len to.old ≡ 0 }
+    requires room { count ≤ deque_capacity to.old }
+    ensures moved { to.new.items ≡ take count from.old.items }
+    ensures rest { from.new.items ≡ drop count from.old.items }
+    ensures len { deque_len from.new + count ≡ deque_len from.old }
+    ensures capacity { deque_capacity from.new ≡ deque_capacity from.old }
+{
+    for _i in 0..count {
+        to.push_back_reserved(from.pop_front().unwrap());
     }
 }
