@@ -22,7 +22,7 @@ pub fn history_lines(alloc: Global, script: &Script, history: &History) -> Resul
     Ok(text)
 }
 
-/// The same lines, behind what the text has.
+/// The same lines, behind what the text has. Where memory runs out some of them may stand there.
 pub fn push_history_lines(
     text: &mut Text,
     script: &Script,

@@ -10,7 +10,7 @@ ghost use Rattle.nc_commit.specs.Votes.{greatest_version, mode_wanted, newer_at,
 use commute_ops::{Value, Values};
 use item_versions::{Item, ItemTable};
 use letter_types::{Boxed, Cause, Vote};
-use nc_locks::{Locks, Mode};
+use nc_locks::{Locks, Mode, WantedLocks};
 use std::alloc::Global;
 use tv_base::{ItemNo, NoMemory, Seq, TreeNo, Version};
 use tx_trees::{Deed, Sub, SubOp};
@@ -71,7 +71,7 @@ fn no(alloc: Global, cause: Cause) -> Result<Vote, NoMemory>
 }
 
 /// The locks that the operations of a strict tree want.
-pub fn wanted_by(alloc: Global, ops: &[SubOp]) -> Result<Seq<(ItemNo, Mode), 0xffff_ffff>, NoMemory>
+pub fn wanted_by(alloc: Global, ops: &[SubOp]) -> Result<WantedLocks, NoMemory>
     ensures { IfOk result (λ wanted. wanted ≡ wanted_by ops.now) }
 {
     let mut wanted = Seq::with_capacity(alloc, ops.len())?;

@@ -9,4 +9,4 @@ mod search;
 
 pub use laws::{lists_are_their_locks, locks_come_and_go, met_is_the_first};
 pub use locks::Locks;
-pub use modes::{Lock, Met, Mode};
+pub use modes::{Lock, Met, Mode, WantedLocks};

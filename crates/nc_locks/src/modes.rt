@@ -9,7 +9,7 @@ ghost use Rattle.nc_locks.specs.Modes.{mode_rank};
 ghost use Rattle.nc_locks.specs.inside.Found.{same_place};
 
 use std::cmp::Ordering;
-use tv_base::{ItemNo, TreeNo};
+use tv_base::{ItemNo, Seq, TreeNo};
 
 /// How a tree has an item. A mark goes with a mark and a look with a look; every other pair of locks of two different
 /// trees conflicts.
@@ -22,6 +22,9 @@ pub enum Mode {
     /// The item's value is set, or lowered by what is drawn.
     Hold,
 }
+
+/// The locks that a tree wants, each an item with a mode.
+pub type WantedLocks = Seq<(ItemNo, Mode), 0xffff_ffff>;
 
 impl Mode {
     /// The place of the mode in the order of the modes.

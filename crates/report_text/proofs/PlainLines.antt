@@ -1,5 +1,5 @@
 -- Without strict trees the lines of the trees are the same, whatever the votes.
-use Rattle.std.proofs.Common.{◌≡◌, ℕ, ◌+◌, ◌==◌, Bool, true, false, not, List, [], ◌∷◌, ◌++◌, refl, ap, ◌∙◌, arith}
+use Rattle.std.proofs.Common.{◌≡◌, ℕ, ◌+◌, Bool, true, false, List, [], ◌∷◌, ◌++◌, refl, ap, ◌∙◌, arith}
 use Rattle.std.specs.Prelude.{if◌then◌else◌, filter, Option, Some, None}
 use Rattle.std.proofs.lemmas.Bool.Decides.{nat_tests}
 use Rattle.tv_base.specs.declared.numbers.Version.{Version}
@@ -34,9 +34,6 @@ lines s t (tree ∷ ts) (st ∷ sts) (text ∷ texts) a b none =
     ap (λ (z : List ℕ). z ++ trees_lines s (t + 1) ts sts texts (ballots_from a (t + 1) ts)) (one_line tree tree.kind st.born text (outcome_of s (filter (tells_of t) a) t tree.subs) (outcome_of s (filter (tells_of t) b) t tree.subs) (omega (arith, none)))
     ∙ ap (λ (z : List ℕ). tree_line tree tree.kind st.born (λ (v : ℕ). text) (outcome_of s (filter (tells_of t) b) t tree.subs) ++ z) (lines s (t + 1) ts sts texts a b (omega (arith, none)))
 
-none_of : (n : ℕ) → not (n == 0) ≡ false → n ≡ 0
-none_of n is = grind (arith, nat_tests)
-
 -- so only strict trees' votes are looked for
 pub only_strict_vote : (s : ScriptData) (h : List Entry) (sts : List Standing) (texts : List (List ℕ))
     → trees_lines s 0 s.trees sts texts (ballots_of s (history_of_votes s h)) ≡ trees_lines s 0 s.trees sts texts (ballots_of s h)
@@ -44,4 +41,6 @@ only_strict_vote s h sts texts = by (has_strict s) refl where
   by : (b : Bool) → has_strict s ≡ b
       → trees_lines s 0 s.trees sts texts (ballots_of s (if b then h else [])) ≡ trees_lines s 0 s.trees sts texts (ballots_of s h)
   by true is = refl
-  by false is = lines s 0 s.trees sts texts (acts_in (places_of [])) (acts_in (places_of h)) (none_of (strict_trees s.trees) is)
+  by false is =
+      let none : strict_trees s.trees ≡ 0 = grind (arith, nat_tests) in
+      lines s 0 s.trees sts texts (acts_in (places_of [])) (acts_in (places_of h)) none

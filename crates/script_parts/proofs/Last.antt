@@ -1,6 +1,6 @@
 -- The last of a list, by its place.
-use Rattle.std.proofs.Common.{◌≡◌, ℕ, suc, zero, List, [], ◌∷◌, ◌++◌, length, get_or, refl, sym, ap, ◌∙◌, arith}
-use Rattle.std.specs.Prelude.{Some, Result, Ok, Err, OnErr}
+use Rattle.std.proofs.Common.{◌≡◌, ◌-◌, ℕ, suc, zero, List, [], ◌∷◌, ◌++◌, length, get_or, refl, sym, ap, ◌∙◌, arith}
+use Rattle.std.specs.Prelude.{None, Some, Result, Ok, Err, OnErr, slice_get}
 use Rattle.std.proofs.Math.ListN.{set}
 use Rattle.script_parts.specs.declared.parts.Sub.{Sub}
 use Rattle.script_parts.specs.declared.parts.SubOp.{SubOp}
@@ -26,6 +26,17 @@ last_is (x ∷ y ∷ ys) (suc k) d e = last_is (y ∷ ys) k d (omega arith)
 pub last_at : {A : Type 0} (xs : List A) (k : ℕ) (x : A) → suc k ≡ length xs → x ≡ get_or xs k x → last_of xs ≡ Some x
 last_at xs k x e is = last_is xs k x e ∙ ap Some (sym is)
 
+got_at : {A : Type 0} (xs : List A) (k : ℕ) → suc k ≡ length xs → slice_get xs k ≡ last_of xs
+got_at [] k e = absurd (omega arith)
+got_at (x ∷ []) zero e = refl
+got_at (x ∷ []) (suc k) e = absurd (omega arith)
+got_at (x ∷ y ∷ ys) zero e = absurd (omega arith)
+got_at (x ∷ y ∷ ys) (suc k) e = got_at (y ∷ ys) k (omega arith)
+
+pub last_got : {A : Type 0} (xs : List A) → slice_get xs (length xs - 1) ≡ last_of xs
+last_got [] = refl
+last_got (x ∷ xs) = got_at (x ∷ xs) (length (x ∷ xs) - 1) (omega arith)
+
 pub length-on_last : {A : Type 0} (f : A → A) (xs : List A) → length (on_last f xs) ≡ length xs
 length-on_last f [] = refl
 length-on_last f (x ∷ []) = refl
@@ -39,6 +50,11 @@ last_kind_is ts t e = rw (e, last_kind) refl
 
 pub last_sub_is : (ts : List Tree) (t : Tree) (s : Sub) → last_of ts ≡ Some t → last_of t.subs ≡ Some s → last_sub ts ≡ Some s
 last_sub_is ts t s e f = rw (e, last_sub) f
+
+pub no_last_count : (ts : List Tree) (t : Tree) → last_of ts ≡ Some t → last_of t.subs ≡ None → last_count ts ≡ 0
+no_last_count ts t e f =
+    let none : last_sub ts ≡ None = rw (e, last_sub) f in
+    rw (none, last_count) refl
 
 pub last_node_is : (ts : List Tree) (s : Sub) → last_sub ts ≡ Some s → last_node ts ≡ s.node.0
 last_node_is ts s e = rw (e, last_node) refl

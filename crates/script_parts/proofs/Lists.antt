@@ -1,11 +1,10 @@
 -- Lists that grow at their end, or whose last is changed: what holds of all, what is distinct, and what is a sum.
 use Rattle.std.proofs.Common.{◌≡◌, ◌<◌, ◌≤◌, ◌+◌, ℕ, Bool, true, false, List, [], ◌∷◌, ◌++◌, get_or, length, refl, ap, ◌∙◌, subst, arith, length-append}
-use Rattle.std.specs.Prelude.{◌||◌, nat_le, nat_lt, Option, Some, None, slice_get}
+use Rattle.std.specs.Prelude.{◌||◌, Option, Some, None, slice_get}
 use Rattle.std.specs.List.{AllByRecursion, IsDistinct, list_any}
 use Rattle.std.proofs.Math.Seq.{get_or-append_seam}
 use Rattle.std.proofs.lemmas.List.{get_or_default}
 use Rattle.std.proofs.lemmas.Option.{slice_get-get_or}
-use Rattle.std.proofs.lemmas.Grind.{common_steps}
 use Rattle.std.proofs.lemmas.Bool.{or_from}
 use Rattle.script_parts.specs.Adding.{last_of, on_last}
 

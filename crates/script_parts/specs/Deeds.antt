@@ -1,5 +1,5 @@
 -- What deeds make of values.
-use Rattle.std.specs.Prelude.{if◌then◌else◌, Bool, true, false, ℤ, ◌-ℤ◌, int_lt, List, Option, Some, None}
+use Rattle.std.specs.Prelude.{if◌then◌else◌, Bool, true, false, ℤ, ◌-ℤ◌, int_lt, Option, Some, None}
 use Rattle.commute_ops.specs.declared.value.Value.{Value}
 use Rattle.commute_ops.specs.declared.value.Value.TheVariants.{Sum, Top, Bag}
 use Rattle.commute_ops.specs.Ops.{applied}

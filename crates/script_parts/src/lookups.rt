@@ -89,23 +89,40 @@ pub fn place_of_last(trees: &[Tree]) -> LastPlace
     }
 }
 
-/// A subtransaction with no operation.
-pub fn empty_sub(alloc: Global, parent: SubNo, node: NodeNo) -> Sub
-    ensures { result ≡ record { parent = parent; node = node; ops = [] } }
+/// How many operations the last subtransaction of the last tree has, 0 where there is none.
+pub fn count_last_ops(trees: &[Tree]) -> usize
+    ensures { result ≡ last_count trees.now }
 {
-    Sub {
-        parent,
-        node,
-        ops: Seq::new(alloc),
+    match trees.last() {
+        Some(tree) => match tree.subs.items().last() {
+            Some(sub) => sub.ops.items().len(),
+            None => 0,
+        },
+        None => 0,
     }
 }
 
-/// A tree with its root alone.
-pub fn rooted(alloc: Global, name: Name, kind: TreeKind, node: NodeNo) -> Result<Tree, NoMemory>
+/// A subtransaction with no operation, and room for so many.
+pub fn empty_sub(alloc: Global, parent: SubNo, node: NodeNo, room: usize) -> Result<Sub, NoMemory>
+    ensures { IfOk result (λ s. s ≡ record { parent = parent; node = node; ops = [] }) }
+{
+    let ops = Seq::with_capacity(alloc, room)?;
+    Ok(Sub { parent, node, ops })
+}
+
+/// A tree with its root alone, which has room for so many operations.
+pub fn rooted(
+    alloc: Global,
+    name: Name,
+    kind: TreeKind,
+    node: NodeNo,
+    room: usize,
+) -> Result<Tree, NoMemory>
     ensures { IfOk result (λ t. t ≡ rooted name kind node) }
 {
+    let root = empty_sub(alloc, SubNo(0), node, room)?;
     let mut subs = Seq::with_capacity(alloc, FEW_SUBS)?;
-    subs.push(empty_sub(alloc, SubNo(0), node))?;
+    subs.push(root)?;
     Ok(Tree {
         name,
         kind,

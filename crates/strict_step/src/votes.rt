@@ -1,5 +1,5 @@
 // A subtransaction of a strict tree votes, and a vote comes to its tree's home.
-ghost use Rattle.std.specs.Prelude.{◌≡◌, ◌<◌, length, nat_lt, IfOk, IsTrue};
+ghost use Rattle.std.specs.Prelude.{◌≡◌, ◌<◌, length, IfOk, IsTrue};
 ghost use Rattle.item_versions.specs.Window.{in_window};
 ghost use Rattle.pair_counters.specs.Numbers.{AllBelow, MOST_COUNT};
 ghost use Rattle.pair_counters.specs.Rows.{counts_of};
@@ -23,11 +23,10 @@ use commute_ops::Values;
 use item_versions::Staged;
 use letter_types::{Body, Boxed, Cause, Letter, Notice, Vote};
 use nc_commit::{vote_on, wanted_by};
-use node_versions::Turns;
 use std::alloc::Global;
 use tree_step::{
     CorePrepared, Effect, InVersion, NodeCore, NodeParts, Refusals, Request, TreePrepared,
-    VoteChange, asked_ops, asked_version, is_strict, prepare_notice, prepare_tree,
+    VoteChange, asked_ops, asked_version, is_above, is_strict, prepare_notice, prepare_tree,
 };
 use tv_base::{NoMemory, SubNo, TreeNo, Version};
 use tx_trees::{Script, SubOp};
@@ -161,13 +160,6 @@ fn change_by(
         }
         Vote::No(cause) => Ok(no_by(refusals, *cause.get(), body)),
     }
-}
-
-/// Whether version `v` is above the node's update version.
-fn is_above(turns: &Turns, v: Version) -> bool
-    ensures { result ≡ nat_lt turns.now.update.0 v.0 }
-{
-    turns.update.0 < v.0
 }
 
 /// Prepares that a subtransaction of a strict tree votes: a yes takes its locks, and its home is told. A root is at its

@@ -4,13 +4,10 @@ ghost use Rattle.tree_step.specs.inside.OnceOpen.{changed_once_open, once_open, 
 
 use crate::change::{Change, HomeChange, Prepared, TreeChange};
 use letter_types::Boxed;
-use nc_locks::Mode;
+use nc_locks::WantedLocks;
 use tree_home::Answered;
-use tv_base::{ItemNo, NodeNo, Seq, SubNo, TreeNo, Version};
+use tv_base::{NodeNo, Seq, SubNo, TreeNo, Version};
 use world_model::Refusal;
-
-/// The locks that a tree wants, each an item with a mode.
-pub type WantedLocks = Seq<(ItemNo, Mode), 0xffff_ffff>;
 
 /// Nodes that a tree visits.
 pub type Visited = Seq<NodeNo, 64>;

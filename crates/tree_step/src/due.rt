@@ -66,6 +66,13 @@ pub fn is_near(turns: &Turns, version: Version) -> bool
     turns.low.0 <= version.0 && version.0 - turns.low.0 < VERSIONS
 }
 
+/// Whether version `v` is above the node's update version.
+pub fn is_above(turns: &Turns, v: Version) -> bool
+    ensures { result ≡ nat_lt turns.now.update.0 v.0 }
+{
+    turns.update.0 < v.0
+}
+
 /// Whether a version is at most two above the low version, and so one to which the update version may be raised.
 fn is_within_reach(turns: &Turns, version: Version) -> bool
     ensures { result ≡ nat_le version.0 (turns.now.low.0 + 2) }

@@ -19,10 +19,10 @@ mod steps;
 
 pub use asked::{InVersion, Request, asked_ops, asked_version, prepare_tree};
 pub use change::{Change, HomeChange, Prepared, TreeChange, TreePrepared, done, done_twice};
-pub use core_change::{CorePrepared, HoldChange, Visited, VoteChange, WantedLocks};
+pub use core_change::{CorePrepared, HoldChange, Visited, VoteChange};
 pub use core_steps::core_done;
 pub use counting::Counting;
-pub use due::{can_obey, is_due, is_near};
+pub use due::{can_obey, is_above, is_due, is_near};
 pub use lookups::{is_strict, kind_of};
 pub use node::{Effect, NodeParts};
 pub use node_core::NodeCore;

@@ -23,7 +23,8 @@ use script_parts::counts::{
 use script_parts::failing::{count_ops, fail_last, last_ops, may_fail, reload_last};
 use script_parts::is_plain_name;
 use script_parts::lookups::{
-    deed_fits, empty_sub, kind_at, last_subs, node_at, place_of_last, push_op, push_sub, rooted,
+    count_last_ops, deed_fits, empty_sub, kind_at, last_subs, node_at, place_of_last, push_op,
+    push_sub, rooted,
 };
 use script_parts::parts::{Deed, Form, ItemRow, ScriptRow, Sub, SubOp, Subs, Tree, TreeKind};
 use script_parts::ranges::{initial_size, is_in_range, magnitude, may_start};
@@ -400,14 +401,15 @@ impl Script {
             || are_many(strict, self.update_subs + one_update(kind))
     }
 
-    // Puts a tree with its root alone, to which nothing is opposed, after the others.
+    // Puts a tree with its root alone, to which nothing is opposed, after the others. A subtransaction is often like the
+    // one before it, so it has room for as many operations.
     fn put_tree(&mut self, name: Name, kind: TreeKind, node: NodeNo) -> Result<(), NoMemory>
         requires { MayAddTree self.old name kind node }
         ensures ok { OnOk result (self.new ≡ with_tree self.old name kind node) }
         ensures err { OnErr result (self.new ≡ self.old) }
     {
         let number = TreeNo(self.trees.len() as u32);
-        let tree = rooted(self.alloc, name, kind, node)?;
+        let tree = rooted(self.alloc, name, kind, node, count_last_ops(&self.trees))?;
         self.rows.reserve(1)?;
         self.trees.reserve(1)?;
         self.tree_names.add(name)?;
@@ -465,7 +467,8 @@ impl Script {
         ensures err { OnErr result (self.new ≡ self.old) }
     {
         let more = one_update(last_kind(&self.trees));
-        let sub = empty_sub(self.alloc, SubNo(parent), node);
+        let room = count_last_ops(&self.trees);
+        let sub = empty_sub(self.alloc, SubNo(parent), node, room)?;
         push_sub(&mut self.trees, sub)?;
         self.subs += 1;
         self.update_subs += more;

@@ -1,4 +1,4 @@
-ghost use Rattle.std.specs.Prelude.{◌≡◌, is_some, nat_lt, IfOk, IfSome, IsTrue};
+ghost use Rattle.std.specs.Prelude.{◌≡◌, is_some, IfOk, IfSome, IsTrue};
 ghost use Rattle.item_versions.specs.Table.{pending};
 ghost use Rattle.item_versions.specs.Window.{in_window, IsWindowedTable};
 ghost use Rattle.tree_step.specs.Changes.{IsNodeStepOf, IsTreePartOf};
@@ -9,11 +9,10 @@ ghost use Rattle.update_step.specs.Rows.{can_touch, can_update, touching, update
 use commute_ops::Values;
 use item_versions::Staged;
 use letter_types::{Letter, Notice};
-use node_versions::Turns;
 use std::alloc::Global;
 use tree_step::{
-    Effect, InVersion, NodeParts, Prepared, TreePrepared, asked_ops, asked_version, prepare_tree,
-    reply,
+    Effect, InVersion, NodeParts, Prepared, TreePrepared, asked_ops, asked_version, is_above,
+    prepare_tree, reply,
 };
 use tv_base::{NoMemory, Version};
 use tx_trees::{Deed, Script, SubOp};
@@ -65,13 +64,6 @@ pub fn can_update(
     let asked = asked_version(letter, node.turns.update);
     let effect = touch_all(alloc, node, asked, asked_ops(letter, script))?;
     Ok(effect.is_some())
-}
-
-/// Whether version `v` is above the node's update version.
-fn is_above(turns: &Turns, v: Version) -> bool
-    ensures { result ≡ nat_lt turns.now.update.0 v.0 }
-{
-    turns.update.0 < v.0
 }
 
 /// Prepares what a node does with a letter that asks it for a subtransaction of an update tree (docs/ALGORITHM.md,

@@ -10,11 +10,11 @@ ghost use Rattle.tree_step.specs.CoreChanges.{IsCoreStepOf};
 ghost use Rattle.tree_step.specs.Core.{IsCoreReady, core_of};
 
 use letter_types::{Boxed, Letter};
-use nc_locks::Mode;
+use nc_locks::{Mode, WantedLocks};
 use read_step::read_part;
 use std::alloc::Global;
 use strict_step::answered_step;
-use tree_step::{CorePrepared, NodeCore, VoteChange, WantedLocks, asked_ops};
+use tree_step::{CorePrepared, NodeCore, VoteChange, asked_ops};
 use tv_base::{NoMemory, TreeNo};
 use tx_trees::{Script, SubOp};
 use update_step::update_part;

@@ -17,4 +17,4 @@ invariant_of-self-2 c =
     let s = c.self.inside in
     let more : c.one_update-more.result ≡ if_update (last_kind s.trees.items) 1 = c.one_update-more.ensures ∙ ap (λ (k : TreeKind). if_update k 1) (c.last_kind.ensures ∙ ap last_kind c.deref.ensures.value) in
     let may = subst (λ (h : ScriptData). MayAddSub h c.args.parent c.args.node) (sym c.self.view_is) c.requires in
-    kept_sub s c.push_sub.new.trees _ _ c.args.parent c.args.node c.empty_sub-sub.result c.empty_sub-sub.ensures c.in_ok-push_sub.ensures.ok refl (ap (λ (n : ℕ). s.update_subs + n) more) may c.self.invariant
+    kept_sub s c.push_sub.new.trees _ _ c.args.parent c.args.node c.in_ok-sub.sub c.in_ok-sub.ensures c.in_ok-push_sub.ensures.ok refl (ap (λ (n : ℕ). s.update_subs + n) more) may c.self.invariant
