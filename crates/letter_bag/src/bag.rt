@@ -130,7 +130,7 @@ fn make_room<T: Drop>(
     ensures shorter { OnErr result (deque_len newer.new ≤ deque_len newer.old) }
     ensures capacity { OnErr result (deque_capacity newer.old ≤ deque_capacity newer.new) }
 {
-    cut(older, newer)?;
+    shorten(older, newer)?;
     if BLOCK / 2 <= newer.len() && BLOCK - newer.len() < room {
         older.add(newer, room)
     } else {
@@ -139,7 +139,7 @@ fn make_room<T: Drop>(
 }
 
 /// Moves the first items of a queue into blocks until at most a block's are left.
-fn cut<T: Drop>(older: &mut Blocks<T>, newer: &mut VecDeque<T>) -> Result<(), AllocError>
+fn shorten<T: Drop>(older: &mut Blocks<T>, newer: &mut VecDeque<T>) -> Result<(), AllocError>
     requires { length older.old + deque_len newer.old < 2 ^ 64 }
     ensures items { older.new ++ newer.new.items ≡ older.old ++ newer.old.items }
     ensures len { length older.new + deque_len newer.new ≡ length older.old + deque_len newer.old }

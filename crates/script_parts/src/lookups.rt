@@ -1,7 +1,7 @@
 // Look-ups in the parts of a script, and changes at their end.
 ghost use Rattle.std.specs.Prelude.{◌≡◌, ◌<◌, [], length, OnOk, OnErr, IfOk};
 ghost use Rattle.script_parts.specs.Valid.{deed_fits, op_fits};
-ghost use Rattle.script_parts.specs.Adding.{item_kind_at, last_count, last_kind, last_node, last_subs, node_at, on_last, on_last_sub, push_op, push_sub, rooted};
+ghost use Rattle.script_parts.specs.Adding.{item_kind_at, last_count, last_node, last_subs, node_at, on_last, on_last_sub, push_op, push_sub, rooted};
 
 use crate::parts::{Deed, ItemRow, Sub, SubOp, Subs, Tree, TreeKind};
 use commute_ops::{Kind, Op};
@@ -11,14 +11,6 @@ use tv_base::{Name, NoMemory, NodeNo, Seq, SubNo};
 
 /// For so many subtransactions a tree has room from the beginning: most have no more.
 const FEW_SUBS: usize = 4;
-
-// Where the next operation goes.
-#[derive(Clone, Copy)]
-pub struct LastPlace {
-    pub kind: TreeKind,
-    pub node: NodeNo,
-    pub ops: usize,
-}
 
 /// The node of an item.
 pub fn node_at(items: &[ItemRow], item: usize) -> NodeNo
@@ -71,22 +63,16 @@ pub fn last_subs(trees: &[Tree]) -> usize
     trees[trees.len() - 1].subs.items().len()
 }
 
-/// The last subtransaction of the last tree.
-pub fn place_of_last(trees: &[Tree]) -> LastPlace
+/// The node of the last subtransaction of the last tree.
+pub fn last_node(trees: &[Tree]) -> NodeNo
     requires trees { 0 < length trees.now }
     requires subs { 0 < last_subs trees.now }
-    ensures kind { result.kind ≡ last_kind trees.now }
-    ensures node { result.node.0 ≡ last_node trees.now }
-    ensures ops { result.ops ≡ last_count trees.now }
+    ensures { result.0 ≡ last_node trees.now }
 {
     let tree = &trees[trees.len() - 1];
     let subs = tree.subs.items();
     let sub = &subs[subs.len() - 1];
-    LastPlace {
-        kind: tree.kind,
-        node: sub.node,
-        ops: sub.ops.items().len(),
-    }
+    sub.node
 }
 
 /// How many operations the last subtransaction of the last tree has, 0 where there is none.

@@ -23,7 +23,7 @@ use script_parts::counts::{
 use script_parts::failing::{count_ops, fail_last, last_ops, may_fail, reload_last};
 use script_parts::is_plain_name;
 use script_parts::lookups::{
-    count_last_ops, deed_fits, empty_sub, kind_at, last_subs, node_at, place_of_last, push_op,
+    count_last_ops, deed_fits, empty_sub, kind_at, last_node, last_subs, node_at, push_op,
     push_sub, rooted,
 };
 use script_parts::parts::{Deed, Form, ItemRow, ScriptRow, Sub, SubOp, Subs, Tree, TreeKind};
@@ -516,8 +516,7 @@ impl Script {
         requires begun { self.now.begun ≡ true }
         ensures { result ≡ (node_at item self.now.items == last_node self.now.trees) }
     {
-        let last = place_of_last(&self.trees);
-        node_at(&self.items, item).0 == last.node.0
+        node_at(&self.items, item).0 == last_node(&self.trees).0
     }
 
     // Whether the last tree may have this operation on the item.
@@ -531,11 +530,10 @@ impl Script {
 
     // Whether with one more operation on the item a limit would be passed.
     fn has_no_op_left(&self, item: usize, deed: Deed) -> bool
-        requires item { item < length self.now.items }
-        requires begun { self.now.begun ≡ true }
+        requires { item < length self.now.items }
         ensures { result ≡ has_no_op_left item deed self.now.trees }
     {
-        place_of_last(&self.trees).ops >= MOST_OPS_OF_SUB
+        count_last_ops(&self.trees) >= MOST_OPS_OF_SUB
             || self.ops >= MOST_OPS
             || self.puts[item] + one_put(deed) > MOST_PUTS
     }

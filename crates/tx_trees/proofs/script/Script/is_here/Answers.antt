@@ -4,8 +4,8 @@ use Rattle.script_parts.specs.Adding.{last_subs}
 use Rattle.tx_trees.proofs.Stays.{some_last_subs}
 use Rattle.tx_trees.proofs.script.Script.is_here.Goals as goal
 
-pub place_of_last-last-requires-clause-subs : goal.place_of_last-last-requires-clause-subs
-place_of_last-last-requires-clause-subs c =
+pub last_node-requires-clause-subs : goal.last_node-requires-clause-subs
+last_node-requires-clause-subs c =
     let h = c.self.invariant.valid in
     let begun = subst (λ (d : ScriptData). d.begun ≡ true) (sym c.self.view_is) c.requires.begun in
-    omega (arith, some_last_subs _ _ _ h.trees (h.begun begun), ap last_subs c.deref.ensures.value)
+    omega (arith, some_last_subs _ _ _ h.trees (h.begun begun), ap last_subs c.deref-2.ensures.value)

@@ -1,11 +1,10 @@
 use Rattle.std.proofs.Common.{◌≡◌, ◌-◌, ◌<◌, length, List, arith, ap, sym, ◌∙◌, get_or}
 use Rattle.std.specs.Prelude.{Some}
 use Rattle.script_parts.specs.declared.parts.Sub.{Sub}
-use Rattle.script_parts.specs.declared.parts.SubOp.{SubOp}
 use Rattle.script_parts.specs.declared.parts.Tree.{Tree}
 use Rattle.script_parts.specs.Adding.{last_of, last_sub, last_subs}
-use Rattle.script_parts.proofs.Last.{last_at, last_subs_is, last_kind_is, last_sub_is, last_node_is, last_count_is}
-use Rattle.script_parts.proofs.lookups.place_of_last.Goals as goal
+use Rattle.script_parts.proofs.Last.{last_at, last_subs_is, last_sub_is, last_node_is}
+use Rattle.script_parts.proofs.lookups.last_node.Goals as goal
 
 tree_is : (ts : List Tree) (t : Tree) → 0 < length ts → t ≡ get_or ts (length ts - 1) t → last_of ts ≡ Some t
 tree_is ts t some is = last_at ts (length ts - 1) t (omega arith) is
@@ -26,13 +25,5 @@ overflow_sub-sub c = omega (arith, some_subs _ _ c.requires.trees c.requires.sub
 pub bounds-subs-subs : goal.bounds-subs-subs
 bounds-subs-subs c = omega (arith, some_subs _ _ c.requires.trees c.requires.subs c.index-trees-trees.is, ap (λ (x : List Sub). length x) c.items-subs.ensures.items)
 
-pub returns-clause-kind : goal.returns-clause-kind
-returns-clause-kind c = sym (last_kind_is c.args.trees.now _ (tree_is c.args.trees.now _ c.requires.trees c.index-trees-trees.is))
-
-pub returns-clause-node : goal.returns-clause-node
-returns-clause-node c = sym (last_node_is c.args.trees.now _ (sub_is _ _ _ _ c.requires.trees c.requires.subs c.index-trees-trees.is c.items-subs.ensures.items c.index-subs-subs.is))
-
-pub returns-clause-ops : goal.returns-clause-ops
-returns-clause-ops c =
-    ap (λ (x : List SubOp). length x) c.items.ensures.items
-    ∙ sym (last_count_is c.args.trees.now _ (sub_is _ _ _ _ c.requires.trees c.requires.subs c.index-trees-trees.is c.items-subs.ensures.items c.index-subs-subs.is))
+pub returns : goal.returns
+returns c = sym (last_node_is c.args.trees.now _ (sub_is _ _ _ _ c.requires.trees c.requires.subs c.index-trees-trees.is c.items-subs.ensures.items c.index-subs-subs.is))
