@@ -1,1 +1,2 @@
+pub mod Trays
 pub mod Turns

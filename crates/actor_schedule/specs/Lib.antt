@@ -1,3 +1,4 @@
+pub mod Desks
 pub mod Mailboxes
 pub mod Schedules
 pub mod Stops

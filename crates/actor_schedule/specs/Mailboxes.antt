@@ -19,9 +19,9 @@ letters_in m = m.older ++ m.newer
 abbrev pub oldest : MailboxData → Option EnvelopeData
 oldest m = slice_get (letters_in m) 0
 
--- the mailbox with this letter last, and attended to
-abbrev pub with_newest : EnvelopeData → MailboxData → MailboxData
-with_newest e m = mailbox_data m.older (m.newer ++ e ∷ []) true
+-- the mailbox with these letters last, and attended to
+abbrev pub with_newer : List EnvelopeData → MailboxData → MailboxData
+with_newer es m = mailbox_data m.older (m.newer ++ es) true
 
 -- the mailbox without its oldest letter, attended to where there was one
 abbrev pub without_oldest : MailboxData → MailboxData

@@ -1,15 +1,15 @@
 // The letters that are in flight, and the workers that look for them.
-ghost use Rattle.std.specs.Prelude.{◌≡◌, ◌<◌, length, IfErr, IfOk, IfSome};
-ghost use Rattle.actor_schedule.specs.Stops.{KeepsRest};
+ghost use Rattle.std.specs.Prelude.{◌≡◌, ◌<◌, ℕ, [], ◌++◌, drop, length, IfErr, IfOk, IfSome, OnErr, OnOk};
+ghost use Rattle.actor_schedule.specs.Desks.{desk_data, empty_trays};
 
+use crate::desk::Desk;
 use crate::mailbox::{Mailbox, mailboxes_of};
 use crate::schedule::Schedule;
-use crate::stop::{Held, RunStop, Stopped};
+use crate::stop::RunStop;
 use crossbeam_utils::CachePadded;
 use message_bag::Bag;
-use stamp_post::{Envelope, Outbox, Post, PostName};
+use stamp_post::{Envelope, PostName};
 use std::alloc::Global;
-use std::sync::atomic::{AtomicU64, Ordering};
 use std::sync::{Condvar, Mutex, Wait};
 use tv_base::NoMemory;
 
@@ -29,8 +29,6 @@ pub struct Dispatch<P: PostName> {
     actors: u8,
     mailboxes: Vec<CachePadded<Mutex<Mailbox<P>>>>,
     schedule: CachePadded<Mutex<Schedule>>,
-    // How many workers sleep and weren't notified, for those who look without the schedule's lock.
-    asleep: CachePadded<AtomicU64>,
     wakes: Condvar,
     ghost has_actors: { P.post.actors ≡ actors },
     ghost has_mailboxes: { length mailboxes.items ≡ actors },
@@ -43,7 +41,6 @@ impl<P: PostName> Drop for Dispatch<P> {
             actors: _,
             mailboxes: _,
             schedule: _,
-            asleep: _,
             wakes: _,
         } = self;
     }
@@ -59,19 +56,19 @@ impl<P: PostName> Dispatch<P> {
             actors,
             mailboxes,
             schedule: CachePadded::new(Mutex::new(Schedule::new())),
-            asleep: CachePadded::new(AtomicU64::new(0)),
             wakes: Condvar::new(),
         })
     }
 
-    /// Puts an envelope into its addressee's mailbox. It comes back if memory runs out. Where so many actors more are
-    /// ready than `own`, which the caller takes itself, a worker that sleeps is notified.
-    pub fn put<R: Wait>(
-        &self,
-        rt: &R,
-        envelope: Envelope,
-        own: u64,
-    ) -> Result<(), (NoMemory, Envelope)>
+    /// An empty desk for a worker.
+    pub fn desk(&self, alloc: Global) -> Result<Desk<P>, NoMemory>
+        ensures { IfOk result (λ d. d ≡ desk_data [] (empty_trays P.post.actors)) }
+    {
+        Desk::new(alloc, self.actors)
+    }
+
+    /// Puts an envelope into its addressee's mailbox. It comes back if memory runs out.
+    pub fn put<R: Wait>(&self, rt: &R, envelope: Envelope) -> Result<(), (NoMemory, Envelope)>
         requires { envelope.post ≡ P.post }
         ensures { IfErr result (λ e. e.1 ≡ envelope) }
     {
@@ -79,46 +76,60 @@ impl<P: PostName> Dispatch<P> {
         let lock: &Mutex<Mailbox<P>> = &self.mailboxes[to as usize];
         let put = lock.lock(rt).put(envelope);
         if put? {
-            self.mark_ready(rt, to, own);
+            self.mark_ready(rt, to, 0);
         }
         Ok(())
     }
 
-    /// Puts all letters of an outbox into their addressees' mailboxes, for a worker that takes an actor itself. Where
-    /// one finds no room, it is held with those after it.
-    pub fn put_all<R: Wait>(&self, rt: &R, post: &Post, out: Outbox) -> Result<(), Stopped>
-        requires post { post.now ≡ P.post }
-        requires out { out.post ≡ P.post }
-        ensures { IfErr result (λ s. KeepsRest P.post out.posting s.held) }
+    // Puts the letters of a tray into an actor's mailbox. Where that finds no memory they stay.
+    fn put_tray<R: Wait>(&self, rt: &R, actor: u8, tray: &mut Bag<P>) -> Result<(), NoMemory>
+        requires { actor < P.post.actors }
+        ensures ok { OnOk result (tray.new ≡ []) }
+        ensures err { OnErr result (tray.new ≡ tray.old) }
     {
-        let mut left = out;
-        while let Some(envelope) = left.next(post) {
-            if let Err((NoMemory, envelope)) = self.put(rt, envelope, 1) {
-                return Err(Stopped {
-                    stop: RunStop::NoMemory,
-                    held: Held::Unplaced(envelope, left),
-                });
-            }
+        if tray.is_empty() {
+            return Ok(());
+        }
+        let lock: &Mutex<Mailbox<P>> = &self.mailboxes[actor as usize];
+        let put = lock.lock(rt).put_all(tray);
+        if put? {
+            self.mark_ready(rt, actor, 1);
+        }
+        Ok(())
+    }
+
+    /// Puts what lies in the trays of a desk into the mailboxes, for a worker that takes an actor itself then. Where a
+    /// mailbox finds no memory, that tray and those after it are as they were.
+    pub fn flush<R: Wait>(&self, rt: &R, desk: &mut Desk<P>) -> Result<(), NoMemory>
+        ensures hand { desk.new.hand ≡ desk.old.hand }
+        ensures ok { OnOk result (desk.new.trays ≡ empty_trays P.post.actors) }
+        ensures err { IfErr result (λ _. (put : ℕ)
+            × (desk.new.trays ≡ empty_trays put ++ drop put desk.old.trays)) }
+    {
+        for actor in 0..self.actors {
+            self.put_tray(rt, actor, &mut desk.trays[actor as usize])?;
         }
         Ok(())
     }
 
     /// The oldest envelope for an actor. Those after it come into the worker's hand, which is empty. Where there is
     /// none, nobody attends to the actor any more.
-    pub fn take<R: Wait>(&self, rt: &R, actor: u8, hand: &mut Bag<P>) -> Option<Envelope>
+    pub fn take<R: Wait>(&self, rt: &R, actor: u8, desk: &mut Desk<P>) -> Option<Envelope>
         requires { actor < P.post.actors }
-        ensures { IfSome result (λ e. e.post ≡ P.post) }
+        ensures trays { desk.new.trays ≡ desk.old.trays }
+        ensures post { IfSome result (λ e. e.post ≡ P.post) }
     {
         let lock: &Mutex<Mailbox<P>> = &self.mailboxes[actor as usize];
-        lock.lock(rt).take_into(hand)
+        lock.lock(rt).take_into(&mut desk.hand)
     }
 
     /// What a worker has left in hand of an actor's letters goes back into the mailbox, before those that came since.
-    pub fn give_back<R: Wait>(&self, rt: &R, actor: u8, hand: &mut Bag<P>)
+    pub fn give_back<R: Wait>(&self, rt: &R, actor: u8, desk: &mut Desk<P>)
         requires { actor < P.post.actors }
+        ensures { desk.new.trays ≡ desk.old.trays }
     {
         let lock: &Mutex<Mailbox<P>> = &self.mailboxes[actor as usize];
-        lock.lock(rt).give_back(hand);
+        lock.lock(rt).give_back(&mut desk.hand);
     }
 
     /// The oldest envelope for the first actor that has one.
@@ -135,31 +146,12 @@ impl<P: PostName> Dispatch<P> {
         None
     }
 
-    /// An actor that wasn't ready is so now.
+    /// An actor that wasn't ready is so now. Where so many actors more are ready than `own`, which the caller takes
+    /// itself, a worker that sleeps is notified.
     pub fn mark_ready<R: Wait>(&self, rt: &R, actor: u8, own: u64) {
         let mut schedule = self.schedule.lock(rt);
         schedule.mark(actor);
         let notifies = schedule.notify(own);
-        if notifies {
-            self.asleep.store(schedule.asleep(), Ordering::SeqCst);
-        }
-        drop(schedule);
-        if notifies {
-            self.wakes.notify_one();
-        }
-    }
-
-    /// Notifies a worker that sleeps, if an actor is ready that nobody is about to take. Who has fallen asleep since
-    /// the caller last marked an actor has seen that one.
-    pub fn notify_other<R: Wait>(&self, rt: &R) {
-        if self.asleep.load(Ordering::SeqCst) == 0 {
-            return;
-        }
-        let mut schedule = self.schedule.lock(rt);
-        let notifies = schedule.notify(0);
-        if notifies {
-            self.asleep.store(schedule.asleep(), Ordering::SeqCst);
-        }
         drop(schedule);
         if notifies {
             self.wakes.notify_one();
@@ -182,7 +174,6 @@ impl<P: PostName> Dispatch<P> {
         let next = schedule.take(worker, from, self.actors);
         if next.is_none() {
             schedule.fall_asleep();
-            self.asleep.store(schedule.asleep(), Ordering::SeqCst);
             let mut up = self
                 .wakes
                 .wait_while(rt, schedule, |schedule| !schedule.wakes());

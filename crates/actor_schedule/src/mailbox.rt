@@ -1,6 +1,6 @@
 // Mailboxes, and who attends to them.
-ghost use Rattle.std.specs.Prelude.{◌≡◌, [], ◌++◌, false, not, option_to_list, length, IfErr, IfOk, IfSome, OnErr, OnOk};
-ghost use Rattle.actor_schedule.specs.Mailboxes.{mailbox_data, letters_in, oldest, with_newest, without_oldest, behind_oldest, after_hand};
+ghost use Rattle.std.specs.Prelude.{◌≡◌, [], ◌∷◌, ◌++◌, false, not, option_to_list, length, IfErr, IfOk, IfSome, OnErr, OnOk};
+ghost use Rattle.actor_schedule.specs.Mailboxes.{mailbox_data, letters_in, oldest, with_newer, without_oldest, behind_oldest, after_hand};
 
 use crossbeam_utils::CachePadded;
 use message_bag::Bag;
@@ -53,12 +53,31 @@ impl<P: PostName> Mailbox<P> {
     // Puts an envelope last. Says whether nobody attended to the actor; from now on it is ready.
     pub(crate) fn put(&mut self, envelope: Envelope) -> Result<bool, (NoMemory, Envelope)>
         requires { envelope.post ≡ P.post }
-        ensures ok { OnOk result (self.new ≡ with_newest envelope self.old) }
+        ensures ok { OnOk result (self.new ≡ with_newer (envelope ∷ []) self.old) }
         ensures was_idle { IfOk result (λ idle. idle ≡ not self.old.attended) }
         ensures refused { IfErr result (λ e. e.1 ≡ envelope) }
         ensures err { OnErr result (self.new ≡ self.old) }
     {
         self.newer.put(envelope)?;
+        let was_idle = !self.attended;
+        self.attended = true;
+        Ok(was_idle)
+    }
+
+    // Puts letters last, which leave an empty bag. Says whether nobody attended to the actor; from now on it is ready.
+    // Where no memory is found both stay as they are.
+    pub(crate) fn put_all(&mut self, letters: &mut Bag<P>) -> Result<bool, NoMemory>
+        ensures ok { OnOk result (self.new ≡ with_newer letters.old self.old) }
+        ensures emptied { OnOk result (letters.new ≡ []) }
+        ensures was_idle { IfOk result (λ idle. idle ≡ not self.old.attended) }
+        ensures err { OnErr result (self.new ≡ self.old) }
+        ensures kept { OnErr result (letters.new ≡ letters.old) }
+    {
+        if self.newer.is_empty() {
+            swap(&mut self.newer, letters);
+        } else {
+            self.newer.append(letters)?;
+        }
         let was_idle = !self.attended;
         self.attended = true;
         Ok(was_idle)
@@ -71,9 +90,9 @@ impl<P: PostName> Mailbox<P> {
         ensures whole { option_to_list result ++ letters_in self.new ≡ letters_in self.old }
         ensures post { IfSome result (λ e. e.post ≡ P.post) }
     {
-        let mut taken = self.older.take(0);
+        let mut taken = self.older.take_first();
         if taken.is_none() {
-            taken = self.newer.take(0);
+            taken = self.newer.take_first();
         }
         self.attended = taken.is_some();
         taken
@@ -87,11 +106,11 @@ impl<P: PostName> Mailbox<P> {
         ensures whole { hand.old ≡ [] → option_to_list result ++ hand.new ++ letters_in self.new ≡ letters_in self.old }
         ensures post { IfSome result (λ e. e.post ≡ P.post) }
     {
-        let mut taken = self.older.take(0);
+        let mut taken = self.older.take_first();
         if taken.is_some() {
             swap(&mut self.older, hand);
         } else {
-            taken = self.newer.take(0);
+            taken = self.newer.take_first();
             swap(&mut self.newer, hand);
         }
         self.attended = taken.is_some();

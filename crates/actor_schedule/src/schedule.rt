@@ -117,13 +117,6 @@ impl Schedule {
         self.stopped
     }
 
-    // How many workers sleep and weren't notified.
-    pub(crate) fn asleep(&self) -> u64
-        ensures { result ≡ self.now.asleep }
-    {
-        self.asleep
-    }
-
     // A worker goes to sleep.
     pub(crate) fn fall_asleep(&mut self)
         ensures { self.new ≡ record self.old { asleep = one_more self.old.asleep } }

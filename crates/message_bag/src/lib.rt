@@ -1,7 +1,7 @@
 //! Mailboxes of letters in flight, which can lie behind a lock.
 #![tactic(auto)]
 
-ghost use Rattle.std.specs.Prelude.{◌≡◌, ◌<◌, ◌%◌, ◌↔◌, [], ◌∷◌, ◌++◌, length, OnOk, OnErr, IfErr, IfSome, IsNone, Some, remove, slice_get};
+ghost use Rattle.std.specs.Prelude.{◌≡◌, ◌<◌, ◌%◌, ◌↔◌, [], ◌∷◌, ◌++◌, length, option_to_list, OnOk, OnErr, IfErr, IfSome, IsNone, IsTrue, Some, remove, slice_get};
 
 use stamp_post::{Envelope, PostName};
 use std::alloc::{AllocFailed, Global};
@@ -58,6 +58,34 @@ impl<P: PostName> Bag<P> {
             Ok(()) => Ok(()),
             Err(AllocFailed { value }) => Err((NoMemory, value)),
         }
+    }
+
+    /// Puts all envelopes of another mailbox last, in order, and leaves that one empty. Where no memory is found both stay
+    /// as they are.
+    pub fn append(&mut self, other: &mut Bag<P>) -> Result<(), NoMemory>
+        ensures ok { OnOk result (self.new ≡ self.old ++ other.old) }
+        ensures emptied { OnOk result (other.new ≡ []) }
+        ensures err { OnErr result (self.new ≡ self.old) }
+        ensures kept { OnErr result (other.new ≡ other.old) }
+    {
+        self.envelopes.append(&mut other.envelopes)?;
+        Ok(())
+    }
+
+    /// Whether it has no envelope.
+    pub fn is_empty(&self) -> bool
+        ensures { IsTrue result ↔ (self.now ≡ []) }
+    {
+        self.envelopes.is_empty()
+    }
+
+    /// Takes the oldest envelope out. None exactly where the mailbox is empty.
+    pub fn take_first(&mut self) -> Option<Envelope>
+        ensures first { self.old ≡ option_to_list result ++ self.new }
+        ensures none { IsNone result ↔ (self.old ≡ []) }
+        ensures post { IfSome result (λ e. e.post ≡ P.post) }
+    {
+        self.envelopes.pop_front()
     }
 
     /// Takes the envelope at `place` modulo the length out, and leaves the others in order. None exactly where the

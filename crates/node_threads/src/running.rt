@@ -7,7 +7,7 @@ ghost use Rattle.history_merge.specs.Histories.{HasTakenAll};
 ghost use Rattle.actor_schedule.specs.declared.stop.RunStop.TheVariants as stops;
 
 use crate::cluster::Cluster;
-use actor_schedule::{RunStop, Stopped};
+use actor_schedule::RunStop;
 use history_merge::{ClusterName, has_ended};
 use letter_types::History;
 use stamp_post::{Post, PostParts, Receipts};
@@ -43,7 +43,7 @@ fn work_all<K: ClusterName + Send + Sync, R: Threads + Wait + Sync, G: Gate + Sy
         rt,
         cluster.alloc,
         workers as usize,
-        &|worker| { cluster.serve(rt, worker as u32) },
+        &|worker| { cluster.work(rt, worker as u32) },
     )?;
     for served in all {
         served?;
@@ -55,12 +55,13 @@ fn work_all<K: ClusterName + Send + Sync, R: Threads + Wait + Sync, G: Gate + Sy
 fn deliver_rest<K: ClusterName, R: Wait, G: Gate>(
     rt: &R,
     cluster: &Cluster<'_, K, G>,
-) -> Result<(), Stopped> {
+) -> Result<(), RunStop> {
+    let mut desk = cluster.desk()?;
     for _ in rt.forever() {
         let Some(envelope) = cluster.dispatch.take_any(rt) else {
             break;
         };
-        let _finished = cluster.pass_on(rt, envelope)?;
+        cluster.pass_on(rt, envelope, &mut desk)?;
     }
     Ok(())
 }
