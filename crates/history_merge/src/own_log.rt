@@ -1,5 +1,5 @@
 // An actor's own log: its entries, and the seat by which they are stamped.
-ghost use Rattle.std.specs.Prelude.{◌≡◌, ◌+◌, ◌<◌, [], OnErr, OnOk, length, map, None};
+ghost use Rattle.std.specs.Prelude.{◌≡◌, ◌+◌, ◌<◌, [], IfOk, OnErr, OnOk, length, map, None};
 ghost use Rattle.letter_types.specs.Postal.{delivery_of};
 ghost use Rattle.stamp_post.specs.Logs.{most};
 ghost use Rattle.stamp_post.specs.Shown.{seat_data};
@@ -62,18 +62,25 @@ pub struct Sent {
 }
 
 impl<K: ClusterName> OwnLog<K> {
-    /// The log of an actor that has no entry, with its seat.
-    pub fn new(alloc: Global, number: u8, seat: ActorSeat) -> OwnLog<K>
+    /// The log of an actor that has no entry, with its seat, and room for so many entries. It grows where there are
+    /// more.
+    pub fn new(
+        alloc: Global,
+        number: u8,
+        seat: ActorSeat,
+        room: usize,
+    ) -> Result<OwnLog<K>, NoMemory>
         requires { seat ≡ seat_data K.post number [] None None }
-        ensures number { result.number ≡ number }
-        ensures entries { result.entries ≡ [] }
+        ensures number { IfOk result (λ log. log.number ≡ number) }
+        ensures entries { IfOk result (λ log. log.entries ≡ []) }
     {
-        OwnLog {
+        let entries = Vec::with_capacity(alloc, room)?;
+        Ok(OwnLog {
             number,
-            entries: Vec::new(alloc),
+            entries,
             seat,
             name: PhantomData,
-        }
+        })
     }
 
     /// The actor's number.

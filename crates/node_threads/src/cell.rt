@@ -40,12 +40,13 @@ impl<K: ClusterName> Drop for ActorCell<K> {
 }
 
 impl<K: ClusterName> ActorCell<K> {
-    /// The actor of a seat as a run of the script begins.
+    /// The actor of a seat as a run of the script begins, with room for so many entries.
     pub(crate) fn start(
         alloc: Global,
         script: &Script,
         number: u8,
         seat: ActorSeat,
+        room: usize,
     ) -> Result<ActorCell<K>, NoMemory>
         requires script { script.now ≡ K.script }
         requires post { K.post.actors ≡ K.script.nodes + 2 }
@@ -54,7 +55,7 @@ impl<K: ClusterName> ActorCell<K> {
         ensures { IfOk result (λ cell. cell ≡ cell_data number []) }
     {
         let state = ActorState::start(alloc, script, ActorNo(number))?;
-        let log = OwnLog::new(alloc, number, seat);
+        let log = OwnLog::new(alloc, number, seat, room)?;
         Ok(ActorCell { log, state })
     }
 

@@ -76,6 +76,16 @@ impl<'a, K: ClusterName, G: Gate> Drop for Cluster<'a, K, G> {
     }
 }
 
+// How many entries a node is expected to have: as many letters tell it of subtransactions as it runs, and about as many
+// notices come back. A guess is enough, since logs grow; with it they grow seldom.
+fn expected_entries(script: &Script) -> usize {
+    let mut subs: usize = 0;
+    for tree in script.trees() {
+        subs = subs.saturating_add(tree.subs.items().len());
+    }
+    subs.saturating_mul(2) / script.nodes().max(1) as usize
+}
+
 // A cell for each actor.
 fn cells_of<K: ClusterName>(
     alloc: Global,
@@ -88,13 +98,14 @@ fn cells_of<K: ClusterName>(
     requires seats { seats ≡ new_seats K.post 0 actors }
     ensures { IfOk result (λ cells. length cells.items ≡ actors) }
 {
+    let room = expected_entries(script);
     let mut left = seats;
     let mut cells = Vec::new(alloc);
     for number in 0..actors {
         let Some(seat) = left.take_first() else {
             unreachable!()
         };
-        let cell = ActorCell::<K>::start(alloc, script, number, seat)?;
+        let cell = ActorCell::<K>::start(alloc, script, number, seat, room)?;
         cells.push(CachePadded::new(Mutex::new(cell)))?;
     }
     Ok(cells)
