@@ -98,8 +98,8 @@ impl<'a, K: ClusterName, G: Gate> Cluster<'a, K, G> {
         }
     }
 
-    // Serves an actor: a turn of letters, or all that lie in its mailbox. What comes out is put at the end. Where more
-    // may lie in the mailbox, the actor is ready again.
+    // Serves an actor: a turn of letters, or all that lie in its mailbox. What comes out is put at the end, and what is
+    // left in hand goes back into the mailbox, also where it stops. Where more may lie there, the actor is ready again.
     fn take_turn<R: Wait>(&self, rt: &R, actor: u8, desk: &mut Desk<K>) -> Result<(), Stopped>
         requires { actor < K.post.actors }
         ensures { IfErr result (λ s. AreOfPost K.post s.held) }
@@ -108,17 +108,22 @@ impl<'a, K: ClusterName, G: Gate> Cluster<'a, K, G> {
             let Some(envelope) = self.next_letter(rt, actor, desk) else {
                 return self.flush(rt, desk);
             };
-            if self.deliver_to_desk(rt, envelope, desk)? {
-                self.dispatch.finish(rt);
+            match self.deliver_to_desk(rt, envelope, desk) {
+                Ok(true) => self.dispatch.finish(rt),
+                Ok(false) => {}
+                Err(stopped) => {
+                    self.dispatch.give_back(rt, actor, desk);
+                    return Err(stopped);
+                }
             }
         }
-        self.flush(rt, desk)?;
         self.dispatch.give_back(rt, actor, desk);
+        self.flush(rt, desk)?;
         self.dispatch.mark_ready(rt, actor, 1);
         Ok(())
     }
 
-    // The same. Where it stops, it tells the others, and what is in hand goes back into the mailbox.
+    // The same. Where it stops, it tells the others.
     fn serve_actor<R: Wait>(&self, rt: &R, actor: u8, desk: &mut Desk<K>) -> Result<(), Stopped>
         requires { actor < K.post.actors }
         ensures { IfErr result (λ s. AreOfPost K.post s.held) }
@@ -126,7 +131,6 @@ impl<'a, K: ClusterName, G: Gate> Cluster<'a, K, G> {
         let served = self.take_turn(rt, actor, desk);
         if let Err(stopped) = &served {
             self.dispatch.stop(rt, stopped.stop);
-            self.dispatch.give_back(rt, actor, desk);
         }
         served
     }
