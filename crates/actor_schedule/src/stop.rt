@@ -10,8 +10,8 @@ pub enum RunStop {
     NoMemory,
     /// What lies under an actor's lock is another actor. No clause rules that out, and no run comes to it.
     Misplaced,
-    /// No letter lies in a mailbox any more, but the client hasn't finished, or a letter that was sent wasn't taken. No
-    /// clause rules that out, and no run comes to it.
+    /// No letter lies in a mailbox any more, but the client hasn't finished, a letter that was sent wasn't taken, or an
+    /// entry that was made isn't recorded. No clause rules that out, and no run comes to it.
     Unfinished,
 }
 

@@ -1,10 +1,9 @@
 -- What is gathered of all actors is a run of the script, which has each receipt's entry.
-use Rattle.std.proofs.Common.{◌≡◌, ℕ, zero, suc, ◌+◌, ◌-◌, ◌<◌, ◌==◌, Bool, true, false, List, [], ◌∷◌, ◌++◌, length, map, filter, refl, sym, ap, ◌∙◌, subst, arith, append_assoc, None, Some, ◌⊎◌, inl, inr}
-use Rattle.std.specs.Prelude.{if◌then◌else◌, slice_get, sum_by}
-use Rattle.std.proofs.lemmas.Bool.Decides.{nat_tests}
+use Rattle.std.proofs.Common.{◌≡◌, ℕ, zero, suc, ◌+◌, ◌-◌, ◌<◌, List, [], ◌∷◌, ◌++◌, length, map, refl, sym, ap, ◌∙◌, subst, arith, append_assoc, None, Some, ◌⊎◌, inl, inr}
+use Rattle.std.specs.Prelude.{slice_get, sum_by}
 use Rattle.std.proofs.lemmas.List.{length-map, map-append}
 use Rattle.std.proofs.lemmas.Option.{same_Some}
-use Rattle.tv_base.proofs.ByPlace.{slice_get_split, get_map, get_some}
+use Rattle.tv_base.proofs.ByPlace.{slice_get_left, slice_get_split, get_map, get_some}
 use Rattle.letter_types.specs.declared.entries.Entry.{Entry}
 use Rattle.letter_types.specs.declared.entries.Letter.{Letter}
 use Rattle.letter_types.specs.declared.entries.Posting.{Posting}
@@ -22,6 +21,9 @@ use Rattle.world_model.specs.Runs.{IsRunOf, IsWorldRun, after}
 use Rattle.world_model.specs.Tables.{actor_row, start_actor}
 use Rattle.history_merge.specs.Histories.{HasReceiptEntry, last_acts}
 use Rattle.history_merge.specs.Merging.{AllRun, IsLogOf, IsMerged, IsWholeLog, joined_from}
+use Rattle.history_merge.specs.Recording.{AreRecorded}
+use Rattle.history_merge.proofs.Lefts.{left}
+use Rattle.history_merge.proofs.Merges.{merged}
 use Rattle.history_merge.proofs.OneMore.{acts_more}
 use Rattle.history_merge.proofs.Parts.{rows_together, sum_rows}
 
@@ -85,30 +87,6 @@ world_run s rows log h postal runs long merged = record {
       let row = get_some rows a (omega arith) in
       subst (λ (es : List Entry). IsRunOf (actor_row s a) (start_actor s a) es) (sym (merged.own a row.0 row.1)) (runs a row.0 row.1);
 }
-
--- an item that a filter by number leaves
-record Left {X : Type 0} (f : X → ℕ) (a : ℕ) (l : List X) (x : X) : Type 0 where
-  pub place : ℕ
-  pub at : slice_get l place ≡ Some x
-  pub is : f x ≡ a
-
-left_later : {X : Type 0} (f : X → ℕ) (a : ℕ) (y : X) (l : List X) (x : X) → Left f a l x → Left f a (y ∷ l) x
-left_later f a y l x h = record { place = suc h.place; at = h.at; is = h.is }
-
-left_by : {X : Type 0} (f : X → ℕ) (a : ℕ) (y : X) (l rest : List X) (b : Bool) (xs : List X) (x : X) (ys : List X) → (f y == a) ≡ b
-    → ((zs : List X) → rest ≡ zs ++ (x ∷ ys) → Left f a l x)
-    → (if b then y ∷ rest else rest) ≡ xs ++ (x ∷ ys) → Left f a (y ∷ l) x
-left_by f a y l rest true [] x ys mine h is =
-    let same : y ≡ x = cc is in
-    record { place = 0; at = ap (λ (z : _). Some z) same; is = ap f (sym same) ∙ grind (arith, nat_tests) }
-left_by f a y l rest true (z ∷ xs) x ys mine h is = left_later f a y l x (h xs (cc is))
-left_by f a y l rest false xs x ys mine h is = left_later f a y l x (h xs is)
-
-left : {X : Type 0} (f : X → ℕ) (a : ℕ) (l xs : List X) (x : X) (ys : List X) → filter (λ z. f z == a) l ≡ xs ++ (x ∷ ys) → Left f a l x
-left f a [] [] x ys is = absurd (cc is)
-left f a [] (z ∷ xs) x ys is = absurd (cc is)
-left f a (y ∷ l) xs x ys is =
-    left_by f a y l (filter (λ z. f z == a) l) (f y == a) xs x ys refl (λ zs at. left f a l zs x ys at) is
 
 -- entries whose postings are cut at one
 record Cut (es : List Entry) (before : List Posting) (p : Posting) : Type 0 where
@@ -222,16 +200,39 @@ pub all_counted : {X : Type 0} (f : X → List Entry) (count : ℕ) (rows : List
 all_counted f count rows cells (log, is) same =
     sym (as_many count log rows is) ∙ ap (sum_by (length {A = Entry})) same ∙ sum_rows f cells
 
--- what is said once all is gathered and merged
-pub finishes_as : (s : ScriptData) (actors n count : ℕ) (seats : List JoinedSeat) (rows : List (List Entry)) (receipts : List ReceiptData) (h : List Entry)
-    → n ≡ actors → seats ≡ joined_from 0 rows → ((g : Gathers n seats (map receipt_joined receipts)) × (length g.log ≡ count))
-    → AllRun s rows → length rows ≡ actors → actors ≡ s.nodes + 2
-    → ((log : List Posting) → IsLogOf log rows → length log ≡ count → IsMerged log rows h)
+get_right : {X : Type 0} (xs ys : List X) (k : ℕ) (y : X) → slice_get ys k ≡ Some y → slice_get (xs ++ ys) (length xs + k) ≡ Some y
+get_right [] ys k y at = let here : 0 + k ≡ k = omega arith in ap (slice_get ys) here ∙ at
+get_right (x ∷ xs) ys k y at =
+    let there : suc (length xs) + k ≡ suc (length xs + k) = omega arith in ap (slice_get (x ∷ (xs ++ ys))) there ∙ get_right xs ys k y at
+
+-- what is gathered of receipts that are joined behind others
+gathers_last : (actors : ℕ) (seats : List JoinedSeat) (known told : List JoinedReceipt) → Gathers actors seats (known ++ told) → Gathers actors seats told
+gathers_last actors seats known told g = record {
+  log = g.log;
+  postal = g.postal;
+  own = g.own;
+  stands = λ k r at. g.stands (length known + k) r (get_right known told k r at);
+  begins = λ k r at. g.begins (length known + k) r (get_right known told k r at);
+}
+
+-- what is said once all is gathered, where as many entries are recorded
+pub finishes_as : (s : ScriptData) (actors n count : ℕ) (seats : List JoinedSeat) (rows : List (List Entry)) (known : List JoinedReceipt)
+    (receipts : List ReceiptData) (h : List Entry) → n ≡ actors → seats ≡ joined_from 0 rows
+    → ((g : Gathers n seats (known ++ map receipt_joined receipts)) × (length g.log ≡ count))
+    → AllRun s rows → length rows ≡ actors → actors ≡ s.nodes + 2 → length h ≡ count → AreRecorded s known h
     → IsWorldRun s h × ((k : ℕ) (r : ReceiptData) → slice_get receipts k ≡ Some r → HasReceiptEntry s h r)
-finishes_as s actors n count seats rows receipts h same joined gathered runs long all merges =
-    let g = of_rows actors n count seats rows (map receipt_joined receipts) same joined gathered in
-    let merged : IsMerged g.0.log rows h = merges g.0.log (is_log actors rows (map receipt_joined receipts) g.0) g.1 in
+unfolding gathers_last of_rows
+finishes_as s actors n count seats rows known receipts h same joined gathered runs long all many recorded =
+    let g = of_rows actors n count seats rows (known ++ map receipt_joined receipts) same joined gathered in
+    let whole : IsWholeLog count g.0.log rows = record {
+      log_of = is_log actors rows (known ++ map receipt_joined receipts) g.0;
+      long = g.1;
+      known = λ k p at. omega (arith, g.0.postal.known k p at, long);
+    } in
+    let is : IsMerged g.0.log rows h =
+    merged s count rows g.0.log known h whole runs many
+    (λ k r at. g.0.begins k r (slice_get_left known (map receipt_joined receipts) k r at)) recorded in
     let client : actors - 1 ≡ client_of s = omega arith in (
-      world_run s rows g.0.log h (subst (λ (m : ℕ). IsMessageRun m g.0.log) client g.0.postal) runs (long ∙ all) merged,
-      told s actors rows receipts h g.0 runs long (omega arith) merged,
+      world_run s rows g.0.log h (subst (λ (m : ℕ). IsMessageRun m g.0.log) client g.0.postal) runs (long ∙ all) is,
+      told s actors rows receipts h (gathers_last actors (joined_from 0 rows) known (map receipt_joined receipts) g.0) runs long (omega arith) is,
     )

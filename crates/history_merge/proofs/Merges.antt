@@ -1,20 +1,25 @@
--- The actors' entries, merged by stamp into one history.
-use Rattle.std.proofs.Common.{◌≡◌, ◌≢◌, ℕ, zero, suc, ◌+◌, ◌<◌, ◌≤◌, ◌==◌, Bool, true, false, List, [], ◌∷◌, ◌++◌, length, map, take, drop, get_or, refl, sym, ap, ◌∙◌, subst, arith, append_assoc, Some, ◌⊎◌, inl, inr}
-use Rattle.std.specs.Prelude.{if◌then◌else◌, slice_get, slice_set}
+-- What was recorded is the entries of all actors by stamp.
+use Rattle.std.proofs.Common.{◌≡◌, ℕ, zero, suc, ◌+◌, ◌<◌, ◌≤◌, ◌≢◌, ◌==◌, Bool, true, false, List, [], ◌∷◌, ◌++◌, length, map, get_or, refl, sym, ap, ◌∙◌, subst, arith, append_assoc, Some, ◌⊎◌, inl, inr}
+use Rattle.std.specs.Prelude.{if◌then◌else◌, slice_get}
 use Rattle.std.proofs.lemmas.Bool.{cases_eq}
 use Rattle.std.proofs.lemmas.Bool.Decides.{nat_tests}
-use Rattle.std.proofs.lemmas.List.{append-nil, length-set, map-append, take_all}
-use Rattle.std.proofs.Math.ListN.{drop_of_length-le}
-use Rattle.std.proofs.lemmas.List.Elements.{filter-append}
-use Rattle.std.proofs.lemmas.Option.{same_Some, slice_get_within}
-use Rattle.tv_base.proofs.ByPlace.{get_set_other, get_set_same, get_some}
+use Rattle.std.proofs.lemmas.List.{length-map, map-append}
+use Rattle.std.proofs.lemmas.Option.{same_Some}
+use Rattle.tv_base.proofs.ByPlace.{get_map, get_some, slice_get_last, slice_get_left}
 use Rattle.letter_types.specs.declared.entries.Entry.{Entry}
 use Rattle.letter_types.specs.declared.entries.Posting.{Posting}
 use Rattle.letter_types.specs.Letters.{own}
 use Rattle.letter_types.specs.Postal.{delivery_of}
-use Rattle.stamp_post.specs.Logs.{own_postings}
-use Rattle.history_merge.specs.Merging.{IsLogOf, IsMerged, IsWholeLog}
-use Rattle.history_merge.specs.inside.Taking.{FirstHas, NoneHas, Taken}
+use Rattle.letter_types.proofs.Postings.{entry_at}
+use Rattle.stamp_post.specs.declared.rule.JoinedReceipt.{JoinedReceipt}
+use Rattle.stamp_post.specs.Logs.{AreFirst, own_postings}
+use Rattle.tx_trees.specs.ScriptData.{ScriptData}
+use Rattle.world_model.specs.Tables.{actor_row, start_actor}
+use Rattle.history_merge.specs.Histories.{entries_by}
+use Rattle.history_merge.specs.Merging.{AllRun, IsMerged, IsWholeLog}
+use Rattle.history_merge.specs.Recording.{AreRecorded, FirstHas, Vouches}
+use Rattle.history_merge.proofs.Lefts.{left}
+use Rattle.history_merge.proofs.OneMore.{entries_front, entries_of_run, postings_of}
 
 -- The stamps are m, m + 1 and on.
 abbrev From : ℕ → List Posting → Type 0
@@ -31,189 +36,154 @@ from_of : (m : ℕ) (log : List Posting) → ((k : ℕ) (p : Posting) → slice_
 from_of m [] h = tt
 from_of m (p ∷ ps) h = (h 0 p refl ∙ omega arith, from_of (m + 1) ps (λ k x at. h (suc k) x at ∙ omega arith))
 
-from_drop : (k m : ℕ) (log : List Posting) → From m log → From (m + k) (drop k log)
-from_drop zero m log h = subst (λ (x : ℕ). From x log) (omega arith) h
-from_drop (suc k) m [] h = tt
-from_drop (suc k) m (p ∷ ps) h = subst (λ (x : ℕ). From x (drop k ps)) (omega arith) (from_drop k (m + 1) ps h.1)
+-- an actor's posting has a stamp from m on
+above_by : (b : Bool) (m k : ℕ) (p x : Posting) (ps : List Posting) → p.stamp.0 ≡ m
+    → ((j : ℕ) → slice_get ps j ≡ Some x → m + 1 ≤ x.stamp.0) → slice_get (if b then p ∷ ps else ps) k ≡ Some x → m ≤ x.stamp.0
+above_by true m zero p x ps is later at = let same : p ≡ x = cc at in omega (arith, is, ap (λ (y : Posting). y.stamp.0) same)
+above_by true m (suc k) p x ps is later at = omega (arith, later k at)
+above_by false m k p x ps is later at = omega (arith, later k at)
 
--- an actor's first posting has a stamp from m on
-above_by : (b : Bool) (m : ℕ) (p x : Posting) (ps xs : List Posting) → p.stamp.0 ≡ m
-    → ((ys : List Posting) → ps ≡ x ∷ ys → m + 1 ≤ x.stamp.0) → (if b then p ∷ ps else ps) ≡ x ∷ xs → m ≤ x.stamp.0
-above_by true m p x ps xs at h is = let same : p ≡ x = cc is in omega (arith, ap (λ (y : Posting). y.stamp.0) same)
-above_by false m p x ps xs at h is = omega (arith, h xs is)
+above : (a m k : ℕ) (log : List Posting) (x : Posting) → From m log → slice_get (own_postings a log) k ≡ Some x → m ≤ x.stamp.0
+above a m k [] x h at = absurd (cc at)
+above a m k (p ∷ ps) x h at = above_by (p.actor.0 == a) m k p x (own_postings a ps) h.0 (λ j there. above a (m + 1) j ps x h.1 there) at
 
-above : (a m : ℕ) (log : List Posting) (x : Posting) (xs : List Posting) → From m log → own_postings a log ≡ x ∷ xs → m ≤ x.stamp.0
-above a m [] x xs h is = absurd (cc is)
-above a m (p ∷ ps) x xs h is =
-    above_by (p.actor.0 == a) m p x (own_postings a ps) xs h.0 (λ ys at. above a (m + 1) ps x ys h.1 at) is
+-- an actor has a posting once
+once_by : (b : Bool) (m i j : ℕ) (p x : Posting) (ps : List Posting) → p.stamp.0 ≡ m
+    → ((k : ℕ) → slice_get ps k ≡ Some x → m + 1 ≤ x.stamp.0)
+    → ((k n : ℕ) → slice_get ps k ≡ Some x → slice_get ps n ≡ Some x → k ≡ n)
+    → slice_get (if b then p ∷ ps else ps) i ≡ Some x → slice_get (if b then p ∷ ps else ps) j ≡ Some x → i ≡ j
+once_by true m zero zero p x ps is later rest at at' = refl
+once_by true m zero (suc j) p x ps is later rest at at' =
+    let same : p ≡ x = cc at in absurd (omega (arith, is, ap (λ (y : Posting). y.stamp.0) same, later j at'))
+once_by true m (suc i) zero p x ps is later rest at at' =
+    let same : p ≡ x = cc at' in absurd (omega (arith, is, ap (λ (y : Posting). y.stamp.0) same, later i at))
+once_by true m (suc i) (suc j) p x ps is later rest at at' = ap suc (rest i j at at')
+once_by false m i j p x ps is later rest at at' = rest i j at at'
 
--- an actor's first posting is the first of all, where it has the first stamp
-next_by : (b : Bool) (a m : ℕ) (p x : Posting) (ps xs : List Posting) → (p.actor.0 == a) ≡ b → From (m + 1) ps → x.stamp.0 ≡ m
-    → (if b then p ∷ own_postings a ps else own_postings a ps) ≡ x ∷ xs
-    → (p ≡ x) × (p.actor.0 ≡ a) × (own_postings a ps ≡ xs)
-next_by true a m p x ps xs mine h at is = (cc is, grind (arith, nat_tests), cc is)
-next_by false a m p x ps xs mine h at is = absurd (omega (arith, above a (m + 1) ps x xs h is))
+once : (a m i j : ℕ) (log : List Posting) (x : Posting) → From m log → slice_get (own_postings a log) i ≡ Some x
+    → slice_get (own_postings a log) j ≡ Some x → i ≡ j
+once a m i j [] x h at at' = absurd (cc at)
+once a m i j (p ∷ ps) x h at at' =
+    once_by (p.actor.0 == a) m i j p x (own_postings a ps) h.0 (λ k there. above a (m + 1) k ps x h.1 there)
+    (λ k n one two. once a (m + 1) k n ps x h.1 one two) at at'
 
--- what is first
-pub record Next (a : ℕ) (log : List Posting) (x : Posting) (xs : List Posting) : Type 0 where
-  pub rest : List Posting
-  pub whole : log ≡ x ∷ rest
-  pub mine : x.actor.0 ≡ a
-  pub left : own_postings a rest ≡ xs
+-- lists that have the same at each place
+same_by_place : {X : Type 0} (xs ys : List X) → length xs ≡ length ys → ((k : ℕ) (x : X) → slice_get xs k ≡ Some x → slice_get ys k ≡ Some x)
+    → xs ≡ ys
+same_by_place [] [] long h = refl
+same_by_place [] (y ∷ ys) long h = absurd (omega (arith, long))
+same_by_place (x ∷ xs) [] long h = absurd (omega (arith, long))
+same_by_place (x ∷ xs) (y ∷ ys) long h =
+    let same : y ≡ x = cc (h 0 x refl) in
+    let less : length xs ≡ length ys = omega (arith, long) in
+    λ k. sym same k ∷ same_by_place xs ys less (λ j z at. h (suc j) z at) k
 
-next : (a m : ℕ) (log : List Posting) (x : Posting) (xs : List Posting) → From m log → own_postings a log ≡ x ∷ xs → x.stamp.0 ≡ m
-    → Next a log x xs
-next a m [] x xs h is at = absurd (cc is)
-next a m (p ∷ ps) x xs h is at =
-    let r = next_by (p.actor.0 == a) a m p x ps xs refl h.1 at is in
-    record { rest = ps; whole = ap (λ y. y ∷ ps) r.0; mine = ap (λ (y : Posting). y.actor.0) (sym r.0) ∙ r.1; left = r.2 }
+-- an actor's own entries have its own postings
+own_by : (b : Bool) (e : Entry) (es : List Entry) (ps : List Posting) → map delivery_of es ≡ ps
+    → map delivery_of (if b then e ∷ es else es) ≡ (if b then delivery_of e ∷ ps else ps)
+own_by true e es ps is = ap (λ (xs : List Posting). delivery_of e ∷ xs) is
+own_by false e es ps is = is
 
-drop_next : (k : ℕ) (log : List Posting) (x : Posting) (rest : List Posting) → drop k log ≡ x ∷ rest
-    → (drop (suc k) log ≡ rest) × (take (suc k) log ≡ take k log ++ x ∷ [])
-drop_next zero [] x rest is = absurd (cc is)
-drop_next zero (p ∷ ps) x rest is = (cc is, (let same : p ≡ x = cc is in ap (λ y. y ∷ []) same))
-drop_next (suc k) [] x rest is = absurd (cc is)
-drop_next (suc k) (p ∷ ps) x rest is = let r = drop_next k ps x rest is in (r.0, ap (λ ys. p ∷ ys) r.1)
+own_posted : (a : ℕ) (h : List Entry) → map delivery_of (own a h) ≡ own_postings a (map delivery_of h)
+own_posted a [] = refl
+own_posted a (e ∷ h) = own_by (e.actor.0 == a) e (own a h) (own_postings a (map delivery_of h)) (own_posted a h)
 
-rest_by : (b : Bool) (p : Posting) (ps : List Posting) → b ≡ false → (if b then p ∷ ps else ps) ≡ ps
-rest_by b p ps is = rw is refl
+-- where an entry of an actor's own is
+record Found (h : List Entry) (a : ℕ) (e : Entry) : Type 0 where
+  pub place : ℕ
+  pub at : slice_get h place ≡ Some e
+  pub mine : e.actor.0 ≡ a
 
-other_rest : (a b : ℕ) (x : Posting) (rest : List Posting) → x.actor.0 ≡ b → b ≢ a → own_postings a (x ∷ rest) ≡ own_postings a rest
-other_rest a b x rest mine ne = let no : (x.actor.0 == a) ≡ false = grind (arith, nat_tests) in rest_by (x.actor.0 == a) x (own_postings a rest) no
+later : (h : List Entry) (a : ℕ) (x e : Entry) → Found h a e → Found (x ∷ h) a e
+later h a x e f = record { place = suc f.place; at = f.at; mine = f.mine }
 
-one_by : (b c : Bool) (e : Entry) → b ≡ c → (if b then e ∷ [] else []) ≡ (if c then e ∷ [] else [])
-one_by b c e is = rw is refl
+found_by : (b : Bool) (h es : List Entry) (a k : ℕ) (x e : Entry) → (x.actor.0 == a) ≡ b → ((j : ℕ) → slice_get es j ≡ Some e → Found h a e)
+    → slice_get (if b then x ∷ es else es) k ≡ Some e → Found (x ∷ h) a e
+found_by true h es a zero x e mine rest at =
+    let same : x ≡ e = cc at in
+    record { place = 0; at = ap (λ (z : Entry). Some z) same; mine = ap (λ (z : Entry). z.actor.0) (sym same) ∙ grind (arith, nat_tests) }
+found_by true h es a (suc k) x e mine rest at = later h a x e (rest k at)
+found_by false h es a k x e mine rest at = later h a x e (rest k at)
 
-own_last : (a : ℕ) (all : List Entry) (e : Entry) → e.actor.0 ≡ a → own a (all ++ e ∷ []) ≡ own a all ++ e ∷ []
-own_last a all e mine =
-    let yes' : (e.actor.0 == a) ≡ true = grind (arith, nat_tests) in
-    filter-append (λ (x : Entry). x.actor.0 == a) all (e ∷ []) ∙ ap (λ (es : List Entry). own a all ++ es) (one_by (e.actor.0 == a) true e yes')
+found : (h : List Entry) (a k : ℕ) (e : Entry) → slice_get (own a h) k ≡ Some e → Found h a e
+found [] a k e at = absurd (cc at)
+found (x ∷ h) a k e at = found_by (x.actor.0 == a) h (own a h) a k x e refl (λ j there. found h a j e there) at
 
-own_same : (a : ℕ) (all : List Entry) (e : Entry) → e.actor.0 ≢ a → own a (all ++ e ∷ []) ≡ own a all
-own_same a all e other =
-    let no' : (e.actor.0 == a) ≡ false = grind (arith, nat_tests) in
-    filter-append (λ (x : Entry). x.actor.0 == a) all (e ∷ []) ∙ ap (λ (es : List Entry). own a all ++ es) (one_by (e.actor.0 == a) false e no')
-    ∙ append-nil (own a all)
+-- an entry that one vouches for is in the log, and is one of its actor's
+record Known (rows : List (List Entry)) (log : List Posting) (e : Entry) : Type 0 where
+  pub place : ℕ
+  pub posted : slice_get log place ≡ Some (delivery_of e)
+  pub stamp : e.stamp.0 ≡ place + 1
+  pub row : List Entry
+  pub at : slice_get rows e.actor.0 ≡ Some row
+  pub in_row : ℕ
+  pub there : slice_get row in_row ≡ Some e
 
--- one actor, once k entries are in order: what is left of its entries
-pub record Row (log : List Posting) (k : ℕ) (all : List Entry) (first rows : List (List Entry)) (a : ℕ) : Type 0 where
-  pub begun : List Entry
-  pub left : List Entry
-  pub was : slice_get first a ≡ Some begun
-  pub at : slice_get rows a ≡ Some left
-  pub next : map delivery_of left ≡ own_postings a (drop k log)
-  pub whole : begun ≡ own a all ++ left
-
--- what holds once k entries are in order
-pub record Merging (log : List Posting) (k : ℕ) (all : List Entry) (first rows : List (List Entry)) : Type 0 where
-  pub front : map delivery_of all ≡ take k log
-  pub long : length rows ≡ length first
-  pub each : (a : ℕ) → a < length first → Row log k all first rows a
-
--- no entry is in order yet
-pub starts : (log : List Posting) (rows : List (List Entry)) → IsLogOf log rows → Merging log 0 [] rows rows
-starts log rows is = record {
-  front = refl;
-  long = refl;
-  each = λ a lt. let there = get_some rows a lt in record {
-    begun = there.0;
-    left = there.0;
-    was = there.1;
-    at = there.1;
-    next = is.own a there.0 there.1;
-    whole = refl;
-  };
-}
-
-row_more : (log : List Posting) (k : ℕ) (all : List Entry) (first rows : List (List Entry)) (b : ℕ) (e : Entry) (left : List Entry) (rest : List Posting)
-    → slice_get rows b ≡ Some (e ∷ left) → drop k log ≡ delivery_of e ∷ rest → e.actor.0 ≡ b → own_postings b rest ≡ map delivery_of left
-    → drop (k + 1) log ≡ rest → b < length rows → (a : ℕ) → Row log k all first rows a → (b ≡ a) ⊎ (b ≢ a)
-    → Row log (k + 1) (all ++ e ∷ []) first (slice_set rows b left) a
-row_more log k all first rows b e left rest there whole mine own_left after lt a r (inl same) =
-    let eq : r.left ≡ e ∷ left = same_Some r.left (e ∷ left) (sym r.at ∙ subst (λ (j : ℕ). slice_get rows j ≡ Some (e ∷ left)) same there) in
+known : (s : ScriptData) (count : ℕ) (rows : List (List Entry)) (log : List Posting) (r : JoinedReceipt) (e : Entry)
+    → IsWholeLog count log rows → AllRun s rows → AreFirst log r.number r.own → Vouches s r e → Known rows log e
+known s count rows log r e whole runs (rest, first) (before, last) =
+    let n = r.number in
+    let row = actor_row s n in
+    let st = start_actor s n in
+    let told : r.own ≡ map delivery_of before ++ delivery_of e ∷ [] =
+    sym (postings_of row st r.own) ∙ ap (map delivery_of) last ∙ map-append delivery_of before (e ∷ []) in
+    let cut : own_postings n log ≡ map delivery_of before ++ (delivery_of e ∷ rest) =
+    first ∙ ap (λ (ps : List Posting). ps ++ rest) told ∙ append_assoc (map delivery_of before) (delivery_of e ∷ []) rest in
+    let mine = left (λ (p : Posting). p.actor.0) n log (map delivery_of before) (delivery_of e) rest cut in
+    let there = get_some rows n (omega (arith, mine.is, whole.known mine.place (delivery_of e) mine.at)) in
+    let es = there.0 in
+    let front = entries_front row st r.own rest in
+    let split : es ≡ (before ++ e ∷ []) ++ front.0 =
+    sym (entries_of_run row st es (runs n es there.1)) ∙ ap (entries_by s n) (whole.log_of.own n es there.1 ∙ first) ∙ front.1
+    ∙ ap (λ (xs : List Entry). xs ++ front.0) last in
     record {
-      begun = r.begun;
-      left = left;
-      was = r.was;
-      at = subst (λ (j : ℕ). slice_get (slice_set rows b left) j ≡ Some left) same (get_set_same rows b left lt);
-      next = sym own_left ∙ (λ i. own_postings (same i) (sym after i));
-      whole = r.whole ∙ ap (λ (es : List Entry). own a all ++ es) eq ∙ sym (append_assoc (own a all) (e ∷ []) left)
-          ∙ ap (λ (es : List Entry). es ++ left) (sym (own_last a all e (mine ∙ same)));
-    }
-row_more log k all first rows b e left rest there whole mine own_left after lt a r (inr ne) =
-    record {
-      begun = r.begun;
-      left = r.left;
-      was = r.was;
-      at = get_set_other rows b a left ne ∙ r.at;
-      next = r.next ∙ ap (own_postings a) whole ∙ other_rest a b (delivery_of e) rest mine ne ∙ ap (own_postings a) (sym after);
-      whole = r.whole ∙ ap (λ (es : List Entry). es ++ r.left) (sym (own_same a all e (λ is. ne (sym mine ∙ is))));
+      place = mine.place;
+      posted = mine.at;
+      stamp = whole.log_of.stamps mine.place (delivery_of e) mine.at;
+      row = es;
+      at = subst (λ (j : ℕ). slice_get rows j ≡ Some es) (sym mine.is) there.1;
+      in_row = length before;
+      there = ap (λ (xs : List Entry). slice_get xs (length before)) split
+          ∙ slice_get_left (before ++ e ∷ []) front.0 (length before) e (slice_get_last before e);
     }
 
--- one entry more
-pub merges : (log : List Posting) (k : ℕ) (all : List Entry) (first rows new : List (List Entry)) (e : Entry) → IsLogOf log first
-    → Taken (k + 1) rows new e → Merging log k all first rows → Merging log (k + 1) (all ++ e ∷ []) first new
-merges log k all first rows new e is t m =
-    let b = t.actor in
-    let lt : b < length rows = slice_get_within rows b (e ∷ t.left) t.at in
-    let r = m.each b (omega (arith, m.long)) in
-    let eq : r.left ≡ e ∷ t.left = same_Some r.left (e ∷ t.left) (sym r.at ∙ t.at) in
-    let from : From (k + 1) (drop k log) = subst (λ (n : ℕ). From n (drop k log)) (omega arith) (from_drop k 1 log (from_of 1 log (λ j p at. is.stamps j p at ∙ omega arith))) in
-    let n = next b (k + 1) (drop k log) (delivery_of e) (map delivery_of t.left) from (sym r.next ∙ ap (map delivery_of) eq) t.stamp_is in
-    let d = drop_next k log (delivery_of e) n.rest n.whole in
-    let one : suc k ≡ k + 1 = omega arith in
-    let after : drop (k + 1) log ≡ n.rest = ap (λ (j : ℕ). drop j log) (sym one) ∙ d.0 in
+-- what was recorded, where it is as long as the log
+pub merged : (s : ScriptData) (count : ℕ) (rows : List (List Entry)) (log : List Posting) (told : List JoinedReceipt) (h : List Entry)
+    → IsWholeLog count log rows → AllRun s rows → length h ≡ count
+    → ((k : ℕ) (r : JoinedReceipt) → slice_get told k ≡ Some r → AreFirst log r.number r.own)
+    → AreRecorded s told h → IsMerged log rows h
+merged s count rows log told h whole runs long begins recorded =
+    let known_at : (k : ℕ) (e : Entry) → slice_get h k ≡ Some e → Known rows log e =
+    λ k e at. let (stamp, (j, r, there, vouches)) = recorded k e at in
+    known s count rows log r e whole runs (begins j r there) vouches in
+    let posted : (k : ℕ) (e : Entry) → slice_get h k ≡ Some e → slice_get log k ≡ Some (delivery_of e) =
+    λ k e at. let d = known_at k e at in
+    let (stamp, (j, r, there, vouches)) = recorded k e at in
+    let same : d.place ≡ k = omega (arith, d.stamp, stamp) in
+    subst (λ (j : ℕ). slice_get log j ≡ Some (delivery_of e)) same d.posted in
+    let postings : map delivery_of h ≡ log =
+    same_by_place (map delivery_of h) log (length-map h delivery_of ∙ long ∙ sym whole.long)
+    (λ k p at. let one = entry_at h k p at in posted k one.0 one.1 ∙ ap (λ (x : Posting). Some x) one.2) in
     record {
-      front = map-append delivery_of all (e ∷ []) ∙ ap (λ (ps : List Posting). ps ++ delivery_of e ∷ []) m.front ∙ sym d.1 ∙ ap (λ (j : ℕ). take j log) one;
-      long = ap (length {A = List Entry}) t.set ∙ length-set rows b t.left ∙ m.long;
-      each = λ a below. subst (λ (xs : List (List Entry)). Row log (k + 1) (all ++ e ∷ []) first xs a) (sym t.set)
-          (row_more log k all first rows b e t.left n.rest t.at n.whole n.mine n.left after lt a (m.each a below) (cases_eq b a));
+      postings = postings;
+      own = λ a es at.
+          let same : map delivery_of (own a h) ≡ map delivery_of es =
+          own_posted a h ∙ ap (own_postings a) postings ∙ sym (whole.log_of.own a es at) in
+          let from : From 1 log = from_of 1 log (λ j p there. whole.log_of.stamps j p there ∙ omega arith) in
+          same_by_place (own a h) es
+          (sym (length-map (own a h) delivery_of) ∙ ap (length {A = Posting}) same ∙ length-map es delivery_of)
+          (λ k e here.
+          let f = found h a k e here in
+          let d = known_at f.place e f.at in
+          let row : d.row ≡ es = same_Some d.row es (sym d.at ∙ ap (slice_get rows) f.mine ∙ at) in
+          let there : slice_get es d.in_row ≡ Some e = subst (λ (xs : List Entry). slice_get xs d.in_row ≡ Some e) row d.there in
+          let mine : slice_get (own_postings a log) d.in_row ≡ Some (delivery_of e) =
+          subst (λ (ps : List Posting). slice_get ps d.in_row ≡ Some (delivery_of e)) (whole.log_of.own a es at) (get_map delivery_of es d.in_row e there) in
+          let mine' : slice_get (own_postings a log) k ≡ Some (delivery_of e) =
+          subst (λ (ps : List Posting). slice_get ps k ≡ Some (delivery_of e)) (same ∙ whole.log_of.own a es at) (get_map delivery_of (own a h) k e here) in
+          let equal : d.in_row ≡ k = once a 1 d.in_row k log (delivery_of e) from mine mine' in
+          subst (λ (j : ℕ). slice_get es j ≡ Some e) equal there);
     }
-
-none_left : (es : List Entry) → map delivery_of es ≡ [] → es ≡ []
-none_left [] is = refl
-none_left (e ∷ es) is = absurd (cc is)
-
-drop_at : (k : ℕ) (log : List Posting) (p : Posting) → slice_get log k ≡ Some p → drop k log ≡ p ∷ drop (suc k) log
-drop_at k [] p at = absurd (cc at)
-drop_at zero (x ∷ log) p at = let same : x ≡ p = cc at in ap (λ y. y ∷ log) same
-drop_at (suc k) (x ∷ log) p at = drop_at k log p at
-
-own_first : (p : Posting) (rest : List Posting) → own_postings p.actor.0 (p ∷ rest) ≡ p ∷ own_postings p.actor.0 rest
-own_first p rest =
-    let mine : (p.actor.0 == p.actor.0) ≡ true = grind (arith, nat_tests) in
-    first_by (p.actor.0 == p.actor.0) p (own_postings p.actor.0 rest) mine
-  where
-    first_by : (b : Bool) (p : Posting) (ps : List Posting) → b ≡ true → (if b then p ∷ ps else ps) ≡ p ∷ ps
-    first_by b p ps is = rw is refl
-
-first_has : (es : List Entry) (p : Posting) (ps : List Posting) → map delivery_of es ≡ p ∷ ps → FirstHas p.stamp.0 es
-first_has [] p ps is = absurd (cc is)
-first_has (e ∷ es) p ps is = let same : delivery_of e ≡ p = cc is in ap (λ (x : Posting). x.stamp.0) same
-
--- while a posting is left, the first entry of its actor has its stamp
-pub goes_on : (count : ℕ) (log : List Posting) (k : ℕ) (all : List Entry) (first rows : List (List Entry)) → IsWholeLog count log first
-    → k < count → Merging log k all first rows → ¬ NoneHas (k + 1) rows
-goes_on count log k all first rows is lt m none =
-    let there = get_some log k (omega (arith, is.long)) in
-    let p = there.0 in
-    let r = m.each p.actor.0 (is.known k p there.1) in
-    let left : map delivery_of r.left ≡ p ∷ own_postings p.actor.0 (drop (suc k) log) =
-    r.next ∙ ap (own_postings p.actor.0) (drop_at k log p there.1) ∙ own_first p (drop (suc k) log) in
-    none p.actor.0 r.left r.at
-    (subst (λ (n : ℕ). FirstHas n r.left) (is.log_of.stamps k p there.1) (first_has r.left p (own_postings p.actor.0 (drop (suc k) log)) left))
-
--- all of them are in order
-pub ends : (log : List Posting) (k : ℕ) (all : List Entry) (first rows : List (List Entry)) → length log ≡ k → Merging log k all first rows
-    → IsMerged log first all
-ends log k all first rows long m = record {
-  postings = m.front ∙ ap (λ (j : ℕ). take j log) (sym long) ∙ take_all (length log) log (omega arith);
-  own = λ a es at.
-      let r = m.each a (slice_get_within first a es at) in
-      let none : r.left ≡ [] = none_left r.left (r.next ∙ ap (λ (j : ℕ). own_postings a (drop j log)) (sym long) ∙ ap (own_postings a) (drop_of_length-le log (omega arith))) in
-      let same : r.begun ≡ es = same_Some r.begun es (sym r.was ∙ at) in
-      sym (append-nil (own a all)) ∙ ap (λ (xs : List Entry). own a all ++ xs) (sym none) ∙ sym r.whole ∙ same;
-}
 
 -- the first of a list
 pub first_of : (es : List Entry) (e : Entry) (left : List Entry) (stamp : ℕ) → es ≡ e ∷ left → FirstHas stamp es → e.stamp.0 ≡ stamp
@@ -226,7 +196,7 @@ more_by stamp a rows d b es none there no' lt at (inl same) has =
     no' (subst (FirstHas stamp) (same_Some es d (sym at ∙ ap (slice_get rows) same ∙ there)) has)
 more_by stamp a rows d b es none there no' lt at (inr ne) has = none b es (omega arith) at has
 
--- no first entry has this stamp, one actor further
+-- no first entry has this stamp, one list further
 pub none_more : (stamp a : ℕ) (rows : List (List Entry)) (d : List Entry)
     → ((c : ℕ) (xs : List Entry) → c < a → slice_get rows c ≡ Some xs → ¬ FirstHas stamp xs) → slice_get rows a ≡ Some d → ¬ FirstHas stamp d
     → (b : ℕ) (es : List Entry) → b < a + 1 → slice_get rows b ≡ Some es → ¬ FirstHas stamp es

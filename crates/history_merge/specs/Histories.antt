@@ -19,6 +19,18 @@ last_acts_from row st acts (p ∷ ps) = last_acts_from row (row st p.took).state
 abbrev pub last_acts : ScriptData → ℕ → List Posting → List Act
 last_acts s a own = last_acts_from (actor_row s a) (start_actor s a) [] own
 
+-- the entries of these postings, where a table runs over their letters: what each sends is the posting's, and what is
+-- done the table's
+abbrev pub entries_from : {St : Type 0} → (St → Letter → Out St) → St → List Posting → List Entry
+entries_from row st [] = []
+entries_from row st (p ∷ ps) =
+    record { stamp = p.stamp; actor = p.actor; took = p.took; sent = p.sent; acts = (row st p.took).acts }
+    ∷ entries_from row (row st p.took).state ps
+
+-- the entries of actor a's first postings, by its table
+abbrev pub entries_by : ScriptData → ℕ → List Posting → List Entry
+entries_by s a own = entries_from (actor_row s a) (start_actor s a) own
+
 -- just one entry of the history has the receipt's stamp. It took the letter of that delivery, sent its letters and did
 -- its acts, which are those of the last of the actor's postings up to it; and the letter has a smaller stamp
 pub record HasReceiptEntry (s : ScriptData) (h : List Entry) (r : ReceiptData) : Type 0 where

@@ -1,4 +1,4 @@
 pub mod Histories
 pub mod OwnLogs
 pub mod Merging
-pub mod inside
+pub mod Recording

@@ -1,4 +1,4 @@
-// The logs of all actors, taken apart and merged into one history.
+// The logs of all actors, and the one history that was recorded of them.
 ghost use Rattle.std.specs.Prelude.{◌≡◌, ◌+◌, ◌≤◌, ℕ, All, Some, length, map, slice_get, sum_by};
 ghost use Rattle.tv_base.specs.declared.numbers.TheConstants.{MOST_ENTRIES};
 ghost use Rattle.stamp_post.specs.Shown.{ReceiptData, seat_joined};
@@ -6,81 +6,50 @@ ghost use Rattle.world_model.specs.Runs.{IsWorldRun};
 ghost use Rattle.history_merge.specs.Histories.{HasReceiptEntry};
 ghost use Rattle.history_merge.specs.Merging.{AllRun, HasRoom, NumberedBy, joined_from};
 
-use crate::merge::merged;
 use crate::name::ClusterName;
 use crate::own_log::OwnLog;
-use letter_types::{Entry, History};
-use stamp_post::{ActorSeat, Gatherer, Post, Receipts, Seats};
-use std::collections::VecDeque;
+use crate::recorder::Recorder;
+use letter_types::History;
+use stamp_post::{ActorSeat, Post, Receipts, Seats};
 
-/// Room for what logs are taken apart into, and for all their entries.
-#[derive(Drop)]
-pub struct GatherRoom {
-    pub seats: Vec<ActorSeat>,
-    pub lists: Vec<VecDeque<Entry>>,
-    pub entries: Vec<Entry>,
-}
-
-// What actors have: their seats and their entries, by number.
-#[derive(Drop)]
-struct Apart {
-    seats: Seats,
-    lists: Vec<VecDeque<Entry>>,
-}
-
-// The actors' seats and entries, out of their logs, in the room for them.
-fn taken_apart<K: ClusterName>(
-    logs: Vec<OwnLog<K>>,
-    seats: Vec<ActorSeat>,
-    lists: Vec<VecDeque<Entry>>,
-) -> Apart
+// The actors' seats, out of their logs, in the room for them.
+fn seats_of<K: ClusterName>(logs: Vec<OwnLog<K>>, room: Vec<ActorSeat>) -> Seats
     requires order { NumberedBy (λ l. l.number) 0 logs.items }
-    requires room { HasRoom (length logs.items) seats × HasRoom (length logs.items) lists }
+    requires room { HasRoom (length logs.items) room }
     requires few { length logs.items ≤ 255 }
-    ensures seats { All (λ s. s.post ≡ K.post) result.seats }
-    ensures joined { map seat_joined result.seats ≡ joined_from 0 (map (λ v. v.items) result.lists.items) }
-    ensures runs { AllRun K.script (map (λ v. v.items) result.lists.items) }
-    ensures entries { map (λ v. v.items) result.lists.items ≡ map (λ l. l.entries) logs.items }
+    ensures seats { All (λ s. s.post ≡ K.post) result }
+    ensures joined { map seat_joined result ≡ joined_from 0 (map (λ l. l.entries) logs.items) }
+    ensures runs { AllRun K.script (map (λ l. l.entries) logs.items) }
 {
-    let mut seats = seats;
-    let mut lists = lists;
+    let mut seats = room;
     for log in logs {
-        let (entries, seat) = log.into_parts();
-        seats.push_reserved(seat);
-        lists.push_reserved(VecDeque::from(entries));
+        seats.push_reserved(log.into_seat());
     }
-    Apart {
-        seats: Seats::from_vec(seats),
-        lists,
-    }
+    Seats::from_vec(seats)
 }
 
-/// All entries of all actors by stamp, in the room for them. They are a run of the script, and each receipt's entry is
+/// All entries of all actors by stamp, as they were recorded. They are a run of the script, and each receipt's entry is
 /// one of them.
 pub fn gathered<K: ClusterName>(
     post: Post,
-    gatherer: Gatherer,
+    recorder: Recorder<K>,
     logs: Vec<OwnLog<K>>,
-    room: GatherRoom,
+    room: Vec<ActorSeat>,
     receipts: Receipts,
 ) -> History
-    requires post { (post ≡ K.post) × (gatherer ≡ K.post) }
+    requires post { post ≡ K.post }
     requires actors { (length logs.items ≡ K.post.actors) × (K.post.actors ≡ K.script.nodes + 2) }
     requires few_actors { length logs.items ≤ 255 }
     requires order { NumberedBy (λ l. l.number) 0 logs.items }
-    requires parts { HasRoom (length logs.items) room.seats × HasRoom (length logs.items) room.lists }
-    requires room { HasRoom (sum_by (λ l. length l.entries) logs.items) room.entries }
+    requires room { HasRoom (length logs.items) room }
+    requires whole { length recorder.done ≡ sum_by (λ l. length l.entries) logs.items }
     requires few { sum_by (λ l. length l.entries) logs.items ≤ MOST_ENTRIES }
     requires receipts { All (λ r. r.post ≡ K.post) receipts }
     ensures run { IsWorldRun K.script result }
     ensures told { (k : ℕ) (r : ReceiptData) → slice_get receipts k ≡ Some r → HasReceiptEntry K.script result r }
 {
-    let GatherRoom {
-        seats,
-        lists,
-        entries,
-    } = room;
-    let Apart { seats, lists } = taken_apart(logs, seats, lists);
-    let found = post.gather(gatherer, seats, receipts);
-    merged(lists, entries, found.count)
+    let seats = seats_of(logs, room);
+    let (gatherer, entries) = recorder.into_parts();
+    let _found = post.gather(gatherer, seats, receipts);
+    History::from_vec(entries)
 }

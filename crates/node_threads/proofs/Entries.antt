@@ -4,12 +4,11 @@ use Rattle.letter_types.specs.declared.entries.Entry.{Entry}
 use Rattle.letter_types.specs.declared.entries.Letter.{Letter}
 use Rattle.letter_types.specs.declared.entries.StepOut.{StepOut}
 use Rattle.letter_types.specs.Steps.{Out, made}
-use Rattle.stamp_post.specs.Shown.{PostId}
+use Rattle.stamp_post.specs.Shown.{OutboxData, PostId}
 use Rattle.tx_trees.specs.ScriptData.{ScriptData}
 use Rattle.world_model.specs.Tables.{ActorData, actor_row}
 use Rattle.world_core.specs.declared.actor.ActorState.{ActorState}
 use Rattle.world_core.specs.Actors.{IsFor, actor_data}
-use Rattle.history_merge.specs.declared.own_log.Sent.{Sent}
 use Rattle.history_merge.specs.OwnLogs.{Handled, led_to, row_there}
 use Rattle.history_merge.proofs.OneMore.{leads_on}
 use Rattle.node_threads.specs.Cells.{LeadsTo}
@@ -38,9 +37,9 @@ pub is_row : (s : ScriptData) (n : ℕ) (es : List Entry) (before now : ActorSta
 is_row s n es before now l out is = is.row ∙ (λ k. actor_row s (is.home k) (is.leads.state k) l)
 
 -- with the entry of the step, the entries lead to the new state
-pub leads_more : (post : PostId) (s : ScriptData) (n : ℕ) (es new : List Entry) (before now : ActorState) (l : Letter) (out : StepOut) (sent : Sent)
-    → Stepped s n es before now l out → Handled post n es new l sent → LeadsTo s n new now
-leads_more post s n es new before now l out sent is h = record {
+pub leads_more : (post : PostId) (s : ScriptData) (n : ℕ) (es new : List Entry) (before now : ActorState) (l : Letter) (out : StepOut)
+    (made given : List Entry) (box : OutboxData) → Stepped s n es before now l out → Handled post n es new l made given box → LeadsTo s n new now
+leads_more post s n es new before now l out made given box is h = record {
   state = ap (λ (o : Out ActorData). o.state) (is_row s n es before now l out is)
       ∙ sym (leads_on s n es h.entry l h.took) ∙ ap (led_to s n) (sym h.entries);
   script = is.script;

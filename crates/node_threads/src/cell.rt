@@ -4,9 +4,10 @@ ghost use Rattle.stamp_post.specs.Shown.{seat_data};
 ghost use Rattle.history_merge.specs.OwnLogs.{Delivered, Handled};
 ghost use Rattle.node_threads.specs.Cells.{cell_data};
 
-use history_merge::{ClusterName, OwnLog, Sent};
-use stamp_post::{ActorSeat, Envelope, Post};
+use history_merge::{ClusterName, Made, OwnLog};
+use stamp_post::{ActorSeat, Envelope, Outbox, Post};
 use std::alloc::Global;
+use std::collections::VecDeque;
 use std::marker::Model;
 use tv_base::{ActorNo, NoMemory};
 use tx_trees::Script;
@@ -40,13 +41,12 @@ impl<K: ClusterName> Drop for ActorCell<K> {
 }
 
 impl<K: ClusterName> ActorCell<K> {
-    /// The actor of a seat as a run of the script begins, with room for so many entries.
+    /// The actor of a seat as a run of the script begins.
     pub(crate) fn start(
         alloc: Global,
         script: &Script,
         number: u8,
         seat: ActorSeat,
-        room: usize,
     ) -> Result<ActorCell<K>, NoMemory>
         requires script { script.now ≡ K.script }
         requires post { K.post.actors ≡ K.script.nodes + 2 }
@@ -55,8 +55,10 @@ impl<K: ClusterName> ActorCell<K> {
         ensures { IfOk result (λ cell. cell ≡ cell_data number []) }
     {
         let state = ActorState::start(alloc, script, ActorNo(number))?;
-        let log = OwnLog::new(alloc, number, seat, room)?;
-        Ok(ActorCell { log, state })
+        Ok(ActorCell {
+            log: OwnLog::new(number, seat),
+            state,
+        })
     }
 
     /// The actor's number.
@@ -74,32 +76,37 @@ impl<K: ClusterName> ActorCell<K> {
     }
 
     /// Makes the actor's step for a letter that is addressed to it: all memory first, and then it takes the letter,
-    /// stamps the entry and makes the outbox. If memory runs out, the cell is as it was, and the envelope comes back; a
-    /// cell that has 2^40 entries finds no memory.
+    /// stamps the entry, puts that last among those that were made, and makes the outbox. If memory runs out, the cell
+    /// and what was made are as they were, and the envelope comes back; a cell that has 2^40 entries finds no memory.
     pub fn handle(
         &mut self,
         alloc: Global,
         post: &Post,
         envelope: Envelope,
         script: &Script,
-    ) -> Result<Sent, (NoMemory, Envelope)>
+        made: &mut VecDeque<Made<K>>,
+    ) -> Result<Outbox, (NoMemory, Envelope)>
         requires post { (post.now ≡ K.post) × (envelope.post ≡ K.post) }
         requires script { script.now ≡ K.script }
         requires addressee { envelope.letter.to.0 ≡ self.old.number }
         ensures number { self.new.number ≡ self.old.number }
         ensures handled { MatchResult result
-            (λ sent. Handled K.post self.old.number self.old.entries self.new.entries envelope.letter sent)
-            (λ e. (e.1 ≡ envelope) × (self.new ≡ self.old)) }
-        ensures delivered { IfOk result (Delivered K.post K.script envelope.letter) }
+            (λ out. Handled K.post self.old.number self.old.entries self.new.entries envelope.letter made.old.items
+            made.new.items out)
+            (λ e. (e.1 ≡ envelope) × (self.new ≡ self.old) × (made.new.items ≡ made.old.items)) }
+        ensures delivered { IfOk result (Delivered K.post K.script envelope.letter made.old.items made.new.items) }
     {
         let _valid = script.nodes();
-        let Ok(()) = self.log.make_room() else {
+        if !self.log.has_room() {
             return Err((NoMemory, envelope));
-        };
+        }
+        if made.reserve(1).is_err() {
+            return Err((NoMemory, envelope));
+        }
         let Ok(step) = actor_step(alloc, &mut self.state, envelope.letter(), script) else {
             return Err((NoMemory, envelope));
         };
-        Ok(self.log.enter(post, envelope, script, step))
+        Ok(self.log.enter(post, envelope, script, step, made))
     }
 
     // The actor's own log.

@@ -1,57 +1,33 @@
 // Cells behind locks.
-ghost use Rattle.std.specs.Prelude.{◌≡◌, ◌+◌, ◌≤◌, ◌⊎◌, ℕ, All, length, slice_get, IfErr, IfOk, MatchResult, Some};
-ghost use Rattle.stamp_post.specs.Shown.{ReceiptData, new_seats};
+ghost use Rattle.std.specs.Prelude.{◌≡◌, ◌+◌, ◌≤◌, ◌⊎◌, ℕ, All, [], length, slice_get, IfErr, IfOk, MatchResult, OnOk, Some};
+ghost use Rattle.stamp_post.specs.Shown.{ReceiptData, gatherer_data, new_seats};
 ghost use Rattle.world_model.specs.Runs.{IsWorldRun};
 ghost use Rattle.history_merge.specs.Histories.{HasReceiptEntry};
 ghost use Rattle.history_merge.specs.OwnLogs.{Delivered};
 ghost use Rattle.actor_schedule.specs.declared.stop.RunStop.TheVariants as stops;
 
 use crate::cell::ActorCell;
-use crate::finishing::{closed_again, logs_of, opened, room_for_cells, room_for_entries};
+use crate::finishing::{check_whole, closed_again, logs_of, opened, room_for_cells};
 use actor_schedule::{Dispatch, RunStop};
 use crossbeam_utils::CachePadded;
-use history_merge::{ClusterName, GatherRoom, Sent, gathered};
+use history_merge::{ClusterName, Made, Recorder, gathered};
 use letter_types::History;
-use stamp_post::{Envelope, Gatherer, Post, PostParts, Receipts, Seats};
+use stamp_post::{Envelope, Outbox, Post, PostParts, Receipts, Seats};
 use std::alloc::Global;
-use std::marker::PhantomData;
+use std::collections::VecDeque;
 use std::sync::{Mutex, Wait};
 use tv_base::{Gate, NoMemory};
 use tx_trees::Script;
 
-// A gatherer can be sent to another thread, and not shared by several. So it lies under a lock, which nobody takes.
-struct Keeper<K: ClusterName> {
-    gatherer: Gatherer,
-    name: PhantomData<K>,
-    ghost gatherer_is: { gatherer ≡ K.post },
-}
-
-impl<K: ClusterName> Drop for Keeper<K> {
-    fn drop(self) {
-        let Keeper {
-            gatherer: _,
-            name: _,
-        } = self;
-    }
-}
-
-impl<K: ClusterName> Keeper<K> {
-    fn into_gatherer(self) -> Gatherer
-        ensures { result ≡ K.post }
-    {
-        let Keeper { gatherer, name: _ } = self;
-        gatherer
-    }
-}
-
 /// The actors of the script that `K` names, on the post that it names. Each has a cell, and a mailbox of the letters
-/// that are in flight to it, each under a lock of its own. Actors are held at the gate.
+/// that are in flight to it, each under a lock of its own. What they make is recorded by one recorder, under a lock too.
+/// Actors are held at the gate.
 pub struct Cluster<'a, K: ClusterName, G: Gate> {
     pub(crate) alloc: Global,
     script: &'a Script,
     gate: &'a G,
     post: Post,
-    keeper: Mutex<Keeper<K>>,
+    recorder: CachePadded<Mutex<Recorder<K>>>,
     cells: Vec<CachePadded<Mutex<ActorCell<K>>>>,
     pub(crate) dispatch: Dispatch<K>,
     ghost script_is: { script.now ≡ K.script },
@@ -69,21 +45,11 @@ impl<'a, K: ClusterName, G: Gate> Drop for Cluster<'a, K, G> {
             script: _,
             gate: _,
             post: _,
-            keeper: _,
+            recorder: _,
             cells: _,
             dispatch: _,
         } = self;
     }
-}
-
-// How many entries a node is expected to have: as many letters tell it of subtransactions as it runs, and about as many
-// notices come back. A guess is enough, since logs grow; with it they grow seldom.
-fn expected_entries(script: &Script) -> usize {
-    let mut subs: usize = 0;
-    for tree in script.trees() {
-        subs = subs.saturating_add(tree.subs.items().len());
-    }
-    subs.saturating_mul(2) / script.nodes().max(1) as usize
 }
 
 // A cell for each actor.
@@ -98,14 +64,13 @@ fn cells_of<K: ClusterName>(
     requires seats { seats ≡ new_seats K.post 0 actors }
     ensures { IfOk result (λ cells. length cells.items ≡ actors) }
 {
-    let room = expected_entries(script);
     let mut left = seats;
     let mut cells = Vec::new(alloc);
     for number in 0..actors {
         let Some(seat) = left.take_first() else {
             unreachable!()
         };
-        let cell = ActorCell::<K>::start(alloc, script, number, seat, room)?;
+        let cell = ActorCell::<K>::start(alloc, script, number, seat)?;
         cells.push(CachePadded::new(Mutex::new(cell)))?;
     }
     Ok(cells)
@@ -121,7 +86,7 @@ impl<'a, K: ClusterName, G: Gate> Cluster<'a, K, G> {
     ) -> Result<(Cluster<'a, K, G>, Envelope), NoMemory>
         requires script { script.now ≡ K.script }
         requires post { (parts.post ≡ K.post) × (K.post.actors ≡ K.script.nodes + 2) }
-        requires gatherer { parts.gatherer ≡ K.post }
+        requires gatherer { parts.gatherer ≡ gatherer_data K.post [] }
         requires seats { parts.seats ≡ new_seats K.post 0 K.post.actors }
         ensures { IfOk result (λ r. r.1 ≡ parts.first) }
     {
@@ -139,10 +104,7 @@ impl<'a, K: ClusterName, G: Gate> Cluster<'a, K, G> {
             script,
             gate,
             post,
-            keeper: Mutex::new(Keeper {
-                gatherer,
-                name: PhantomData,
-            }),
+            recorder: CachePadded::new(Mutex::new(Recorder::new(alloc, gatherer))),
             cells,
             dispatch,
         };
@@ -156,14 +118,20 @@ impl<'a, K: ClusterName, G: Gate> Cluster<'a, K, G> {
         &self.post
     }
 
-    /// Hands an envelope to its addressee, under that one's lock alone, past the gate. Where it isn't taken, the
-    /// envelope comes back and no actor has changed: `NoMemory` where the addressee finds no memory for its step,
-    /// `Misplaced` where another actor lies under the lock.
-    pub fn deliver<R: Wait>(&self, rt: &R, envelope: Envelope) -> Result<Sent, (RunStop, Envelope)>
+    /// Hands an envelope to its addressee, under that one's lock alone, past the gate. The entry that comes of it is the
+    /// last of those that were made. Where the letter isn't taken, the envelope comes back, what was made is as it was,
+    /// and no actor has changed: `NoMemory` where no memory is found for the step, `Misplaced` where another actor lies
+    /// under the lock.
+    pub fn deliver<R: Wait>(
+        &self,
+        rt: &R,
+        envelope: Envelope,
+        made: &mut VecDeque<Made<K>>,
+    ) -> Result<Outbox, (RunStop, Envelope)>
         requires { envelope.post ≡ K.post }
         ensures delivered { MatchResult result
-            (λ sent. Delivered K.post K.script envelope.letter sent)
-            (λ e. e.1 ≡ envelope) }
+            (Delivered K.post K.script envelope.letter made.old.items made.new.items)
+            (λ e. (e.1 ≡ envelope) × (made.new.items ≡ made.old.items)) }
         ensures stop { IfErr result (λ e. (e.0 ≡ stops.NoMemory) ⊎ (e.0 ≡ stops.Misplaced)) }
     {
         let to = envelope.letter().to;
@@ -174,18 +142,39 @@ impl<'a, K: ClusterName, G: Gate> Cluster<'a, K, G> {
         if cell.number() != to {
             return Err((RunStop::Misplaced, envelope));
         }
-        match cell.handle(self.alloc, &self.post, envelope, self.script) {
-            Ok(sent) => Ok(sent),
+        match cell.handle(self.alloc, &self.post, envelope, self.script, made) {
+            Ok(out) => Ok(out),
             Err((NoMemory, envelope)) => Err((RunStop::NoMemory, envelope)),
+        }
+    }
+
+    /// Hands the entries in that were made, and records all that are next. Where no memory is found they are left, or wait
+    /// in the recorder for a later call.
+    pub fn record<R: Wait>(&self, rt: &R, made: &mut VecDeque<Made<K>>) -> Result<(), NoMemory>
+        ensures { OnOk result (made.new.items ≡ []) }
+    {
+        let mut recorder = self.recorder.lock(rt);
+        recorder.take_in(made)?;
+        recorder.advance(&self.post)
+    }
+
+    /// The same, where nobody else does so just then. Else they are left too.
+    pub(crate) fn record_if_free(&self, made: &mut VecDeque<Made<K>>) -> Result<(), NoMemory> {
+        match self.recorder.try_lock() {
+            Some(mut recorder) => {
+                recorder.take_in(made)?;
+                recorder.advance(&self.post)
+            }
+            None => Ok(()),
         }
     }
 
     /// All entries by stamp. They are a run of the script, and each receipt's entry is one of them.
     ///
-    /// Where memory is wanting or there are more entries than a history takes (`NoMemory`), or another actor lies under
-    /// a lock (`Misplaced`), the cluster and the receipts come back, so that it can be asked again: the cluster's cells
-    /// have the entries that they had, and its mailboxes the letters. No clause says so of cells and mailboxes, since
-    /// what lies under a lock is known by its type alone.
+    /// Where memory is wanting or there are more entries than a history takes (`NoMemory`), another actor lies under a
+    /// lock (`Misplaced`), or an entry wasn't handed in (`Unfinished`), the cluster and the receipts come back, so that
+    /// it can be asked again: what is recorded and the letters in the mailboxes are there as before. No clause says so,
+    /// since what lies under a lock is known by its type alone.
     pub fn finish(
         self,
         receipts: Receipts,
@@ -195,7 +184,7 @@ impl<'a, K: ClusterName, G: Gate> Cluster<'a, K, G> {
         ensures told { IfOk result (λ h. (k : ℕ) (r : ReceiptData) → slice_get receipts k ≡ Some r
             → HasReceiptEntry K.script h r) }
         ensures receipts { IfErr result (λ e. e.2 ≡ receipts) }
-        ensures stop { IfErr result (λ e. (e.0 ≡ stops.NoMemory) ⊎ (e.0 ≡ stops.Misplaced)) }
+        ensures stop { IfErr result (λ e. (e.0 ≡ stops.NoMemory) ⊎ (e.0 ≡ stops.Misplaced) ⊎ (e.0 ≡ stops.Unfinished)) }
     {
         let Ok(room) = room_for_cells::<K>(self.alloc, self.cells.len()) else {
             return Err((RunStop::NoMemory, self, receipts));
@@ -205,33 +194,25 @@ impl<'a, K: ClusterName, G: Gate> Cluster<'a, K, G> {
             script,
             gate,
             post,
-            keeper,
+            recorder,
             cells,
             dispatch,
         } = self;
         let cells = opened(cells, room.opened);
-        let entries = match room_for_entries(alloc, cells.as_slice()) {
-            Ok(entries) => entries,
-            Err(stop) => {
-                let cluster = Cluster {
-                    alloc,
-                    script,
-                    gate,
-                    post,
-                    keeper,
-                    cells: closed_again(cells, room.closed),
-                    dispatch,
-                };
-                return Err((stop, cluster, receipts));
-            }
-        };
-        let gatherer = keeper.into_inner().into_gatherer();
+        let recorder = recorder.into_inner().into_inner();
+        if let Err(stop) = check_whole(cells.as_slice(), recorder.count()) {
+            let cluster = Cluster {
+                alloc,
+                script,
+                gate,
+                post,
+                recorder: CachePadded::new(Mutex::new(recorder)),
+                cells: closed_again(cells, room.closed),
+                dispatch,
+            };
+            return Err((stop, cluster, receipts));
+        }
         let logs = logs_of(cells, room.logs);
-        let room = GatherRoom {
-            seats: room.seats,
-            lists: room.lists,
-            entries,
-        };
-        Ok(gathered(post, gatherer, logs, room, receipts))
+        Ok(gathered(post, recorder, logs, room.seats, receipts))
     }
 }

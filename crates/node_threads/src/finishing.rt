@@ -1,5 +1,5 @@
 // The cells of a cluster that finishes: out of their locks, put back, and without their states.
-ghost use Rattle.std.specs.Prelude.{◌≡◌, ◌≤◌, ◌⊎◌, true, length, map, sum_by, IfErr, IfOk, IfSome};
+ghost use Rattle.std.specs.Prelude.{◌≡◌, ◌≤◌, ◌⊎◌, true, length, map, sum_by, IfErr, IfOk, IfSome, OnOk};
 ghost use Rattle.tv_base.specs.declared.numbers.TheConstants.{MOST_ENTRIES};
 ghost use Rattle.actor_schedule.specs.declared.stop.RunStop.TheVariants as stops;
 ghost use Rattle.history_merge.specs.Merging.{HasRoom, NumberedBy};
@@ -9,21 +9,18 @@ use crate::cell::ActorCell;
 use actor_schedule::RunStop;
 use crossbeam_utils::CachePadded;
 use history_merge::{ClusterName, OwnLog};
-use letter_types::Entry;
 use stamp_post::ActorSeat;
 use std::alloc::Global;
-use std::collections::VecDeque;
 use std::sync::Mutex;
 use tv_base::{MOST_ENTRIES, NoMemory};
 
-// Room for the cells outside their locks, for putting them back under locks, and for what they are taken apart into.
+// Room for the cells outside their locks, for putting them back under locks, and for their logs and seats.
 #[derive(Drop)]
 pub(crate) struct Room<K: ClusterName> {
     pub(crate) opened: Vec<ActorCell<K>>,
     pub(crate) closed: Vec<CachePadded<Mutex<ActorCell<K>>>>,
     pub(crate) logs: Vec<OwnLog<K>>,
     pub(crate) seats: Vec<ActorSeat>,
-    pub(crate) lists: Vec<VecDeque<Entry>>,
 }
 
 // Room for so many cells.
@@ -33,14 +30,13 @@ pub(crate) fn room_for_cells<K: ClusterName>(
 ) -> Result<Room<K>, NoMemory>
     ensures cells { IfOk result (λ r. HasRoom count r.opened × HasRoom count r.closed) }
     ensures logs { IfOk result (λ r. HasRoom count r.logs) }
-    ensures parts { IfOk result (λ r. HasRoom count r.seats × HasRoom count r.lists) }
+    ensures seats { IfOk result (λ r. HasRoom count r.seats) }
 {
     Ok(Room {
         opened: Vec::with_capacity(alloc, count)?,
         closed: Vec::with_capacity(alloc, count)?,
         logs: Vec::with_capacity(alloc, count)?,
         seats: Vec::with_capacity(alloc, count)?,
-        lists: Vec::with_capacity(alloc, count)?,
     })
 }
 
@@ -97,30 +93,28 @@ fn count_entries<K: ClusterName>(cells: &[ActorCell<K>]) -> Option<usize>
     Some(count)
 }
 
-// Room for all entries of the cells, which must be in order. None is found where they have more entries than a history
+// Whether the cells are in order, and as many entries are recorded as they have, which may be no more than a history
 // takes.
-pub(crate) fn room_for_entries<K: ClusterName>(
-    alloc: Global,
+pub(crate) fn check_whole<K: ClusterName>(
     cells: &[ActorCell<K>],
-) -> Result<Vec<Entry>, RunStop>
-    ensures order { IfOk result (λ _. NumberedBy (λ c. c.number) 0 cells.now) }
-    ensures room { IfOk result (λ room. HasRoom (sum_by (λ c. length c.entries) cells.now) room) }
-    ensures few { IfOk result (λ _. sum_by (λ c. length c.entries) cells.now ≤ MOST_ENTRIES) }
-    ensures stop { IfErr result (λ stop. (stop ≡ stops.NoMemory) ⊎ (stop ≡ stops.Misplaced)) }
+    recorded: usize,
+) -> Result<(), RunStop>
+    ensures order { OnOk result (NumberedBy (λ c. c.number) 0 cells.now) }
+    ensures whole { OnOk result (recorded ≡ sum_by (λ c. length c.entries) cells.now) }
+    ensures few { OnOk result (recorded ≤ MOST_ENTRIES) }
+    ensures stop { IfErr result (λ stop.
+        (stop ≡ stops.NoMemory) ⊎ (stop ≡ stops.Misplaced) ⊎ (stop ≡ stops.Unfinished)) }
 {
     if !are_in_order(cells) {
         return Err(RunStop::Misplaced);
     }
-    let Some(count) = count_entries(cells) else {
-        return Err(RunStop::NoMemory);
-    };
-    if count > MOST_ENTRIES {
+    if count_entries(cells) != Some(recorded) {
+        return Err(RunStop::Unfinished);
+    }
+    if recorded > MOST_ENTRIES {
         return Err(RunStop::NoMemory);
     }
-    match Vec::with_capacity(alloc, count) {
-        Ok(room) => Ok(room),
-        Err(_e) => Err(RunStop::NoMemory),
-    }
+    Ok(())
 }
 
 // The actors' own logs, in the room for them.

@@ -10,5 +10,6 @@ mod workers;
 pub use actor_schedule::{Desk, Held, RunStop, Stopped};
 pub use cell::ActorCell;
 pub use cluster::Cluster;
-pub use history_merge::{ClusterName, Sent};
+pub use history_merge::{ClusterName, Made};
 pub use running::run;
+pub use workers::Bench;

@@ -1,7 +1,7 @@
 // A script run by workers in threads of their own.
-ghost use Rattle.std.specs.Prelude.{◌≡◌, ◌+◌, ◌≤◌, IfErr, IfOk};
+ghost use Rattle.std.specs.Prelude.{◌≡◌, ◌+◌, ◌≤◌, [], IfErr, IfOk};
 ghost use Rattle.board_rules.specs.Right.{HasFinished};
-ghost use Rattle.stamp_post.specs.Shown.{new_seats};
+ghost use Rattle.stamp_post.specs.Shown.{gatherer_data, new_seats};
 ghost use Rattle.world_model.specs.Runs.{IsWorldRun};
 ghost use Rattle.history_merge.specs.Histories.{HasTakenAll};
 ghost use Rattle.actor_schedule.specs.declared.stop.RunStop.TheVariants as stops;
@@ -56,13 +56,14 @@ fn deliver_rest<K: ClusterName, R: Wait, G: Gate>(
     rt: &R,
     cluster: &Cluster<'_, K, G>,
 ) -> Result<(), RunStop> {
-    let mut desk = cluster.desk()?;
+    let mut bench = cluster.bench()?;
     for _ in rt.forever() {
         let Some(envelope) = cluster.dispatch.take_any(rt) else {
             break;
         };
-        cluster.pass_on(rt, envelope, &mut desk)?;
+        cluster.pass_on(rt, envelope, &mut bench)?;
     }
+    cluster.record(rt, &mut bench.made)?;
     Ok(())
 }
 
@@ -77,7 +78,7 @@ fn run_named<K: ClusterName + Send + Sync, R: Threads + Wait + Sync, G: Gate + S
 ) -> Result<History, RunStop>
     requires script { script.now ≡ K.script }
     requires post { (parts.post ≡ K.post) × (K.post.actors ≡ K.script.nodes + 2) }
-    requires gatherer { parts.gatherer ≡ K.post }
+    requires gatherer { parts.gatherer ≡ gatherer_data K.post [] }
     requires seats { parts.seats ≡ new_seats K.post 0 K.post.actors }
     requires first { parts.first.post ≡ K.post }
     ensures run { IfOk result (λ h. IsWorldRun K.script h) }

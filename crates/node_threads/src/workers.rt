@@ -2,16 +2,38 @@
 ghost use Rattle.std.specs.Prelude.{◌≡◌, ◌<◌, [], IfErr, IfOk, IfSome};
 ghost use Rattle.actor_schedule.specs.Desks.{desk_data, empty_trays};
 ghost use Rattle.actor_schedule.specs.Stops.{AreOfPost, KeepsLetter};
+ghost use Rattle.actor_schedule.specs.declared.stop.Held.TheVariants as helds;
 
 use crate::cluster::Cluster;
 use actor_schedule::{Desk, Ending, Held, RunStop, Stopped};
-use history_merge::{ClusterName, Sent, ends};
+use history_merge::{ClusterName, Made, ends};
 use stamp_post::Envelope;
+use std::collections::VecDeque;
 use std::sync::Wait;
 use tv_base::{Gate, NoMemory};
 
 // The most letters that a worker delivers to an actor before it looks for the next one.
 const TURN: u32 = 64;
+
+// From so many entries on a worker hands them in at the end of a turn, if nobody else does so just then.
+const BATCH: usize = 128;
+
+// From so many on it waits for that.
+const MOST_KEPT: usize = 1_024;
+
+/// What a worker works with: its desk, and the entries that came of what it delivered and that it hasn't handed in, the
+/// oldest first.
+pub struct Bench<K: ClusterName> {
+    pub desk: Desk<K>,
+    pub made: VecDeque<Made<K>>,
+}
+
+// A drop of its own is one call wherever a bench goes out of scope.
+impl<K: ClusterName> Drop for Bench<K> {
+    fn drop(self) {
+        let Bench { desk: _, made: _ } = self;
+    }
+}
 
 // No memory was found, and so much is held.
 fn out_of_memory(held: Held) -> Stopped
@@ -20,6 +42,26 @@ fn out_of_memory(held: Held) -> Stopped
     Stopped {
         stop: RunStop::NoMemory,
         held,
+    }
+}
+
+// A stop at which nothing is held, where no memory was found.
+fn or_stop(found: Result<(), NoMemory>) -> Result<(), Stopped>
+    ensures { IfErr result (λ s. s.held ≡ helds.Nothing) }
+{
+    match found {
+        Ok(()) => Ok(()),
+        Err(NoMemory) => Err(out_of_memory(Held::Nothing)),
+    }
+}
+
+impl<K: ClusterName> Bench<K> {
+    // Whether the client has finished with the entry that was made last.
+    fn has_finished(&self) -> bool {
+        match self.made.back() {
+            Some(last) => ends(&last.entry().acts),
+            None => false,
+        }
     }
 }
 
@@ -32,19 +74,19 @@ impl<'a, K: ClusterName, G: Gate> Cluster<'a, K, G> {
         self.dispatch.put(rt, envelope)
     }
 
-    // Delivers an envelope and sorts what comes out into the trays of a desk. Says whether the client has finished.
-    // Where it stops, the envelope is held, or what its addressee sent and no tray took.
+    // Delivers an envelope, sorts what comes out into the trays, and keeps the entry. Says whether the client has
+    // finished. Where it stops, the envelope is held, or what its addressee sent and no tray took.
     fn deliver_to_desk<R: Wait>(
         &self,
         rt: &R,
         envelope: Envelope,
-        desk: &mut Desk<K>,
+        bench: &mut Bench<K>,
     ) -> Result<bool, Stopped>
         requires { envelope.post ≡ K.post }
         ensures { IfErr result (λ s. KeepsLetter K.post envelope s.held) }
     {
-        let sent = match self.deliver(rt, envelope) {
-            Ok(sent) => sent,
+        let out = match self.deliver(rt, envelope, &mut bench.made) {
+            Ok(out) => out,
             Err((stop, envelope)) => {
                 return Err(Stopped {
                     stop,
@@ -52,24 +94,24 @@ impl<'a, K: ClusterName, G: Gate> Cluster<'a, K, G> {
                 });
             }
         };
-        let Sent {
-            stamp: _,
-            acts,
-            out,
-        } = sent;
-        if let Err(held) = desk.sort(self.post(), out) {
+        let finished = bench.has_finished();
+        if let Err(held) = bench.desk.sort(self.post(), out) {
             return Err(out_of_memory(held));
         }
-        Ok(ends(&acts))
+        Ok(finished)
     }
 
-    // Puts what lies in the trays of a desk into the mailboxes. Where it stops, what is left lies in the trays.
-    fn flush<R: Wait>(&self, rt: &R, desk: &mut Desk<K>) -> Result<(), Stopped>
-        ensures { IfErr result (λ s. AreOfPost K.post s.held) }
-    {
-        match self.dispatch.flush(rt, desk) {
-            Ok(()) => Ok(()),
-            Err(NoMemory) => Err(out_of_memory(Held::Nothing)),
+    // Puts what lies in the trays into the mailboxes, and hands the entries in where there are many. Where no memory is
+    // found, what is left lies in the trays and among the entries.
+    fn put_by<R: Wait>(&self, rt: &R, bench: &mut Bench<K>) -> Result<(), NoMemory> {
+        self.dispatch.flush(rt, &mut bench.desk)?;
+        let count = bench.made.len();
+        if count >= MOST_KEPT {
+            self.record(rt, &mut bench.made)
+        } else if count >= BATCH {
+            self.record_if_free(&mut bench.made)
+        } else {
+            Ok(())
         }
     }
 
@@ -78,57 +120,57 @@ impl<'a, K: ClusterName, G: Gate> Cluster<'a, K, G> {
         &self,
         rt: &R,
         envelope: Envelope,
-        desk: &mut Desk<K>,
+        bench: &mut Bench<K>,
     ) -> Result<(), Stopped>
         requires { envelope.post ≡ K.post }
         ensures { IfErr result (λ s. AreOfPost K.post s.held) }
     {
-        let _finished = self.deliver_to_desk(rt, envelope, desk)?;
-        self.flush(rt, desk)
+        let _finished = self.deliver_to_desk(rt, envelope, bench)?;
+        or_stop(self.put_by(rt, bench))
     }
 
     // The next letter for an actor that a worker serves: in hand, or else in its mailbox.
-    fn next_letter<R: Wait>(&self, rt: &R, actor: u8, desk: &mut Desk<K>) -> Option<Envelope>
+    fn next_letter<R: Wait>(&self, rt: &R, actor: u8, bench: &mut Bench<K>) -> Option<Envelope>
         requires { actor < K.post.actors }
         ensures { IfSome result (λ e. e.post ≡ K.post) }
     {
-        match desk.take_in_hand() {
+        match bench.desk.take_in_hand() {
             Some(envelope) => Some(envelope),
-            None => self.dispatch.take(rt, actor, desk),
+            None => self.dispatch.take(rt, actor, &mut bench.desk),
         }
     }
 
     // Serves an actor: a turn of letters, or all that lie in its mailbox. What comes out is put at the end, and what is
     // left in hand goes back into the mailbox, also where it stops. Where more may lie there, the actor is ready again.
-    fn take_turn<R: Wait>(&self, rt: &R, actor: u8, desk: &mut Desk<K>) -> Result<(), Stopped>
+    fn take_turn<R: Wait>(&self, rt: &R, actor: u8, bench: &mut Bench<K>) -> Result<(), Stopped>
         requires { actor < K.post.actors }
         ensures { IfErr result (λ s. AreOfPost K.post s.held) }
     {
         for _letter in 0..TURN {
-            let Some(envelope) = self.next_letter(rt, actor, desk) else {
-                return self.flush(rt, desk);
+            let Some(envelope) = self.next_letter(rt, actor, bench) else {
+                return or_stop(self.put_by(rt, bench));
             };
-            match self.deliver_to_desk(rt, envelope, desk) {
+            match self.deliver_to_desk(rt, envelope, bench) {
                 Ok(true) => self.dispatch.finish(rt),
                 Ok(false) => {}
                 Err(stopped) => {
-                    self.dispatch.give_back(rt, actor, desk);
+                    self.dispatch.give_back(rt, actor, &mut bench.desk);
                     return Err(stopped);
                 }
             }
         }
-        self.dispatch.give_back(rt, actor, desk);
-        self.flush(rt, desk)?;
+        self.dispatch.give_back(rt, actor, &mut bench.desk);
+        or_stop(self.put_by(rt, bench))?;
         self.dispatch.mark_ready(rt, actor, 1);
         Ok(())
     }
 
     // The same. Where it stops, it tells the others.
-    fn serve_actor<R: Wait>(&self, rt: &R, actor: u8, desk: &mut Desk<K>) -> Result<(), Stopped>
+    fn serve_actor<R: Wait>(&self, rt: &R, actor: u8, bench: &mut Bench<K>) -> Result<(), Stopped>
         requires { actor < K.post.actors }
         ensures { IfErr result (λ s. AreOfPost K.post s.held) }
     {
-        let served = self.take_turn(rt, actor, desk);
+        let served = self.take_turn(rt, actor, bench);
         if let Err(stopped) = &served {
             self.dispatch.stop(rt, stopped.stop);
         }
@@ -137,26 +179,30 @@ impl<'a, K: ClusterName, G: Gate> Cluster<'a, K, G> {
 
     /// A worker: it serves an actor for which a letter lies in a mailbox and that no other worker serves: the next in
     /// cyclic order of those that it was the last to serve or that nobody has served, or else of all. It delivers the
-    /// oldest letters of that mailbox, a turn of them at most, sorts what comes out on its desk, which `Cluster::desk`
-    /// gives, and puts it into the mailboxes at the turn's end. Then it goes on with the next actor. Where there is
-    /// none, it sleeps until an envelope is put that nobody else is about to take. It ends once the client has finished,
-    /// or once any worker stops. What it had in hand when it stopped itself comes back, lies in its mailbox again, or in
-    /// a tray of its desk; where another worker stopped it has nothing in hand, and tells that one's cause.
+    /// oldest letters of that mailbox, a turn of them at most, sorts what comes out on the desk of its bench, which
+    /// `Cluster::bench` gives, and puts it into the mailboxes at the turn's end. The entries that come of it are handed
+    /// in at the end of some turns, and at its own end. Then it goes on with the next actor. Where there is none, it
+    /// sleeps until an envelope is put that nobody else is about to take. It ends once the client has finished, or once
+    /// any worker stops. What it had in hand when it stopped itself comes back, lies in its mailbox again, or in a tray
+    /// of its desk; where another worker stopped it has nothing in hand, and tells that one's cause. Either way the
+    /// entries that it hasn't handed in lie on the bench.
     ///
     /// `worker` is its own number, by which it is known as the last to serve an actor: different workers should have
     /// different numbers, and 2^32 - 1 stands for nobody.
-    pub fn serve<R: Wait>(&self, rt: &R, worker: u32, desk: &mut Desk<K>) -> Result<(), Stopped>
+    pub fn serve<R: Wait>(&self, rt: &R, worker: u32, bench: &mut Bench<K>) -> Result<(), Stopped>
         ensures { IfErr result (λ s. AreOfPost K.post s.held) }
     {
         let mut place = (worker % 256) as u8;
         for _ in rt.forever() {
             match self.dispatch.next(rt, worker, place) {
                 Ok(Some(actor)) => {
-                    self.serve_actor(rt, actor, desk)?;
+                    self.serve_actor(rt, actor, bench)?;
                     place = actor.wrapping_add(1);
                 }
                 Ok(None) => {}
-                Err(Ending::Finished) => return Ok(()),
+                Err(Ending::Finished) => {
+                    return or_stop(self.record(rt, &mut bench.made));
+                }
                 Err(Ending::Stopped(stop)) => {
                     return Err(Stopped {
                         stop,
@@ -168,20 +214,25 @@ impl<'a, K: ClusterName, G: Gate> Cluster<'a, K, G> {
         unreachable!()
     }
 
-    /// An empty desk for a worker.
-    pub fn desk(&self) -> Result<Desk<K>, NoMemory>
-        ensures { IfOk result (λ d. d ≡ desk_data [] (empty_trays K.post.actors)) }
+    /// An empty bench for a worker.
+    pub fn bench(&self) -> Result<Bench<K>, NoMemory>
+        ensures desk { IfOk result (λ b. b.desk ≡ desk_data [] (empty_trays K.post.actors)) }
+        ensures made { IfOk result (λ b. b.made.items ≡ []) }
     {
-        self.dispatch.desk(self.alloc)
+        let desk = self.dispatch.desk(self.alloc)?;
+        Ok(Bench {
+            desk,
+            made: VecDeque::new(self.alloc),
+        })
     }
 
-    // A worker with a desk of its own. Where no memory is found for that, all workers stop.
+    // A worker with a bench of its own. Where no memory is found for that, all workers stop.
     pub(crate) fn work<R: Wait>(&self, rt: &R, worker: u32) -> Result<(), RunStop> {
-        let Ok(mut desk) = self.desk() else {
+        let Ok(mut bench) = self.bench() else {
             self.dispatch.stop(rt, RunStop::NoMemory);
             return Err(RunStop::NoMemory);
         };
-        self.serve(rt, worker, &mut desk)?;
+        self.serve(rt, worker, &mut bench)?;
         Ok(())
     }
 }

@@ -276,7 +276,7 @@ fn run<P: PostName + Send + Sync, R: Threads + Wait + Sync>(
     four: bool,
 ) -> Result<(Vec<u64>, u64), NoMemory>
     requires post { (parts.post ≡ P.post) × (P.post.actors ≡ actors) }
-    requires gatherer { parts.gatherer ≡ P.post }
+    requires gatherer { parts.gatherer.post ≡ P.post }
     requires seats { parts.seats ≡ new_seats P.post 0 actors }
     requires first { parts.first.post ≡ P.post }
 {

@@ -16,10 +16,10 @@ use Rattle.stamp_post.specs.declared.rule.View.{View}
 use Rattle.stamp_post.specs.declared.rule.View.TheVariants.{Gathering, Acting, Sending, Carrying, Spent}
 use Rattle.stamp_post.specs.Logs.{most}
 use Rattle.stamp_post.specs.Rules.{Ruled}
-use Rattle.stamp_post.specs.Moves.{Stamped, carrying, with_actor, new_actor, without_go, go_off, without_outbox, outbox_off, without_letter, letter_off, with_letter, with_seat, with_receipt}
+use Rattle.stamp_post.specs.Moves.{Stamped, carrying, with_actor, new_actor, without_go, go_off, without_outbox, outbox_off, without_letter, letter_off, witness_off, with_letter, with_seat, with_receipt}
 use Rattle.stamp_post.specs.Shown.{Gathers, PostId, SeatData, seat_data, new_seats}
 use Rattle.stamp_post.proofs.Lists.{sent_as, sealed_at}
-use Rattle.stamp_post.proofs.Steps.{stamps, splits_actor, splits_go, splits_outbox, splits_envelope, joins_envelope, joins_seat, joins_receipt, commits_by}
+use Rattle.stamp_post.proofs.Steps.{stamps, splits_actor, splits_go, splits_outbox, splits_envelope, splits_witness, joins_envelope, joins_seat, joins_receipt, commits_by}
 
 pub actor_split : (actors id m : ℕ) (first : Option Letter) (seats : List JoinedSeat) (receipts : List JoinedReceipt)
     (v : View) → v ≡ Gathering m first seats receipts → m < actors
@@ -57,6 +57,11 @@ envelope_split actors id n own p next o v is at =
     (subst (λ (l : Option Letter). Splits (Ruled actors) id (Sending n own p next) (Sending n own p (next + 1))
     (carrying l)) (sym (letter_there p next o at))
     (splits_envelope actors id n own p next o at))
+
+pub witness_split : (actors id n : ℕ) (own : List Posting) (p : Posting) (next : ℕ) (v : View) → v ≡ Sending n own p next
+    → Splits (Ruled actors) id v v (witness_off v)
+witness_split actors id n own p next v is =
+    subst (λ (u : View). Splits (Ruled actors) id u u (witness_off u)) (sym is) (splits_witness actors id n own p next)
 
 pub envelope_join : (actors id n : ℕ) (own : List Posting) (unsent : Option Posting) (other : ℕ) (l : Letter)
     (v w : View) → v ≡ Acting n own None unsent → w ≡ Carrying l → l.to.0 ≡ n

@@ -2,6 +2,7 @@
 use Rattle.std.proofs.Common.{◌≡◌, ◌≢◌, ℕ, zero, suc, ◌+◌, ◌-◌, ◌*◌, ◌%◌, ◌^◌, ◌<◌, ◌≤◌, Bool, List, [], ◌∷◌, ◌++◌, length, set, get_or, refl, sym, ap, ◌∙◌, subst, inl, inr, ⊎_elim, arith, length-append, length-set, get_or-set_same, mul-le-mul_right, eq-eqb, ne_eqb, Option, Some, None}
 use Rattle.std.specs.Prelude.{slice_get}
 use Rattle.std.proofs.lemmas.List.{append-nil}
+use Rattle.std.proofs.lemmas.Option.{slice_get_within}
 use Rattle.tv_base.proofs.ByPlace.{slice_get_split}
 use mathlib.Core.Option.{none, some, some-injective, some-ne-none}
 use native.Mathlib.Decide.{ℕ_discrete}
@@ -404,6 +405,31 @@ splits_envelope actors id n own p next o out = let l : Letter = sent_as p.stamp.
             (id_here l.id),
       ),
     ))
+
+pub splits_witness : (actors id n : ℕ) (own : List Posting) (p : Posting) (next : ℕ)
+    → Splits (Ruled actors) id (Sending n own p next) (Sending n own p next) (Sending n own p (length p.sent))
+splits_witness actors id n own p next s r at =
+    let client : ℕ = actors - 1 in
+    let f = r.fits id (Sending n own p next) at in record {
+      log = r.log;
+      owner = r.owner;
+      made = r.made;
+      holder = r.holder;
+      two = r.two;
+      clock = r.clock;
+      postal = r.postal;
+      few = r.few;
+      by_made = r.by_made;
+      each = r.each;
+      gone = r.gone;
+      fits = split_views (λ j v. Fits client r.log r.owner r.made r.holder j v) s.views id (Sending n own p next)
+          (Sending n own p (length p.sent)) (λ j v apart here. r.fits j v here) f (
+            f.0,
+            f.1,
+            f.2,
+            λ k o le there. absurd (omega (arith, le, slice_get_within p.sent k o there)),
+          );
+    }
 
 -- a letter that comes isn't one of the last posting's, which are all here
 comes_apart : (client : ℕ) (log : List Posting) (owner : ℕ → ℕ) (made : ℕ) (holder : ℕ → ℕ → ℕ) (id n other : ℕ)

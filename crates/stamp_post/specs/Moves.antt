@@ -1,5 +1,5 @@
 -- What each step makes of the views. A step is never made with a view of another kind.
-use Rattle.std.specs.Prelude.{◌≡◌, ℕ, ◌+◌, ◌<◌, List, [], ◌∷◌, ◌++◌, Option, Some, None, slice_get}
+use Rattle.std.specs.Prelude.{◌≡◌, ℕ, ◌+◌, ◌<◌, List, [], ◌∷◌, ◌++◌, Option, Some, None, length, slice_get}
 use Rattle.atomic_table.specs.Table.{Me, Step}
 use Rattle.letter_types.specs.declared.entries.Letter.{Letter}
 use Rattle.letter_types.specs.declared.entries.Outgoing.{Outgoing}
@@ -51,6 +51,11 @@ without_letter _ = Spent
 abbrev pub letter_off : View → View
 letter_off (Sending n own p next) = carrying (slice_get (letters_sent p) next)
 letter_off _ = Spent
+
+-- a witness has no letter to send
+abbrev pub witness_off : View → View
+witness_off (Sending n own p next) = Sending n own p (length p.sent)
+witness_off _ = Spent
 
 abbrev pub takes : ℕ → List Posting → Option Posting → View → View
 takes n own unsent (Carrying l) = Acting n own (Some l) unsent

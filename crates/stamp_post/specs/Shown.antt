@@ -31,7 +31,7 @@ pub record OutboxData : Type 0 where
   pub posting : Posting
   pub next : ℕ
 
--- a receipt: its post, its actor, that actor's postings up to its own, and its own
+-- a receipt or a witness: its post, its actor, that actor's postings up to its own, and its own
 pub record ReceiptData : Type 0 where
   pub post : PostId
   pub number : ℕ
@@ -55,6 +55,14 @@ outbox_data post number own p next = record { post = post; number = number; own 
 
 abbrev pub receipt_data : PostId → ℕ → List Posting → Posting → ReceiptData
 receipt_data post number own p = record { post = post; number = number; own = own; posting = p }
+
+-- a gatherer: its post, and the postings that it knows of
+pub record GathererData : Type 0 where
+  pub post : PostId
+  pub known : List JoinedReceipt
+
+abbrev pub gatherer_data : PostId → List JoinedReceipt → GathererData
+gatherer_data post known = record { post = post; known = known }
 
 abbrev pub envelope_data : PostId → Letter → EnvelopeData
 envelope_data post l = record { post = post; letter = l }

@@ -9,4 +9,4 @@ mod seats;
 
 pub use name::PostName;
 pub use post::{Gathered, Post, PostParts};
-pub use seats::{ActorSeat, Envelope, Gatherer, Outbox, Receipt, Receipts, Seats};
+pub use seats::{ActorSeat, Envelope, Gatherer, Outbox, Receipt, Receipts, Seats, Witness};

@@ -4,15 +4,15 @@ ghost use Rattle.letter_types.specs.declared.entries.Posting.{Posting};
 ghost use Rattle.letter_types.specs.Letters.{go};
 ghost use Rattle.letter_types.specs.Postal.{letters_sent};
 ghost use Rattle.stamp_post.specs.Logs.{most, posting};
-ghost use Rattle.stamp_post.specs.Shown.{seat_data, outbox_data, envelope_data, new_seats, seat_joined, receipt_joined, AreToActors, Gathers};
+ghost use Rattle.stamp_post.specs.Shown.{seat_data, outbox_data, envelope_data, gatherer_data, receipt_data, new_seats, seat_joined, receipt_joined, AreToActors, Gathers};
 ghost use Rattle.stamp_post.specs.Views.{first_data};
 
 use crate::first::FirstSeat;
 use crate::rule::{
     Clock, JoinActor, JoinEnvelope, JoinReceipt, Sends, SplitActor, SplitEnvelope, SplitGo,
-    SplitOutbox, Stamps, View,
+    SplitOutbox, SplitWitness, Stamps, View,
 };
-use crate::seats::{ActorSeat, Envelope, Gatherer, Outbox, Receipt, Receipts, Seats};
+use crate::seats::{ActorSeat, Envelope, Gatherer, Outbox, Receipt, Receipts, Seats, Witness};
 use atomic_table::Table;
 use letter_types::{Letter, LetterId, Letters, go};
 use std::alloc::Global;
@@ -138,7 +138,7 @@ impl Post {
     pub fn start(alloc: Global, actors: u8) -> Result<PostParts, NoMemory>
         requires { 1 ≤ actors }
         ensures post { IfOk result (λ p. p.post.actors ≡ actors) }
-        ensures gatherer { IfOk result (λ p. p.gatherer ≡ p.post) }
+        ensures gatherer { IfOk result (λ p. p.gatherer ≡ gatherer_data p.post []) }
         ensures seats { IfOk result (λ p. p.seats ≡ new_seats p.post 0 actors) }
         ensures first { IfOk result (λ p. p.first ≡ envelope_data p.post (go (actors - 1))) }
     {
@@ -237,6 +237,30 @@ impl Post {
             .join_seat::<JoinActor>(&mut first.seat, seat);
     }
 
+    // A witness comes back.
+    fn join_witness(&self, first: &mut FirstSeat, witness: Witness)
+        requires post { (first.old.post ≡ self.now) × (witness.post ≡ self.now) }
+        ensures { first.new ≡ first_data self.now first.old.made first.old.here first.old.seats
+            (first.old.receipts ++ receipt_joined witness ∷ []) }
+    {
+        let Witness {
+            seat,
+            actors: _,
+            number: _,
+        } = witness;
+        self.table
+            .shared
+            .join_seat::<JoinReceipt>(&mut first.seat, seat);
+    }
+
+    /// The gatherer takes in a witness, and knows of one posting more.
+    pub fn note(&self, gatherer: &mut Gatherer, witness: Witness)
+        requires post { (gatherer.old.post ≡ self.now) × (witness.post ≡ self.now) }
+        ensures { gatherer.new ≡ gatherer_data self.now (gatherer.old.known ++ receipt_joined witness ∷ []) }
+    {
+        self.join_witness(&mut gatherer.first, witness);
+    }
+
     // A receipt comes back.
     fn join_receipt(&self, first: &mut FirstSeat, receipt: Receipt)
         requires post { (first.old.post ≡ self.now) × (receipt.post ≡ self.now) }
@@ -295,12 +319,12 @@ impl Post {
     }
 
     /// Ties the postings of the actors' seats together, and takes the receipts in. They are those of one log that went
-    /// as letters do, with as many postings as the answer counts.
+    /// as letters do, with as many postings as the answer counts. What the gatherer knows of stands there too.
     pub fn gather(self, gatherer: Gatherer, seats: Seats, receipts: Receipts) -> Gathered
-        requires gatherer { gatherer ≡ self }
+        requires gatherer { gatherer.post ≡ self }
         requires seats { All (λ s. s.post ≡ self) seats }
         requires receipts { All (λ r. r.post ≡ self) receipts }
-        ensures { (g : Gathers self.actors (map seat_joined seats) (map receipt_joined receipts))
+        ensures { (g : Gathers self.actors (map seat_joined seats) (gatherer.known ++ map receipt_joined receipts))
             × (length g.log ≡ result.count) }
     {
         let Gatherer { first } = gatherer;
@@ -313,6 +337,22 @@ impl Post {
 }
 
 impl Outbox {
+    /// A witness of the posting.
+    pub fn witness(&mut self, post: &Post) -> Witness
+        requires { self.old.post ≡ post.now }
+        ensures out { self.new ≡ self.old }
+        ensures witness { result ≡ receipt_data self.old.post self.old.number self.old.own self.old.posting }
+    {
+        let actors = self.actors;
+        let number = self.number;
+        let seat = post.table.shared.split_seat::<SplitWitness>(&mut self.seat);
+        Witness {
+            seat,
+            actors,
+            number,
+        }
+    }
+
     /// The next letter of the posting, in order. None exactly where none is left.
     pub fn next(&mut self, post: &Post) -> Option<Envelope>
         requires { self.old.post ≡ post.now }

@@ -10,7 +10,8 @@ pub struct JoinedSeat {
     pub own: LinkedList<Posting>,
 }
 
-/// A receipt that was joined: its actor, that actor's postings up to its own, and its own. No value of it is made.
+/// A receipt or a witness that was joined: its actor, that actor's postings up to its own, and its own. No value of it
+/// is made.
 pub struct JoinedReceipt {
     pub number: u64,
     pub own: LinkedList<Posting>,
@@ -87,6 +88,17 @@ impl Split<View> for SplitEnvelope {
     ghost right = { letter_off };
 }
 
+/// A witness of an outbox's posting off the outbox.
+pub struct SplitWitness;
+
+impl Split<View> for SplitWitness {
+    ghost use Rattle.stamp_post.specs.Moves.{witness_off};
+
+    ghost left = { λ v. v };
+
+    ghost right = { witness_off };
+}
+
 /// An envelope into its addressee.
 pub struct JoinEnvelope;
 
@@ -111,7 +123,7 @@ impl Join<View> for JoinActor {
     ghost spent = { Spent };
 }
 
-/// A receipt into the first seat.
+/// A receipt or a witness into the first seat.
 pub struct JoinReceipt;
 
 impl Join<View> for JoinReceipt {

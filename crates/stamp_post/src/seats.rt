@@ -40,7 +40,8 @@ impl Model for ActorSeat {
 /// Seats in order of actor. A post has at most 255 actors.
 pub type Seats = Seq<ActorSeat, 255>;
 
-/// The seat that the actors' seats and the receipts are gathered into.
+/// The seat that the actors' seats, the witnesses and the receipts are gathered into. Contracts see its post, and which
+/// postings it knows of.
 #[derive(Drop)]
 pub struct Gatherer {
     pub(crate) first: FirstSeat,
@@ -48,13 +49,13 @@ pub struct Gatherer {
 
 impl Model for Gatherer {
     ghost use Rattle.std.specs.Prelude.{◌≡◌, []};
-    ghost use Rattle.stamp_post.specs.Shown.{PostId};
+    ghost use Rattle.stamp_post.specs.Shown.{GathererData, gatherer_data};
 
-    ghost Value = { PostId };
+    ghost Value = { GathererData };
 
-    ghost view = { λ g. g.first.post };
+    ghost view = { λ g. gatherer_data g.first.post g.first.receipts };
 
-    ghost invariant = { λ g. (g.first.seats ≡ []) × (g.first.receipts ≡ []) };
+    ghost invariant = { λ g. g.first.seats ≡ [] };
 }
 
 /// A letter in flight, addressed to one of the post's actors. It can be neither copied nor made otherwise.
@@ -190,6 +191,33 @@ impl Outbox {
             place,
         })
     }
+}
+
+/// That a posting was stamped, whether its letters are out or not. Contracts see its post, its actor, that actor's
+/// postings up to its own, and its own.
+#[derive(Drop)]
+pub struct Witness {
+    pub(crate) seat: Seat<(), View>,
+    pub(crate) actors: u8,
+    pub(crate) number: u8,
+}
+
+impl Model for Witness {
+    ghost use Rattle.std.specs.Prelude.{◌≡◌, [], length};
+    ghost use Rattle.stamp_post.specs.declared.rule.View.TheVariants.{Sending};
+    ghost use Rattle.stamp_post.specs.Shown.{ReceiptData, receipt_data, post_id};
+    ghost use Rattle.stamp_post.specs.Views.{own_in, posting_in};
+
+    ghost Value = { ReceiptData };
+
+    ghost view = { λ w. receipt_data (post_id w.seat.table_id w.actors) w.number (own_in w.seat.me.0)
+        (posting_in w.seat.me.0) };
+
+    ghost invariant = { λ w. w.seat.me ≡ (
+      Sending w.number (own_in w.seat.me.0) (posting_in w.seat.me.0)
+          (length (posting_in w.seat.me.0).sent),
+      [],
+    ) };
 }
 
 /// That a posting was stamped and all its letters are out. Contracts see its post, its actor, that actor's postings up

@@ -1,13 +1,14 @@
 // Letters that two threads of a test's own hand each other, with a receipt of each delivery.
-ghost use Rattle.std.specs.Prelude.{◌≡◌, ◌+◌, All, IfSome};
-ghost use Rattle.stamp_post.specs.Shown.{new_seats};
+ghost use Rattle.std.specs.Prelude.{◌≡◌, ◌+◌, All, [], IfSome};
+ghost use Rattle.stamp_post.specs.Shown.{gatherer_data, new_seats};
 
 use letter_types::{Act, Acts, Entry, History};
 use message_bag::Bag;
-use node_threads::{Cluster, ClusterName, RunStop, Sent};
+use node_threads::{Cluster, ClusterName, Made, RunStop};
 use script_reader::read_script;
 use stamp_post::{Envelope, Post, PostParts, Receipt, Receipts};
 use std::alloc::{AllocError, Global};
+use std::collections::VecDeque;
 use std::marker::{Brand, PhantomData};
 use std::sync::atomic::{AtomicU64, Ordering};
 use std::sync::{Mutex, Wait};
@@ -29,23 +30,30 @@ const ENTRIES: u64 = 6;
 // How often a thread looks into its bag, at most.
 const TURNS: u32 = 0x400_0000;
 
-// A delivery: its receipt, and the acts that `deliver` returned.
+// A delivery: its receipt, and the acts of the entry that `deliver` made.
 #[derive(Drop)]
 struct Delivery<K: ClusterName> {
     receipt: Receipt,
-    acts: Acts,
+    acts: String,
     name: PhantomData<K>,
     ghost receipt_is: { receipt.post ≡ K.post },
+}
+
+// What a thread has done: its deliveries, and the entries that came of them.
+#[derive(Drop)]
+struct Worked<K: ClusterName> {
+    deliveries: Vec<Delivery<K>>,
+    made: VecDeque<Made<K>>,
 }
 
 // What is told of a delivery.
 #[derive(Drop)]
 struct Told {
     stamp: Stamp,
-    acts: Acts,
+    acts: String,
 }
 
-fn delivery_of<K: ClusterName>(receipt: Receipt, acts: Acts) -> Delivery<K>
+fn delivery_of<K: ClusterName>(receipt: Receipt, acts: String) -> Delivery<K>
     requires { receipt.post ≡ K.post }
 {
     Delivery {
@@ -58,19 +66,16 @@ fn delivery_of<K: ClusterName>(receipt: Receipt, acts: Acts) -> Delivery<K>
 // Delivers an envelope, and puts what comes out into the other's bag.
 fn hand_over<K: ClusterName, R: Wait>(
     rt: &R,
+    alloc: Global,
     cluster: &Cluster<'_, K, NoGate>,
     envelope: Envelope,
     other: &Mutex<Bag<K>>,
+    made: &mut VecDeque<Made<K>>,
 ) -> Option<Delivery<K>>
     requires { envelope.post ≡ K.post }
 {
-    let sent = cluster.deliver(rt, envelope).ok()?;
-    let Sent {
-        stamp: _,
-        acts,
-        out,
-    } = sent;
-    let mut out = out;
+    let mut out = cluster.deliver(rt, envelope, made).ok()?;
+    let acts = acts_text(alloc, &made.back()?.entry().acts).ok()?;
     while let Some(envelope) = out.next(cluster.post()) {
         other.lock(rt).put(envelope).ok()?;
     }
@@ -85,19 +90,20 @@ fn work<K: ClusterName, R: Wait>(
     cluster: &Cluster<'_, K, NoGate>,
     own: &Mutex<Bag<K>>,
     other: &Mutex<Bag<K>>,
-    made: &AtomicU64,
-) -> Option<Vec<Delivery<K>>> {
+    count: &AtomicU64,
+) -> Option<Worked<K>> {
     let mut deliveries = Vec::new(alloc);
+    let mut made = VecDeque::new(alloc);
     for _turn in 0..TURNS {
-        if made.load(Ordering::SeqCst) >= ENTRIES {
-            return Some(deliveries);
+        if count.load(Ordering::SeqCst) >= ENTRIES {
+            return Some(Worked { deliveries, made });
         }
         let taken = own.lock(rt).take(0);
         match taken {
             Some(envelope) => {
-                let delivery = hand_over(rt, cluster, envelope, other)?;
+                let delivery = hand_over(rt, alloc, cluster, envelope, other, &mut made)?;
                 deliveries.push(delivery).ok()?;
-                made.fetch_add(1, Ordering::SeqCst);
+                count.fetch_add(1, Ordering::SeqCst);
             }
             None => thread::yield_now(),
         }
@@ -105,24 +111,24 @@ fn work<K: ClusterName, R: Wait>(
     None
 }
 
-// Two threads hand each other the envelopes. What each has delivered.
+// Two threads hand each other the envelopes. What each has done.
 fn by_two<K: ClusterName + Send + Sync, R: Threads + Wait + Sync>(
     rt: &R,
     alloc: Global,
     cluster: &Cluster<'_, K, NoGate>,
     first: Envelope,
-) -> Option<(Vec<Delivery<K>>, Vec<Delivery<K>>)>
+) -> Option<(Worked<K>, Worked<K>)>
     requires { first.post ≡ K.post }
 {
     let mut bag = Bag::new(alloc);
     bag.put(first).ok()?;
     let one = Mutex::new(bag);
     let two = Mutex::new(Bag::new(alloc));
-    let made = AtomicU64::new(0);
+    let count = AtomicU64::new(0);
     let (by_one, by_other) = join(
         rt,
-        || work(rt, alloc, cluster, &one, &two, &made),
-        || work(rt, alloc, cluster, &two, &one, &made),
+        || work(rt, alloc, cluster, &one, &two, &count),
+        || work(rt, alloc, cluster, &two, &one, &count),
     );
     Some((by_one?, by_other?))
 }
@@ -159,6 +165,20 @@ fn keep_all<K: ClusterName>(
     Some(())
 }
 
+// The cluster and the receipts, which come back where no entry is recorded yet.
+fn unfinished<'a, K: ClusterName>(
+    cluster: Cluster<'a, K, NoGate>,
+    receipts: Receipts,
+) -> Option<(Cluster<'a, K, NoGate>, Receipts)>
+    requires { All (λ r. r.post ≡ K.post) receipts }
+    ensures { IfSome result (λ back. All (λ r. r.post ≡ K.post) back.1) }
+{
+    match cluster.finish(receipts) {
+        Err((RunStop::Unfinished, cluster, receipts)) => Some((cluster, receipts)),
+        _ => None,
+    }
+}
+
 // The history. Where memory is wanting it is asked for once more.
 fn finish<K: ClusterName>(cluster: Cluster<'_, K, NoGate>, receipts: Receipts) -> Option<History>
     requires { All (λ r. r.post ≡ K.post) receipts }
@@ -179,19 +199,30 @@ fn ran<K: ClusterName + Send + Sync, R: Threads + Wait + Sync>(
 ) -> Result<(History, Vec<Told>), Fail>
     requires script { script.now ≡ K.script }
     requires post { (parts.post ≡ K.post) × (K.post.actors ≡ K.script.nodes + 2) }
-    requires gatherer { parts.gatherer ≡ K.post }
+    requires gatherer { parts.gatherer ≡ gatherer_data K.post [] }
     requires seats { parts.seats ≡ new_seats K.post 0 K.post.actors }
     requires first { parts.first.post ≡ K.post }
 {
     let (cluster, first) = Cluster::<K, NoGate>::start(alloc, script, &NoGate, parts)?;
     let (by_one, by_other) = by_two(rt, alloc, &cluster, first).ok_or("no delivery")?;
-    if by_one.len() != 3 || by_other.len() != 3 {
+    let Worked {
+        deliveries,
+        mut made,
+    } = by_one;
+    let Worked {
+        deliveries: others,
+        made: mut made_by_other,
+    } = by_other;
+    if deliveries.len() != 3 || others.len() != 3 {
         return Err("one thread alone".into());
     }
     let mut receipts = Receipts::new(alloc);
     let mut told = Vec::new(alloc);
-    keep_all::<K>(&mut receipts, &mut told, by_one).ok_or("memory")?;
-    keep_all::<K>(&mut receipts, &mut told, by_other).ok_or("memory")?;
+    keep_all::<K>(&mut receipts, &mut told, deliveries).ok_or("memory")?;
+    keep_all::<K>(&mut receipts, &mut told, others).ok_or("memory")?;
+    let (cluster, receipts) = unfinished(cluster, receipts).ok_or("a history of no entries")?;
+    cluster.record(rt, &mut made_by_other)?;
+    cluster.record(rt, &mut made)?;
     let history = finish(cluster, receipts).ok_or("no history")?;
     Ok((history, told))
 }
@@ -232,13 +263,12 @@ fn history_text(alloc: Global, history: &History) -> Result<String, AllocError> 
 
 // Whether just one entry of the history has the stamp that was told, and it has the acts that were told.
 fn is_told(alloc: Global, history: &History, told: &Told) -> Result<bool, AllocError> {
-    let acts = acts_text(alloc, &told.acts)?;
     let mut count: u32 = 0;
     let mut alike = false;
     for entry in history.items() {
         if entry.stamp == told.stamp {
             count = count.wrapping_add(1);
-            alike = acts_text(alloc, &entry.acts)? == acts;
+            alike = acts_text(alloc, &entry.acts)? == told.acts;
         }
     }
     Ok(count == 1 && alike)

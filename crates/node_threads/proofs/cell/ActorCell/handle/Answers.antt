@@ -9,7 +9,6 @@ use Rattle.world_model.specs.Taking.{IsAddressed as MayReach}
 use Rattle.world_model.proofs.Addressees.{is_addressed}
 use Rattle.world_model.proofs.SmallCounts.{few_counted}
 use Rattle.world_core.specs.Actors.{actor_data}
-use Rattle.history_merge.specs.OwnLogs.{Handled, row_there}
 use Rattle.node_threads.specs.Cells.{CellData, LeadsTo}
 use Rattle.node_threads.proofs.Entries.{is_row, leads_more, stepped}
 use Rattle.node_threads.proofs.cell.ActorCell.handle.Goals as goal
@@ -28,7 +27,7 @@ actor_step-requires-clause-addressed g c =
 pub actor_step-requires-clause-small : goal.actor_step-requires-clause-small
 actor_step-requires-clause-small g c =
     let st = c.self.inside in
-    let few : length st.log.entries < 1099511627776 = omega (arith, ap (length {A = Entry}) c.in-Ok.ensures.entries, c.in-Ok.ensures.few) in
+    let few : length st.log.entries < 1099511627776 = c.has_room.ensures.0 c.if-not-has_room.false in
     let valid = subst IsValid c.requires.script c.nodes-valid.ensures.valid in
     few_counted g.K.ClusterName.script st.log.number (2 ^ 62) st.log.entries (actor_data st.state) valid c.self.invariant.0.state (omega arith)
 
@@ -37,22 +36,20 @@ enter-requires-clause-sent g c =
     let s = g.K.ClusterName.script in
     let st = c.self.inside in
     let l = c.args.envelope.letter in
-    let is = stepped s c.args.script.now st.log.number c.args.self.now.number st.log.entries st.state c.actor_step.new.state l c.letter.result.now c.in-Ok-actor_step.step.given
-    c.self.invariant.0 c.in-Ok-actor_step.ensures.row c.requires.script c.letter.ensures.letter c.in-Ok-actor_step.ensures.script c.requires.addressee
+    let is = stepped s c.args.script.now st.log.number c.args.self.now.number st.log.entries st.state c.actor_step.new.state l c.letter.result.now c.in-Ok.step.given
+    c.self.invariant.0 c.in-Ok.ensures.row c.requires.script c.letter.ensures.letter c.in-Ok.ensures.script c.requires.addressee
     (ap (λ (x : CellData). x.number) c.self.view_is) in
-    ap (λ (o : Out ActorData). o.sent) (is_row s st.log.number st.log.entries st.state c.actor_step.new.state l c.in-Ok-actor_step.step.given is)
-    ∙ (λ k. (row_there s (sym c.in-Ok.ensures.number k) (sym c.in-Ok.ensures.entries k) l).sent)
+    ap (λ (o : Out ActorData). o.sent) (is_row s st.log.number st.log.entries st.state c.actor_step.new.state l c.in-Ok.step.given is)
 
 pub enter-requires-clause-acts : goal.enter-requires-clause-acts
 enter-requires-clause-acts g c =
     let s = g.K.ClusterName.script in
     let st = c.self.inside in
     let l = c.args.envelope.letter in
-    let is = stepped s c.args.script.now st.log.number c.args.self.now.number st.log.entries st.state c.actor_step.new.state l c.letter.result.now c.in-Ok-actor_step.step.given
-    c.self.invariant.0 c.in-Ok-actor_step.ensures.row c.requires.script c.letter.ensures.letter c.in-Ok-actor_step.ensures.script c.requires.addressee
+    let is = stepped s c.args.script.now st.log.number c.args.self.now.number st.log.entries st.state c.actor_step.new.state l c.letter.result.now c.in-Ok.step.given
+    c.self.invariant.0 c.in-Ok.ensures.row c.requires.script c.letter.ensures.letter c.in-Ok.ensures.script c.requires.addressee
     (ap (λ (x : CellData). x.number) c.self.view_is) in
-    ap (λ (o : Out ActorData). o.acts) (is_row s st.log.number st.log.entries st.state c.actor_step.new.state l c.in-Ok-actor_step.step.given is)
-    ∙ (λ k. (row_there s (sym c.in-Ok.ensures.number k) (sym c.in-Ok.ensures.entries k) l).acts)
+    ap (λ (o : Out ActorData). o.acts) (is_row s st.log.number st.log.entries st.state c.actor_step.new.state l c.in-Ok.step.given is)
 
 pub invariant_of-self-2 : goal.invariant_of-self-2
 invariant_of-self-2 g c =
@@ -62,11 +59,11 @@ invariant_of-self-2 g c =
     let l = c.args.envelope.letter in
     let now = c.actor_step.new.state in
     let new : List Entry = c.enter.new.self.entries in
-    let is = stepped s c.args.script.now st.log.number c.args.self.now.number st.log.entries st.state now l c.letter.result.now c.in-Ok-actor_step.step.given
-    c.self.invariant.0 c.in-Ok-actor_step.ensures.row c.requires.script c.letter.ensures.letter c.in-Ok-actor_step.ensures.script c.requires.addressee
+    let is = stepped s c.args.script.now st.log.number c.args.self.now.number st.log.entries st.state now l c.letter.result.now c.in-Ok.step.given
+    c.self.invariant.0 c.in-Ok.ensures.row c.requires.script c.letter.ensures.letter c.in-Ok.ensures.script c.requires.addressee
     (ap (λ (x : CellData). x.number) c.self.view_is) in
-    let handled = subst (λ (z : ℕ × List Entry). Handled post z.0 z.1 new l c.enter.result) (λ k. (c.in-Ok.ensures.number k, c.in-Ok.ensures.entries k)) c.enter.ensures.handled in
-    let leads = leads_more post s st.log.number st.log.entries new st.state now l c.in-Ok-actor_step.step.given c.enter.result is handled in (
-      subst (λ (n : ℕ). LeadsTo s n new now) (sym (c.enter.ensures.number ∙ c.in-Ok.ensures.number)) leads,
+    let leads = leads_more post s st.log.number st.log.entries new st.state now l c.in-Ok.step.given c.reserve.new.self.items c.enter.new.made.items c.enter.result
+    is c.enter.ensures.handled in (
+      subst (λ (n : ℕ). LeadsTo s n new now) (sym c.enter.ensures.number) leads,
       c.self.invariant.1,
     )

@@ -5,39 +5,39 @@ use Rattle.std.proofs.lemmas.List.{length-map, map-set}
 use Rattle.std.proofs.lemmas.Option.{slice_get_within}
 use Rattle.tv_base.proofs.ByPlace.{get_map}
 use Rattle.letter_types.specs.declared.entries.Entry.{Entry}
-use Rattle.history_merge.specs.inside.Taking.{FirstHas}
+use Rattle.history_merge.specs.Recording.{FirstHas}
 use Rattle.history_merge.proofs.Merges.{at_place, first_of, none_more}
-use Rattle.history_merge.proofs.merge.taken_out.Goals as goal
+use Rattle.history_merge.proofs.recorder.taken_out.Goals as goal
 
 pub returns-then-is_first-clause-taken : goal.returns-then-is_first-clause-taken
-returns-then-is_first-clause-taken c =
+returns-then-is_first-clause-taken g c =
     let items_of : VecDeque Entry Global → List Entry = λ v. v.items in
-    let a = c.loop-actor.actor in
-    let old = c.loop-actor.lists.items in
-    let same : old ≡ c.args.lists.now.items = c.loop-actor.invariant.same in
+    let a = c.loop-place.place in
+    let old = c.loop-place.lists.items in
+    let same : old ≡ c.args.lists.now.items = c.loop-place.invariant.same in
     let d = c.index_mut-list.result.now in
     let inside : a < length old = search rules in
     let there : d ≡ get_or old a d = c.index_mut-list.ensures.value in
     let here : slice_get old a ≡ Some d = at_place old a d inside there in
     let row : slice_get (map items_of old) a ≡ Some d.items = get_map items_of old a d here in
-    let popped : d.items ≡ c.in_ok-entry.entry ∷ c.pop_front.new.self.items = c.in_ok-entry.ensures.items in
+    let popped : d.items ≡ c.in_ok-made.made ∷ c.pop_front.new.self.items = c.in_ok-made.ensures.items in
     let at_first : Some c.index.result.now ≡ Some d = sym (at_place old a c.index.result.now inside c.index.ensures) ∙ here in
     let one : c.index.result.now ≡ d = cc at_first in
     let has : FirstHas c.args.stamp.0 d.items = subst (λ (x : VecDeque Entry Global). FirstHas c.args.stamp.0 x.items) one (c.is_first.ensures.0 c.if-is_first.true) in
     record {
-      actor = a;
+      place = a;
       left = c.pop_front.new.self.items;
       at = subst (λ (l : List (VecDeque Entry Global)). slice_get (map items_of l) a ≡ Some d.items) same row ∙ ap (λ (l : List Entry). Some l) popped;
       set = map-set items_of old a c.pop_front.new.self ∙ ap (λ (l : List (VecDeque Entry Global)). slice_set (map items_of l) a c.pop_front.new.self.items) same;
-      stamp_is = first_of d.items c.in_ok-entry.entry c.pop_front.new.self.items c.args.stamp.0 popped has;
+      stamp_is = first_of d.items c.in_ok-made.made c.pop_front.new.self.items c.args.stamp.0 popped has;
     }
 
-pub loop-actor-preserved : goal.loop-actor-preserved
-loop-actor-preserved c =
+pub loop-place-preserved : goal.loop-place-preserved
+loop-place-preserved g c =
     let items_of : VecDeque Entry Global → List Entry = λ v. v.items in
-    let i = c.loop-actor.invariant in
-    let a = c.loop-actor.actor in
-    let old = c.loop-actor.lists.items in
+    let i = c.loop-place.invariant in
+    let a = c.loop-place.place in
+    let old = c.loop-place.lists.items in
     let d = c.index.result.now in
     let inside : a < length old = search rules in
     let row : slice_get (map items_of old) a ≡ Some d.items = get_map items_of old a d (at_place old a d inside c.index.ensures) in
@@ -49,9 +49,10 @@ loop-actor-preserved c =
     }
 
 pub returns-clause-none : goal.returns-clause-none
-returns-clause-none c = λ _ a es at.
+returns-clause-none g c = λ _ a es at.
     let items_of : VecDeque Entry Global → List Entry = λ v. v.items in
     let items = c.args.lists.now.items in
     let long : vec_len c.args.lists.now ≡ length items = c.args.lists.now.ok.0 in
-    c.loop-actor.invariant.none a es
-    (omega (arith, slice_get_within (map items_of items) a es at, length-map items items_of, c.len-actor-end.ensures, c.loop-actor-test.false, long)) at
+    let there = subst (λ (l : List (VecDeque Entry Global)). slice_get (map items_of l) a ≡ Some es) c.loop-place.invariant.same at in
+    c.loop-place.invariant.none a es
+    (omega (arith, slice_get_within (map items_of items) a es there, length-map items items_of, c.len-place-end.ensures, c.loop-place-test.false, long)) there

@@ -1,0 +1,11 @@
+use Rattle.std.proofs.Common.{◌≡◌, ◌<◌, ℕ, List, map, Some}
+use Rattle.std.specs.Prelude.{slice_get}
+use Rattle.letter_types.specs.declared.entries.Entry.{Entry}
+use Rattle.history_merge.specs.Recording.{FirstHas}
+use Rattle.history_merge.proofs.recorder.taken_out.Given as goal
+
+abbrev pub invariant-loop-place : goal.invariant-loop-place
+invariant-loop-place g l = record {
+  same : l.lists.items ≡ l.initial.lists.items;
+  none : (a : ℕ) (es : List Entry) → a < l.place → slice_get (map (λ v. v.items) l.initial.lists.items) a ≡ Some es → ¬ FirstHas l.stamp.0 es;
+}

@@ -1,0 +1,62 @@
+-- How the entries of all actors are recorded in one history, by stamp.
+use Rattle.std.specs.Prelude.{◌≡◌, ◌+◌, ℕ, List, [], ◌∷◌, ◌++◌, ◌⊎◌, length, slice_get, slice_set, Some}
+use Rattle.letter_types.specs.declared.entries.Entry.{Entry}
+use Rattle.stamp_post.specs.declared.rule.JoinedReceipt.{JoinedReceipt}
+use Rattle.tx_trees.specs.ScriptData.{ScriptData}
+use Rattle.history_merge.specs.Histories.{entries_by}
+
+-- the actor's table makes this entry of the last of the postings that are told
+abbrev pub Vouches : ScriptData → JoinedReceipt → Entry → Type 0
+Vouches s r e = (before : List Entry) × (entries_by s r.number r.own ≡ before ++ e ∷ [])
+
+-- the entries have the stamps from 1 on, and for each there is one that vouches
+abbrev pub AreRecorded : ScriptData → List JoinedReceipt → List Entry → Type 0
+AreRecorded s known es =
+    (k : ℕ) (e : Entry) → slice_get es k ≡ Some e
+    → (e.stamp.0 ≡ k + 1) × ((j : ℕ) × (r : JoinedReceipt) × (slice_get known j ≡ Some r) × Vouches s r e)
+
+-- the entries that are recorded, and those that wait, in lists as they were handed in
+pub record RecorderData : Type 0 where
+  pub done : List Entry
+  pub waiting : List (List Entry)
+
+abbrev pub recorder_data : List Entry → List (List Entry) → RecorderData
+recorder_data done waiting = record { done = done; waiting = waiting }
+
+-- nothing waits at a place: it was free, or was made for this
+abbrev pub IsVacant : List (List Entry) → ℕ → List (List Entry) → Type 0
+IsVacant old place new = (slice_get new place ≡ Some []) × ((new ≡ old) ⊎ (new ≡ old ++ [] ∷ []))
+
+-- these entries wait too, at a place where nothing waited
+pub record IsHandedIn (made : List Entry) (old new : RecorderData) : Type 0 where
+  pub place : ℕ
+  pub between : List (List Entry)
+  pub free : IsVacant old.waiting place between
+  pub waiting : new.waiting ≡ slice_set between place made
+  pub done : new.done ≡ old.done
+
+-- an entry was taken out of the lists: it was the first of one, and has this stamp
+pub record Taken (stamp : ℕ) (old new : List (List Entry)) (e : Entry) : Type 0 where
+  pub place : ℕ
+  pub left : List Entry
+  pub at : slice_get old place ≡ Some (e ∷ left)
+  pub set : new ≡ slice_set old place left
+  pub stamp_is : e.stamp.0 ≡ stamp
+
+-- the first entry has this stamp
+abbrev pub FirstHas : ℕ → List Entry → Type 0
+FirstHas stamp [] = ⊥
+FirstHas stamp (e ∷ es) = e.stamp.0 ≡ stamp
+
+-- no list has an entry with this stamp first
+abbrev pub NoneHas : ℕ → List (List Entry) → Type 0
+NoneHas stamp lists = (a : ℕ) (es : List Entry) → slice_get lists a ≡ Some es → ¬ FirstHas stamp es
+
+-- the next entry was recorded
+abbrev pub RecordsNext : RecorderData → RecorderData → Entry → Type 0
+RecordsNext old new e = Taken (length old.done + 1) old.waiting new.waiting e × (new.done ≡ old.done ++ e ∷ [])
+
+-- these entries were recorded, one after the other
+abbrev pub Records : List Entry → RecorderData → RecorderData → Type 0
+Records [] old new = old ≡ new
+Records (e ∷ es) old new = (between : RecorderData) × RecordsNext old between e × Records es between new
