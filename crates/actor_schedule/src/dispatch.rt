@@ -1,5 +1,5 @@
 // The letters that are in flight, and the workers that look for them.
-ghost use Rattle.std.specs.Prelude.{◌≡◌, ◌<◌, ℕ, [], ◌++◌, drop, length, IfErr, IfOk, IfSome, OnErr, OnOk};
+ghost use Rattle.std.specs.Prelude.{◌≡◌, ◌<◌, ℕ, [], ◌++◌, drop, length, IfErr, IfOk, IfSome, IsNone, OnErr, OnOk};
 ghost use Rattle.actor_schedule.specs.Desks.{desk_data, empty_trays};
 
 use crate::desk::Desk;
@@ -117,6 +117,7 @@ impl<P: PostName> Dispatch<P> {
     pub fn take<R: Wait>(&self, rt: &R, actor: u8, desk: &mut Desk<P>) -> Option<Envelope>
         requires { actor < P.post.actors }
         ensures trays { desk.new.trays ≡ desk.old.trays }
+        ensures none { IsNone result → desk.new.hand ≡ [] }
         ensures post { IfSome result (λ e. e.post ≡ P.post) }
     {
         let lock: &Mutex<Mailbox<P>> = &self.mailboxes[actor as usize];
@@ -128,6 +129,9 @@ impl<P: PostName> Dispatch<P> {
         requires { actor < P.post.actors }
         ensures { desk.new.trays ≡ desk.old.trays }
     {
+        if desk.hand.is_empty() {
+            return;
+        }
         let lock: &Mutex<Mailbox<P>> = &self.mailboxes[actor as usize];
         lock.lock(rt).give_back(&mut desk.hand);
     }
@@ -159,8 +163,7 @@ impl<P: PostName> Dispatch<P> {
     }
 
     /// The actor that a worker serves next, which was ready: the first from this place on, in cyclic order, of those
-    /// that it was the last to serve or that nobody has served, or else of all. Where none is, the worker sleeps until
-    /// it is notified, and is to look again.
+    /// that it was the last to serve or that nobody has served, or else of all. None where none is ready.
     pub fn next<R: Wait>(&self, rt: &R, worker: u32, from: u8) -> Result<Option<u8>, Ending>
         ensures { IfOk result (λ next. IfSome next (λ actor. actor < P.post.actors)) }
     {
@@ -171,15 +174,20 @@ impl<P: PostName> Dispatch<P> {
         if schedule.has_finished() {
             return Err(Ending::Finished);
         }
-        let next = schedule.take(worker, from, self.actors);
-        if next.is_none() {
-            schedule.fall_asleep();
-            let mut up = self
-                .wakes
-                .wait_while(rt, schedule, |schedule| !schedule.wakes());
-            up.get_up();
+        Ok(schedule.take(worker, from, self.actors))
+    }
+
+    /// A worker sleeps until it is notified, unless an actor is ready. Then it is to look for the next again.
+    pub fn sleep<R: Wait>(&self, rt: &R) {
+        let mut schedule = self.schedule.lock(rt);
+        if schedule.has_ready(self.actors) {
+            return;
         }
-        Ok(next)
+        schedule.fall_asleep();
+        let mut up = self
+            .wakes
+            .wait_while(rt, schedule, |schedule| !schedule.wakes());
+        up.get_up();
     }
 
     /// The client has finished: all workers end.

@@ -1,5 +1,5 @@
 // Which actors are ready to be served, and which workers sleep until one is.
-ghost use Rattle.std.specs.Prelude.{◌≡◌, ℕ, ◌-◌, ◌<◌, true, false, IfSome, IfNone, if◌then◌else◌};
+ghost use Rattle.std.specs.Prelude.{◌≡◌, ℕ, ◌-◌, ◌<◌, true, false, is_some, IfSome, IfNone, None, if◌then◌else◌};
 ghost use Rattle.actor_schedule.specs.Schedules.{at_first, is_ready, first_ready, next_for, with_ready, with_given, notifies_one, with_notified, is_to_get_up};
 ghost use Rattle.tv_base.specs.Outside.{one_more};
 
@@ -87,6 +87,13 @@ impl Schedule {
         self.server[actor as usize] = worker;
         self.waiting = self.waiting.wrapping_sub(1);
         Some(actor)
+    }
+
+    // Whether one of so many actors is ready.
+    pub(crate) fn has_ready(&self, actors: u8) -> bool
+        ensures { result ≡ is_some (first_ready self.now 0 actors None) }
+    {
+        self.first_ready(0, actors, None).is_some()
     }
 
     // The client has finished.

@@ -1,5 +1,6 @@
 -- How the entries of all actors are recorded in one history, by stamp.
-use Rattle.std.specs.Prelude.{◌≡◌, ◌+◌, ℕ, List, [], ◌∷◌, ◌++◌, ◌⊎◌, length, slice_get, slice_set, Some}
+use Rattle.std.specs.Prelude.{◌≡◌, ◌+◌, ℕ, List, [], ◌∷◌, ◌++◌, length, slice_get, slice_set, Some}
+use Rattle.std.specs.List.{remove}
 use Rattle.letter_types.specs.declared.entries.Entry.{Entry}
 use Rattle.stamp_post.specs.declared.rule.JoinedReceipt.{JoinedReceipt}
 use Rattle.tx_trees.specs.ScriptData.{ScriptData}
@@ -23,24 +24,21 @@ pub record RecorderData : Type 0 where
 abbrev pub recorder_data : List Entry → List (List Entry) → RecorderData
 recorder_data done waiting = record { done = done; waiting = waiting }
 
--- nothing waits at a place: it was free, or was made for this
-abbrev pub IsVacant : List (List Entry) → ℕ → List (List Entry) → Type 0
-IsVacant old place new = (slice_get new place ≡ Some []) × ((new ≡ old) ⊎ (new ≡ old ++ [] ∷ []))
+-- these entries wait too, behind the others
+abbrev pub handed_in : List Entry → RecorderData → RecorderData
+handed_in made d = recorder_data d.done (d.waiting ++ made ∷ [])
 
--- these entries wait too, at a place where nothing waited
-pub record IsHandedIn (made : List Entry) (old new : RecorderData) : Type 0 where
-  pub place : ℕ
-  pub between : List (List Entry)
-  pub free : IsVacant old.waiting place between
-  pub waiting : new.waiting ≡ slice_set between place made
-  pub done : new.done ≡ old.done
+-- the lists with this one at a place; an empty one goes
+abbrev pub lists_left : List (List Entry) → ℕ → List Entry → List (List Entry)
+lists_left lists place [] = remove lists place
+lists_left lists place (e ∷ es) = slice_set lists place (e ∷ es)
 
 -- an entry was taken out of the lists: it was the first of one, and has this stamp
 pub record Taken (stamp : ℕ) (old new : List (List Entry)) (e : Entry) : Type 0 where
   pub place : ℕ
   pub left : List Entry
   pub at : slice_get old place ≡ Some (e ∷ left)
-  pub set : new ≡ slice_set old place left
+  pub lists : new ≡ lists_left old place left
   pub stamp_is : e.stamp.0 ≡ stamp
 
 -- the first entry has this stamp

@@ -10,7 +10,7 @@ ghost use Rattle.history_merge.specs.OwnLogs.{Delivered, Handled, log_data, row_
 
 use crate::made::Made;
 use crate::name::ClusterName;
-use letter_types::{Entry, Step, StepOut};
+use letter_types::{Entry, Letters, StepOut};
 use stamp_post::{ActorSeat, Envelope, Outbox, Post};
 use std::collections::VecDeque;
 use std::marker::{Model, PhantomData};
@@ -93,23 +93,24 @@ impl<K: ClusterName> OwnLog<K> {
     }
 
     /// Enters what the actor's step made of a letter that is addressed to it: takes the letter, stamps the entry, puts
-    /// that last among those that were made, for which there is room, and makes the outbox. The step is the row of the
-    /// actor's table where its entries have led.
+    /// that last among those that were made, for which there is room, and makes the outbox, of a copy of what is sent.
+    /// The step is the row of the actor's table where its entries have led.
     pub fn enter(
         &mut self,
         post: &Post,
         envelope: Envelope,
         script: &Script,
-        step: Step,
+        out: StepOut,
+        copy: Letters,
         made: &mut VecDeque<Made<K>>,
     ) -> Outbox
         requires post { (post.now ≡ K.post) × (envelope.post ≡ K.post) }
         requires script { (script.now ≡ K.script) × (K.post.actors ≡ K.script.nodes + 2) }
         requires addressee { envelope.letter.to.0 ≡ self.old.number }
         requires few { length self.old.entries < most }
-        requires sent { step.given.sent ≡ (row_there K.script self.old.number self.old.entries envelope.letter).sent }
-        requires acts { step.given.acts ≡ (row_there K.script self.old.number self.old.entries envelope.letter).acts }
-        requires kept { step.kept ≡ step.given }
+        requires sent { out.sent ≡ (row_there K.script self.old.number self.old.entries envelope.letter).sent }
+        requires acts { out.acts ≡ (row_there K.script self.old.number self.old.entries envelope.letter).acts }
+        requires copy { copy ≡ out.sent }
         requires room { deque_len made.old < deque_capacity made.old }
         ensures number { self.new.number ≡ self.old.number }
         ensures handled { Handled K.post self.old.number self.old.entries self.new.entries envelope.letter made.old.items
@@ -117,13 +118,11 @@ impl<K: ClusterName> OwnLog<K> {
         ensures delivered { Delivered K.post K.script envelope.letter made.old.items made.new.items result }
     {
         let _valid = script.nodes();
-        let Step { given, kept } = step;
-        let StepOut { sent: out, acts: _ } = given;
-        let StepOut { sent, acts } = kept;
+        let StepOut { sent, acts } = out;
         let took = post.take(&mut self.seat, envelope);
         let stamp = post.stamp(&mut self.seat, &took, &sent);
-        let mut out = post.outbox(&mut self.seat, stamp, out);
-        let witness = out.witness(post);
+        let mut outbox = post.outbox(&mut self.seat, stamp, copy);
+        let witness = outbox.witness(post);
         self.count += 1;
         let entry = Entry {
             stamp,
@@ -133,7 +132,7 @@ impl<K: ClusterName> OwnLog<K> {
             acts,
         };
         made.push_back_reserved(Made::new(entry, witness));
-        out
+        outbox
     }
 
     // The actor's seat.

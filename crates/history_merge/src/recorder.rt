@@ -2,7 +2,7 @@
 ghost use Rattle.std.specs.Prelude.{◌≡◌, ◌+◌, ◌↔◌, List, [], length, map, true, false, IfSome, IsNone, IfOk, OnErr, OnOk};
 ghost use Rattle.letter_types.specs.declared.entries.Entry.{Entry};
 ghost use Rattle.stamp_post.specs.Shown.{gatherer_data};
-ghost use Rattle.history_merge.specs.Recording.{AreRecorded, FirstHas, IsVacant, IsHandedIn, RecordsNext, NoneHas, Records, Taken, recorder_data};
+ghost use Rattle.history_merge.specs.Recording.{AreRecorded, FirstHas, RecordsNext, NoneHas, Records, Taken, handed_in, recorder_data};
 
 use crate::made::Made;
 use crate::name::ClusterName;
@@ -58,7 +58,8 @@ fn is_first<K: ClusterName>(list: &VecDeque<Made<K>>, stamp: Stamp) -> bool
     }
 }
 
-// Takes out the entry with this stamp, if it is the first of a list.
+// Takes out the entry with this stamp, if it is the first of a list; a list that is empty then goes. The others stay in
+// the order in which they were handed in, so the oldest of each worker is among the first, and few are looked at.
 fn taken_out<K: ClusterName>(lists: &mut Vec<VecDeque<Made<K>>>, stamp: Stamp) -> Option<Made<K>>
     ensures taken { IfSome result (Taken stamp.0 (map (λ v. v.items) lists.old.items)
         (map (λ v. v.items) lists.new.items)) }
@@ -69,6 +70,9 @@ fn taken_out<K: ClusterName>(lists: &mut Vec<VecDeque<Made<K>>>, stamp: Stamp) -
         if is_first(&lists[place], stamp) {
             let list = &mut lists[place];
             let made = list.pop_front()?;
+            if list.is_empty() {
+                lists.remove(place);
+            }
             return Some(made);
         }
     }
@@ -90,29 +94,15 @@ impl<K: ClusterName> Recorder<K> {
         }
     }
 
-    // A place for a list that waits.
-    fn free_place(&mut self) -> Result<usize, NoMemory>
-        ensures ok { IfOk result (λ place. IsVacant self.old.waiting place self.new.waiting) }
-        ensures done { self.new.done ≡ self.old.done }
-        ensures err { OnErr result (self.new ≡ self.old) }
-    {
-        for place in 0..self.waiting.len() {
-            if self.waiting[place].is_empty() {
-                return Ok(place);
-            }
-        }
-        self.waiting.push(VecDeque::new(self.alloc))?;
-        Ok(self.waiting.len() - 1)
-    }
-
     /// Entries that were made are handed in. Where no memory is found they are left, and the recorder is as it was.
     pub fn take_in(&mut self, made: &mut VecDeque<Made<K>>) -> Result<(), NoMemory>
-        ensures ok { OnOk result ((made.new.items ≡ []) × IsHandedIn made.old.items self.old self.new) }
+        ensures ok { OnOk result (self.new ≡ handed_in made.old.items self.old) }
+        ensures emptied { OnOk result (made.new.items ≡ []) }
         ensures err { OnErr result ((made.new.items ≡ made.old.items) × (self.new ≡ self.old)) }
     {
-        let place = self.free_place()?;
-        let list = &mut self.waiting[place];
-        mem::swap(list, made);
+        let room = VecDeque::with_capacity(self.alloc, made.len())?;
+        self.waiting.reserve(1)?;
+        self.waiting.push_reserved(mem::replace(made, room));
         Ok(())
     }
 

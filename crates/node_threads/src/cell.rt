@@ -1,17 +1,23 @@
 // What lies under an actor's lock.
-ghost use Rattle.std.specs.Prelude.{◌≡◌, ◌+◌, ◌<◌, [], IfOk, MatchResult, None, length};
+ghost use Rattle.std.specs.Prelude.{◌≡◌, ◌+◌, ◌<◌, [], IfOk, MatchResult, None, OnErr, OnOk, length};
+ghost use Rattle.letter_types.specs.Steps.{made};
+ghost use Rattle.pair_counters.specs.Numbers.{MOST_COUNT};
 ghost use Rattle.stamp_post.specs.Shown.{seat_data};
+ghost use Rattle.world_model.specs.Tables.{actor_row};
+ghost use Rattle.world_model.specs.Taking.{CountsBelow, IsAddressed};
+ghost use Rattle.world_core.specs.Actors.{IsFor, actor_data};
 ghost use Rattle.history_merge.specs.OwnLogs.{Delivered, Handled};
 ghost use Rattle.node_threads.specs.Cells.{cell_data};
 
 use history_merge::{ClusterName, Made, OwnLog};
+use letter_types::{Letter, Letters, StepOut, copy_letters};
 use stamp_post::{ActorSeat, Envelope, Outbox, Post};
 use std::alloc::Global;
 use std::collections::VecDeque;
 use std::marker::Model;
 use tv_base::{ActorNo, NoMemory};
 use tx_trees::Script;
-use world_core::{ActorState, actor_step};
+use world_core::{ActorState, actor_done, actor_prepare};
 
 /// An actor: its own log, of the script and the post that `K` names, and its state, to which the log's entries lead.
 /// Contracts see its number and its entries.
@@ -38,6 +44,29 @@ impl<K: ClusterName> Drop for ActorCell<K> {
     fn drop(self) {
         let ActorCell { log: _, state: _ } = self;
     }
+}
+
+// What an actor does with a letter that is addressed to it: its row of its table. What goes out is given for its entry,
+// with a copy of the letters for the outbox. If memory runs out, the actor is as it was.
+fn step(
+    alloc: Global,
+    state: &mut ActorState,
+    letter: &Letter,
+    script: &Script,
+) -> Result<(StepOut, Letters), NoMemory>
+    requires addressed { IsAddressed script.now letter.now (actor_data state.old) }
+    requires script { IsFor script.now state.old }
+    requires small { CountsBelow MOST_COUNT (actor_data state.old) }
+    ensures row { IfOk result (λ r. made (actor_data state.new) r.0
+        ≡ actor_row script.now letter.now.to.0 (actor_data state.old) letter.now) }
+    ensures copy { IfOk result (λ r. r.1 ≡ r.0.sent) }
+    ensures script { OnOk result (IsFor script.now state.new) }
+    ensures err { OnErr result (state.new ≡ state.old) }
+{
+    let prepared = actor_prepare(alloc, state, letter, script)?;
+    let copy = copy_letters(alloc, &prepared.out().sent)?;
+    let out = actor_done(state, prepared)?;
+    Ok((out, copy))
 }
 
 impl<K: ClusterName> ActorCell<K> {
@@ -103,10 +132,10 @@ impl<K: ClusterName> ActorCell<K> {
         if made.reserve(1).is_err() {
             return Err((NoMemory, envelope));
         }
-        let Ok(step) = actor_step(alloc, &mut self.state, envelope.letter(), script) else {
+        let Ok((out, copy)) = step(alloc, &mut self.state, envelope.letter(), script) else {
             return Err((NoMemory, envelope));
         };
-        Ok(self.log.enter(post, envelope, script, step, made))
+        Ok(self.log.enter(post, envelope, script, out, copy, made))
     }
 
     // The actor's own log.

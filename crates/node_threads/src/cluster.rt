@@ -1,5 +1,5 @@
 // Cells behind locks.
-ghost use Rattle.std.specs.Prelude.{◌≡◌, ◌+◌, ◌≤◌, ◌⊎◌, ℕ, All, [], length, slice_get, IfErr, IfOk, MatchResult, OnOk, Some};
+ghost use Rattle.std.specs.Prelude.{◌≡◌, ◌+◌, ◌≤◌, ◌⊎◌, ℕ, All, [], length, slice_get, IfErr, IfOk, MatchResult, OnErr, OnOk, Some};
 ghost use Rattle.stamp_post.specs.Shown.{ReceiptData, gatherer_data, new_seats};
 ghost use Rattle.world_model.specs.Runs.{IsWorldRun};
 ghost use Rattle.history_merge.specs.Histories.{HasReceiptEntry};
@@ -151,7 +151,8 @@ impl<'a, K: ClusterName, G: Gate> Cluster<'a, K, G> {
     /// Hands the entries in that were made, and records all that are next. Where no memory is found they are left, or wait
     /// in the recorder for a later call.
     pub fn record<R: Wait>(&self, rt: &R, made: &mut VecDeque<Made<K>>) -> Result<(), NoMemory>
-        ensures { OnOk result (made.new.items ≡ []) }
+        ensures ok { OnOk result (made.new.items ≡ []) }
+        ensures err { OnErr result ((made.new.items ≡ made.old.items) ⊎ (made.new.items ≡ [])) }
     {
         let mut recorder = self.recorder.lock(rt);
         recorder.take_in(made)?;
@@ -159,7 +160,9 @@ impl<'a, K: ClusterName, G: Gate> Cluster<'a, K, G> {
     }
 
     /// The same, where nobody else does so just then. Else they are left too.
-    pub(crate) fn record_if_free(&self, made: &mut VecDeque<Made<K>>) -> Result<(), NoMemory> {
+    pub(crate) fn record_if_free(&self, made: &mut VecDeque<Made<K>>) -> Result<(), NoMemory>
+        ensures { (made.new.items ≡ made.old.items) ⊎ (made.new.items ≡ []) }
+    {
         match self.recorder.try_lock() {
             Some(mut recorder) => {
                 recorder.take_in(made)?;

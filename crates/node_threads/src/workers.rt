@@ -177,15 +177,30 @@ impl<'a, K: ClusterName, G: Gate> Cluster<'a, K, G> {
         served
     }
 
+    // A worker for which no actor is ready hands in what it made, so that nobody waits for that, and sleeps. Where no
+    // memory is found it tells the others.
+    fn rest<R: Wait>(&self, rt: &R, bench: &mut Bench<K>) -> Result<(), Stopped>
+        ensures { IfErr result (λ s. s.held ≡ helds.Nothing) }
+    {
+        if !bench.made.is_empty() {
+            if let Err(NoMemory) = self.record(rt, &mut bench.made) {
+                self.dispatch.stop(rt, RunStop::NoMemory);
+                return Err(out_of_memory(Held::Nothing));
+            }
+        }
+        self.dispatch.sleep(rt);
+        Ok(())
+    }
+
     /// A worker: it serves an actor for which a letter lies in a mailbox and that no other worker serves: the next in
     /// cyclic order of those that it was the last to serve or that nobody has served, or else of all. It delivers the
     /// oldest letters of that mailbox, a turn of them at most, sorts what comes out on the desk of its bench, which
     /// `Cluster::bench` gives, and puts it into the mailboxes at the turn's end. The entries that come of it are handed
-    /// in at the end of some turns, and at its own end. Then it goes on with the next actor. Where there is none, it
-    /// sleeps until an envelope is put that nobody else is about to take. It ends once the client has finished, or once
-    /// any worker stops. What it had in hand when it stopped itself comes back, lies in its mailbox again, or in a tray
-    /// of its desk; where another worker stopped it has nothing in hand, and tells that one's cause. Either way the
-    /// entries that it hasn't handed in lie on the bench.
+    /// in at the end of some turns, before it sleeps, and at its own end. Then it goes on with the next actor. Where
+    /// there is none, it sleeps until an envelope is put that nobody else is about to take. It ends once the client has
+    /// finished, or once any worker stops. What it had in hand when it stopped itself comes back, lies in its mailbox
+    /// again, or in a tray of its desk; where another worker stopped it has nothing in hand, and tells that one's
+    /// cause. Either way the entries that it hasn't handed in lie on the bench.
     ///
     /// `worker` is its own number, by which it is known as the last to serve an actor: different workers should have
     /// different numbers, and 2^32 - 1 stands for nobody.
@@ -199,7 +214,7 @@ impl<'a, K: ClusterName, G: Gate> Cluster<'a, K, G> {
                     self.serve_actor(rt, actor, bench)?;
                     place = actor.wrapping_add(1);
                 }
-                Ok(None) => {}
+                Ok(None) => self.rest(rt, bench)?,
                 Err(Ending::Finished) => {
                     return or_stop(self.record(rt, &mut bench.made));
                 }

@@ -1,13 +1,18 @@
-use Rattle.std.proofs.Common.{◌≡◌, List, ◌∷◌, map, get_or, sym, ap, ◌∙◌, subst, length, ◌<◌, arith, rules, Global, Some, true, false}
+use Rattle.std.proofs.Common.{◌≡◌, ◌≢◌, Vec, List, [], ◌∷◌, map, get_or, sym, ap, ◌∙◌, subst, length, ◌<◌, arith, rules, Global, Some, true, false}
 use Rattle.std.specs.Prelude.{slice_get, slice_set, vec_len}
+use Rattle.std.specs.VecDeque.{deque_len}
 use Rattle.std.specs.declared.collections.VecDeque.{VecDeque}
-use Rattle.std.proofs.lemmas.List.{length-map, map-set}
+use Rattle.std.specs.List.{remove}
+use Rattle.std.proofs.lemmas.Bool.Decides.{nat_tests}
+use Rattle.std.proofs.lemmas.List.{length-map, map-set, nil_from_length}
 use Rattle.std.proofs.lemmas.Option.{slice_get_within}
 use Rattle.tv_base.proofs.ByPlace.{get_map}
 use Rattle.letter_types.specs.declared.entries.Entry.{Entry}
 use Rattle.history_merge.specs.Recording.{FirstHas}
 use Rattle.history_merge.proofs.Merges.{at_place, first_of, none_more}
+use Rattle.history_merge.proofs.Recordings.{map_removed, none_left, set_removed, some_left}
 use Rattle.history_merge.proofs.recorder.taken_out.Goals as goal
+use Rattle.history_merge.proofs.recorder.taken_out.Goals.{then-is_empty, else-is_empty}
 
 pub returns-then-is_first-clause-taken : goal.returns-then-is_first-clause-taken
 returns-then-is_first-clause-taken g c =
@@ -24,11 +29,27 @@ returns-then-is_first-clause-taken g c =
     let at_first : Some c.index.result.now ≡ Some d = sym (at_place old a c.index.result.now inside c.index.ensures) ∙ here in
     let one : c.index.result.now ≡ d = cc at_first in
     let has : FirstHas c.args.stamp.0 d.items = subst (λ (x : VecDeque Entry Global). FirstHas c.args.stamp.0 x.items) one (c.is_first.ensures.0 c.if-is_first.true) in
+    let items_in : Vec (VecDeque Entry Global) Global → List (List Entry) = λ v. map items_of v.items in
+    let lists = map items_of c.args.lists.now.items in
+    let p = c.pop_front.new.self in
+    let set : map items_of (slice_set old a p) ≡ slice_set lists a p.items =
+    map-set items_of old a p ∙ ap (λ (l : List (VecDeque Entry Global)). slice_set (map items_of l) a p.items) same in
     record {
       place = a;
       left = c.pop_front.new.self.items;
       at = subst (λ (l : List (VecDeque Entry Global)). slice_get (map items_of l) a ≡ Some d.items) same row ∙ ap (λ (l : List Entry). Some l) popped;
-      set = map-set items_of old a c.pop_front.new.self ∙ ap (λ (l : List (VecDeque Entry Global)). slice_set (map items_of l) a c.pop_front.new.self.items) same;
+      lists = elim c.if-is_empty.branch [
+        | then-is_empty w ↦ (
+            let none : deque_len p ≡ 0 = grind (arith, nat_tests, w.if-is_empty.ensures) in
+            let empty : p.items ≡ [] = nil_from_length p.items (sym p.ok.0 ∙ none) in
+            ap items_in w.lists-is ∙ ap (map items_of) w.remove.ensures.items ∙ map_removed items_of (slice_set old a p) a
+            ∙ ap (λ (ls : List (List Entry)). remove ls a) set ∙ set_removed lists a p.items ∙ sym (none_left lists a p.items empty)
+            )
+        | else-is_empty w ↦ (
+            let some : length p.items ≢ 0 = λ none. grind (arith, nat_tests, w.if-is_empty.ensures, p.ok.0, none) in
+            ap items_in w.lists-is ∙ set ∙ sym (some_left lists a p.items some)
+            )
+      ];
       stamp_is = first_of d.items c.in_ok-made.made c.pop_front.new.self.items c.args.stamp.0 popped has;
     }
 

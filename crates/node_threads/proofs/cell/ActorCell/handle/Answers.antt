@@ -13,8 +13,8 @@ use Rattle.node_threads.specs.Cells.{CellData, LeadsTo}
 use Rattle.node_threads.proofs.Entries.{is_row, leads_more, stepped}
 use Rattle.node_threads.proofs.cell.ActorCell.handle.Goals as goal
 
-pub actor_step-requires-clause-addressed : goal.actor_step-requires-clause-addressed
-actor_step-requires-clause-addressed g c =
+pub step-requires-clause-addressed : goal.step-requires-clause-addressed
+step-requires-clause-addressed g c =
     let s = g.K.ClusterName.script in
     let st = c.self.inside in
     let number : st.log.number ≡ c.args.self.now.number = ap (λ (x : CellData). x.number) c.self.view_is in
@@ -24,8 +24,8 @@ actor_step-requires-clause-addressed g c =
     subst (λ (x : ScriptData). MayReach x c.letter.result.now (actor_data st.state)) (sym c.requires.script)
     (is_addressed s st.log.number st.log.entries c.letter.result.now (actor_data st.state) c.self.invariant.0.state to lt)
 
-pub actor_step-requires-clause-small : goal.actor_step-requires-clause-small
-actor_step-requires-clause-small g c =
+pub step-requires-clause-small : goal.step-requires-clause-small
+step-requires-clause-small g c =
     let st = c.self.inside in
     let few : length st.log.entries < 1099511627776 = c.has_room.ensures.0 c.if-not-has_room.false in
     let valid = subst IsValid c.requires.script c.nodes-valid.ensures.valid in
@@ -36,20 +36,20 @@ enter-requires-clause-sent g c =
     let s = g.K.ClusterName.script in
     let st = c.self.inside in
     let l = c.args.envelope.letter in
-    let is = stepped s c.args.script.now st.log.number c.args.self.now.number st.log.entries st.state c.actor_step.new.state l c.letter.result.now c.in-Ok.step.given
+    let is = stepped s c.args.script.now st.log.number c.args.self.now.number st.log.entries st.state c.step.new.state l c.letter.result.now c.in-Ok.out
     c.self.invariant.0 c.in-Ok.ensures.row c.requires.script c.letter.ensures.letter c.in-Ok.ensures.script c.requires.addressee
     (ap (λ (x : CellData). x.number) c.self.view_is) in
-    ap (λ (o : Out ActorData). o.sent) (is_row s st.log.number st.log.entries st.state c.actor_step.new.state l c.in-Ok.step.given is)
+    ap (λ (o : Out ActorData). o.sent) (is_row s st.log.number st.log.entries st.state c.step.new.state l c.in-Ok.out is)
 
 pub enter-requires-clause-acts : goal.enter-requires-clause-acts
 enter-requires-clause-acts g c =
     let s = g.K.ClusterName.script in
     let st = c.self.inside in
     let l = c.args.envelope.letter in
-    let is = stepped s c.args.script.now st.log.number c.args.self.now.number st.log.entries st.state c.actor_step.new.state l c.letter.result.now c.in-Ok.step.given
+    let is = stepped s c.args.script.now st.log.number c.args.self.now.number st.log.entries st.state c.step.new.state l c.letter.result.now c.in-Ok.out
     c.self.invariant.0 c.in-Ok.ensures.row c.requires.script c.letter.ensures.letter c.in-Ok.ensures.script c.requires.addressee
     (ap (λ (x : CellData). x.number) c.self.view_is) in
-    ap (λ (o : Out ActorData). o.acts) (is_row s st.log.number st.log.entries st.state c.actor_step.new.state l c.in-Ok.step.given is)
+    ap (λ (o : Out ActorData). o.acts) (is_row s st.log.number st.log.entries st.state c.step.new.state l c.in-Ok.out is)
 
 pub invariant_of-self-2 : goal.invariant_of-self-2
 invariant_of-self-2 g c =
@@ -57,12 +57,12 @@ invariant_of-self-2 g c =
     let post = g.K.PostName.post in
     let st = c.self.inside in
     let l = c.args.envelope.letter in
-    let now = c.actor_step.new.state in
+    let now = c.step.new.state in
     let new : List Entry = c.enter.new.self.entries in
-    let is = stepped s c.args.script.now st.log.number c.args.self.now.number st.log.entries st.state now l c.letter.result.now c.in-Ok.step.given
+    let is = stepped s c.args.script.now st.log.number c.args.self.now.number st.log.entries st.state now l c.letter.result.now c.in-Ok.out
     c.self.invariant.0 c.in-Ok.ensures.row c.requires.script c.letter.ensures.letter c.in-Ok.ensures.script c.requires.addressee
     (ap (λ (x : CellData). x.number) c.self.view_is) in
-    let leads = leads_more post s st.log.number st.log.entries new st.state now l c.in-Ok.step.given c.reserve.new.self.items c.enter.new.made.items c.enter.result
+    let leads = leads_more post s st.log.number st.log.entries new st.state now l c.in-Ok.out c.reserve.new.self.items c.enter.new.made.items c.enter.result
     is c.enter.ensures.handled in (
       subst (λ (n : ℕ). LeadsTo s n new now) (sym c.enter.ensures.number) leads,
       c.self.invariant.1,
