@@ -10,7 +10,7 @@ use Rattle.board_rules.specs.Right.{HasFinished}
 use Rattle.world_model.specs.Runs.{IsWorldRun}
 use Rattle.history_text.specs.History.{history_lines_of}
 use Rattle.history_text.specs.Printable.{IsPrintable}
-use Rattle.history_walk.specs.Walks.{IsRead, Reading, Whole}
+use Rattle.history_reader.specs.Walks.{IsRead, Reading, Whole}
 use Rattle.history_audit.specs.Verdicts.{Verdict, Yes}
 
 all_read : (s : ScriptData) (h : List Entry) → IsWorldRun s h → AllByRecursion (IsPrintable s) h

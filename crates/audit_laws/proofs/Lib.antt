@@ -1,1 +1,10 @@
 pub mod Accepted
+pub mod Bounded
+pub mod Carrying
+pub mod EveryEntry
+pub mod Gathering
+pub mod Items
+pub mod Looks
+pub mod Printing
+pub mod Stepping
+pub mod Values

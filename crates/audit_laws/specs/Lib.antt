@@ -1,0 +1,2 @@
+pub mod OfScript
+pub mod Ranges

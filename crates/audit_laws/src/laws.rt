@@ -8,12 +8,12 @@ ghost use Rattle.board_rules.specs.Right.{HasFinished};
 ghost use Rattle.world_model.specs.Runs.{IsWorldRun};
 ghost use Rattle.history_text.specs.History.{history_lines_of};
 ghost use Rattle.history_text.specs.Printable.{IsPrintable};
-ghost use Rattle.history_walk.specs.Walks.{Reading};
+ghost use Rattle.history_reader.specs.Walks.{Reading};
 ghost use Rattle.history_audit.specs.Verdicts.{Verdict};
 
+use crate::printable::runs_are_printable;
 use headline::every_run_is_accepted;
 use letter_types::History;
-use print_laws::runs_are_printable;
 use tx_trees::Script;
 
 /// The lines of every run that has finished are accepted, with all its entries, where each of these may be printed.

@@ -21,10 +21,10 @@ use Rattle.board_rules.proofs.Judging.{fails_at}
 use Rattle.board_tallies.specs.Board.{BoardData, IsBoardOf, closes_in}
 use Rattle.worth_steps.specs.Kept.{AreWorths, WorthsData}
 use Rattle.worth_steps.specs.Worth.{Noted}
-use Rattle.board_standing.specs.Notes.{AreKnown, noted_on, subs_noted}
-use Rattle.board_standing.specs.Settled.{IsMoveRun}
-use Rattle.board_standing.proofs.NotedWorth.{if_noted, noted_more}
-use Rattle.board_standing.proofs.OneMore.{settled_born}
+use Rattle.board_judge.specs.Notes.{AreKnown, noted_on, subs_noted}
+use Rattle.board_judge.specs.Settled.{IsMoveRun}
+use Rattle.board_judge.proofs.NotedWorth.{if_noted, noted_more}
+use Rattle.board_judge.proofs.OneMore.{settled_born}
 use Rattle.board_judge.specs.declared.noting.Step.{Step}
 use Rattle.board_judge.specs.inside.Rewriting.{HasNoted, IsClosing, IsCompared, IsRewritten, closed_noted}
 use Rattle.board_judge.specs.inside.Steps.{AreClosings, AreNoted}

@@ -21,8 +21,8 @@ use Rattle.board_rules.proofs.Judging.{fails_at}
 use Rattle.board_tallies.specs.Board.{BoardData, IsBoardOf, closes_in}
 use Rattle.board_tallies.specs.GateRows.{GatesData}
 use Rattle.board_tallies.specs.TakenBack.{taken_back}
-use Rattle.board_standing.specs.Settled.{IsMoveRun}
-use Rattle.board_standing.specs.Views.{UsersData}
+use Rattle.board_judge.specs.Settled.{IsMoveRun}
+use Rattle.board_judge.specs.Views.{UsersData}
 use Rattle.worth_steps.specs.Kept.{WorthsData}
 use Rattle.board_judge.specs.declared.noting.Step.{Step}
 use Rattle.board_judge.specs.inside.Steps.{AreClosings, AreNoted, IsStepped, restored}

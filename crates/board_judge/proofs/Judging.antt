@@ -11,7 +11,7 @@ use Rattle.script_parts.specs.Valid.{IsValid}
 use Rattle.script_parts.specs.declared.parts.ItemRow.{ItemRow}
 use Rattle.board_rules.specs.Worth.{first_value}
 use Rattle.board_tallies.specs.GateRows.{AreGatesOf, GatesData}
-use Rattle.board_standing.specs.Views.{AreUsersOf, UsersData}
+use Rattle.board_judge.specs.Views.{AreUsersOf, UsersData}
 use Rattle.worth_steps.specs.Worth.{MayBegin}
 use Rattle.std.specs.List.{list_all}
 use Rattle.letter_types.specs.declared.acts.Act.{Act}
@@ -27,8 +27,8 @@ use Rattle.board_rules.specs.Right.{IsDoneAtOnce, IsRightAct}
 use Rattle.board_rules.proofs.Judging.{accepted_more}
 use Rattle.board_rules.proofs.Places.{places_of-append}
 use Rattle.board_tallies.specs.Board.{BoardData, IsBoardOf}
-use Rattle.board_standing.specs.Notes.{AreAllWorths, AreKnown}
-use Rattle.board_standing.specs.Settled.{IsMoveRun}
+use Rattle.board_judge.specs.Notes.{AreAllWorths, AreKnown}
+use Rattle.board_judge.specs.Settled.{IsMoveRun}
 use Rattle.worth_steps.specs.Kept.{AreWorths, WorthsData}
 use Rattle.board_judge.specs.Judged.{HasJudged, JudgeData}
 use Rattle.board_judge.specs.declared.noting.Step.{Step}

@@ -3,3 +3,13 @@ pub mod Going
 pub mod Compared
 pub mod Rewritten
 pub mod Judging
+pub mod OneMore
+pub mod StandingNow
+pub mod Holding
+pub mod Newest
+pub mod NotedWorth
+pub mod Listing
+pub mod Against
+pub mod Seeing
+pub mod Fitting
+pub mod Answering

@@ -23,8 +23,8 @@ use Rattle.board_rules.specs.Worth.{first_value}
 use Rattle.board_rules.proofs.TreeSubs.{found_ops}
 use Rattle.worth_steps.specs.Kept.{AreWorths, WorthsData, worths_back}
 use Rattle.worth_steps.specs.Worth.{Noted, deed_suits}
-use Rattle.board_standing.specs.Notes.{AreKnown, Suits, SuitsAt, ops_noted, subs_noted}
-use Rattle.board_standing.proofs.Fitting.{each_op, ops_suit}
+use Rattle.board_judge.specs.Notes.{AreKnown, Suits, SuitsAt, ops_noted, subs_noted}
+use Rattle.board_judge.proofs.Fitting.{each_op, ops_suit}
 use Rattle.board_judge.specs.declared.rewriting.Altered.{Altered}
 use Rattle.board_judge.specs.inside.Rewriting.{AllSubsSuit, AllSuit, AreOfKinds, HasNoted, SuitsKind, altered_back, kinds_of, one_noted, unaltered}
 

@@ -24,9 +24,9 @@ use Rattle.board_rules.specs.Moves.{IsMoveAt}
 use Rattle.board_rules.specs.Right.{IsShown, gets_among}
 use Rattle.board_rules.specs.Stands.{cause_of, refusal_in, short_of}
 use Rattle.board_rules.specs.Worth.{worth_in}
-use Rattle.board_standing.specs.inside.Shorts.{short_ops}
-use Rattle.board_standing.proofs.Fitting.{reads_get}
-use Rattle.board_standing.proofs.OneMore.{version_kept}
+use Rattle.board_judge.specs.inside.Shorts.{short_ops}
+use Rattle.board_judge.proofs.Fitting.{reads_get}
+use Rattle.board_judge.proofs.OneMore.{version_kept}
 use Rattle.board_judge.specs.declared.votes.Ballot.{Ballot}
 use Rattle.board_judge.specs.inside.Votes.{HasVersions, IsRightRead, IsRightYes, Values, ballot_of, did_of, same_cause, yes_of}
 

@@ -7,9 +7,9 @@ use Rattle.board_rules.specs.Histories.{places_of}
 use Rattle.board_rules.specs.Judging.{Breaks, IsAccepted}
 use Rattle.board_tallies.specs.Board.{BoardData, IsBoardOf}
 use Rattle.board_tallies.specs.GateRows.{AreGatesOf, GatesData}
-use Rattle.board_standing.specs.Notes.{AreAllWorths}
-use Rattle.board_standing.specs.Settled.{IsMoveRun}
-use Rattle.board_standing.specs.Views.{AreUsersOf, UsersData}
+use Rattle.board_judge.specs.Notes.{AreAllWorths}
+use Rattle.board_judge.specs.Settled.{IsMoveRun}
+use Rattle.board_judge.specs.Views.{AreUsersOf, UsersData}
 use Rattle.worth_steps.specs.Kept.{WorthsData}
 use Rattle.board_judge.specs.declared.judge.Refused.{Refused}
 use Rattle.board_judge.specs.declared.judge.Refused.TheVariants.{Wrong, NoMemory}

@@ -1,2 +1,5 @@
 pub mod Judged
 pub mod inside
+pub mod Settled
+pub mod Notes
+pub mod Views

@@ -1,4 +1,7 @@
-pub mod Votes
-pub mod Steps
+pub mod Asking
 pub mod Rewriting
+pub mod Shorts
+pub mod Steps
 pub mod Trying
+pub mod Users
+pub mod Votes

@@ -5,13 +5,13 @@ ghost use Rattle.letter_types.specs.declared.entries.Entry.{Entry};
 ghost use Rattle.script_parts.specs.ScriptData.{subs_at};
 ghost use Rattle.board_rules.specs.Histories.{Place, places_of};
 ghost use Rattle.board_tallies.specs.Board.{IsBoardOf};
-ghost use Rattle.board_standing.specs.Notes.{AreKnown, ops_noted, subs_noted};
+ghost use Rattle.board_judge.specs.Notes.{AreKnown, ops_noted, subs_noted};
 ghost use Rattle.board_judge.specs.inside.Rewriting.{AllSubsSuit, AllSuit, AreOfKinds, HasNoted, IsClosing, IsCompared, IsRewritten, SuitsKind, altered_back, closed_noted, kinds_of, one_noted, unaltered};
 ghost use Rattle.board_judge.specs.inside.Steps.{AreNoted};
 
 use crate::noting::Step;
+use crate::standing::version_or_zero;
 use crate::votes::is_right_read;
-use board_standing::version_or_zero;
 use board_tallies::Board;
 use letter_types::Act;
 use tv_base::{ItemNo, NoMemory, TreeNo, Version};

@@ -11,10 +11,13 @@ ghost use Rattle.board_rules.specs.Right.{IsShown, gets_among};
 ghost use Rattle.board_rules.specs.Worth.{worth_in};
 ghost use Rattle.board_rules.specs.Stands.{cause_of, refusal_in};
 ghost use Rattle.board_tallies.specs.Board.{IsBoardOf};
-ghost use Rattle.board_standing.specs.Notes.{AreKnown};
+ghost use Rattle.board_judge.specs.Notes.{AreKnown};
 ghost use Rattle.board_judge.specs.inside.Votes.{HasVersions, IsMidway, IsRightRead, IsRightYes, ballot_of, did_of, given_by, same_cause, yes_of};
 
-use board_standing::{Asked, Users, conflict, newer, ops_of, reads, short, shows, version_or_zero};
+use crate::at_once::{Asked, ops_of, reads};
+use crate::shown::{short, shows};
+use crate::standing::{conflict, newer, version_or_zero};
+use crate::users::Users;
 use board_tallies::{Board, Gates};
 use commute_ops::Value;
 use letter_types::{Act, Cause, Vote};

@@ -10,9 +10,9 @@ use Rattle.board_judge.specs.Judged.{HasJudged, IsRefusal, JudgeData}
 use Rattle.board_judge.specs.declared.judge.Refused.{Refused}
 use Rattle.board_judge.specs.declared.judge.Refused.TheVariants as refused
 use Rattle.history_text.specs.Printable.{Begins}
-use Rattle.history_walk.specs.Walks.{ComesBehind, IsUnposted, IsUnpostedAt, IsUnread, IsWalked, WalkData}
-use Rattle.history_walk.specs.declared.walk.Fault.{Fault}
-use Rattle.history_walk.specs.declared.walk.Fault.TheVariants as faults
+use Rattle.history_reader.specs.Walks.{ComesBehind, IsUnposted, IsUnpostedAt, IsUnread, IsWalked, WalkData}
+use Rattle.history_reader.specs.declared.walk.Fault.{Fault}
+use Rattle.history_reader.specs.declared.walk.Fault.TheVariants as faults
 use Rattle.history_audit.specs.Audited.{IsAudited}
 use Rattle.history_audit.specs.Verdicts.{IsTaken, Verdict, Yes, Unread, Unposted, Broken, Unfinished}
 use Rattle.history_audit.specs.declared.rules.AuditRule.TheVariants as rules

@@ -14,9 +14,9 @@ use Rattle.history_text.specs.Printable.{Begins}
 use Rattle.history_reader.proofs.OneEntry.{one_entry}
 use Rattle.history_audit.specs.declared.rules.AuditRule.{AuditRule}
 use Rattle.history_audit.specs.declared.rules.AuditRule.TheVariants.{Text, Postal, Judged, End}
-use Rattle.history_walk.specs.Walks.{IsPostal, IsUnposted, IsUnread}
-use Rattle.history_walk.proofs.Fronts.{Fronts, Longer, Same, Shorter, fronts, nothing_begins}
-use Rattle.history_walk.proofs.SameEntries.{postal_front, same_entry}
+use Rattle.history_reader.specs.Walks.{IsPostal, IsUnposted, IsUnread}
+use Rattle.history_reader.proofs.Fronts.{Fronts, Longer, Same, Shorter, fronts, nothing_begins}
+use Rattle.history_reader.proofs.SameEntries.{postal_front, same_entry}
 use Rattle.history_audit.specs.Verdicts.{IsTaken, Verdict, Yes, Unread, Unposted, Broken, Unfinished}
 
 -- why a verdict of what was taken stops there

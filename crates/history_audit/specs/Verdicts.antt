@@ -6,7 +6,7 @@ use Rattle.board_rules.specs.declared.rule_names.Rule.{Rule}
 use Rattle.board_rules.specs.Judging.{Breaks, IsAccepted}
 use Rattle.board_rules.specs.Right.{HasFinished}
 use Rattle.history_text.specs.Printable.{Begins}
-use Rattle.history_walk.specs.Walks.{IsPostal, IsRead, IsUnposted, IsUnread}
+use Rattle.history_reader.specs.Walks.{IsPostal, IsRead, IsUnposted, IsUnread}
 use Rattle.history_audit.specs.declared.rules.AuditRule.{AuditRule}
 use Rattle.history_audit.specs.declared.rules.AuditRule.TheVariants.{Text, Postal, Judged, End}
 

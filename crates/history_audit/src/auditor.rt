@@ -8,7 +8,7 @@ ghost use Rattle.history_audit.specs.inside.Auditing.{IsUnderAudit, audit_refusa
 use crate::rules::AuditRule;
 use crate::source_audit::HistoryFault;
 use board_judge::{Judge, Refused};
-use history_walk::{Fault, Walk};
+use history_reader::{Fault, Walk};
 use std::alloc::Global;
 use tv_base::NoMemory;
 use tx_trees::Script;

@@ -11,3 +11,15 @@ pub mod Solid
 pub mod Spelling
 pub mod SubsThere
 pub mod WholeEntries
+pub mod Fronts
+pub mod Ids
+pub mod Left
+pub mod NextEntry
+pub mod OneMore
+pub mod OneReading
+pub mod Postings
+pub mod SameEntries
+pub mod SentTaken
+pub mod Spent
+pub mod Walked
+pub mod WalkEnds

@@ -1,2 +1,3 @@
 pub mod inside
 pub mod OneEntry
+pub mod Walks

@@ -1,6 +1,8 @@
-pub mod Next
-pub mod BodyWords
 pub mod ActWords
-pub mod Lines
+pub mod BodyWords
+pub mod Finding
 pub mod Heads
 pub mod Heard
+pub mod Lines
+pub mod Next
+pub mod Refusals

@@ -1,16 +1,22 @@
-//! A history's lines, read back exactly: what may be printed, and nothing else.
+//! A history's lines, read back exactly: what may be printed, and nothing else; and the walk over such a text, entry by
+//! entry, with the letters that are in flight.
 #![tactic(auto)]
 
 mod acts;
 mod bodies;
 mod entries;
 mod heads;
+mod in_flight;
 mod laws;
 mod letters;
 mod line_lists;
 mod lines;
 mod nexts;
+mod reading;
 mod votes;
+mod walk;
 
 pub use entries::{Heard, read_entry};
-pub use laws::a_text_begins_with_one_entry;
+pub use laws::{a_text_begins_with_one_entry, a_text_has_one_reading};
+pub use reading::{HistoryRefusal, read_history};
+pub use walk::{Fault, Walk};

@@ -1,6 +1,5 @@
-use history_reader::read_entry;
+use history_reader::{HistoryRefusal, read_entry, read_history};
 use history_text::history_lines;
-use history_walk::{HistoryRefusal, read_history};
 use std::alloc::Global;
 use std::test::Fail;
 use tv_base::{Name, NoMemory, NodeNo};

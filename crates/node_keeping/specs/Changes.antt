@@ -6,7 +6,7 @@ use Rattle.letter_types.specs.declared.entries.StepOut.{StepOut}
 use Rattle.letter_types.specs.declared.kept.KeptLetter.{KeptLetter}
 use Rattle.letter_types.specs.Kept.{first_called, wakes_by, with_called, without_called}
 use Rattle.letter_types.specs.Steps.{Out, made}
-use Rattle.kept_letters.specs.Again.{kept_again}
+use Rattle.node_keeping.specs.Again.{kept_again}
 use Rattle.pair_counters.specs.Rows.{counts_of}
 use Rattle.world_model.specs.Core.{Core}
 use Rattle.world_model.specs.Keeping.{KeepingNode}

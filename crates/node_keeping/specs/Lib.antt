@@ -1,2 +1,7 @@
 pub mod State
 pub mod Changes
+pub mod Again
+pub mod inside
+pub mod Plans
+pub mod Apt
+pub mod Meeting

@@ -6,8 +6,8 @@ ghost use Rattle.node_keeping.specs.Changes.{IsKeepingDone, MayDoKeeping, MayBeK
 ghost use Rattle.node_keeping.specs.declared.change.KeepingPrepared.TheVariants.{Does, Keeps};
 
 use crate::change::{Keep, KeepingPrepared, KeptChange};
+use crate::kept::KeptLetters;
 use crate::state::KeepingParts;
-use kept_letters::KeptLetters;
 use letter_types::{Boxed, StepOut};
 use node_versions::Turns;
 use tree_step::{CorePrepared, core_done};

@@ -1,5 +1,5 @@
 // A node and the letters that it keeps.
-use kept_letters::KeptLetters;
+use crate::kept::KeptLetters;
 use tree_step::NodeCore;
 
 /// A node: its core, and the letters that it keeps.

@@ -28,8 +28,8 @@ use Rattle.board_rules.specs.Moves.{IsAsked, IsAskedBy, IsDeed}
 use Rattle.board_rules.specs.Rules.{IsFreeDeed}
 use Rattle.board_rules.specs.Stands.{votes, was_voted}
 use Rattle.board_rules.proofs.Wholes.{any_more}
-use Rattle.strict_laws.proofs.ByActs.{kind_updates}
-use Rattle.strict_laws.proofs.Parkings.{kind_reads_by}
+use Rattle.tree_laws.proofs.ByActs.{kind_updates}
+use Rattle.tree_laws.proofs.Parkings.{kind_reads_by}
 use Rattle.tree_laws.specs.Dids.{asks}
 use Rattle.tree_laws.specs.Turns.{has_turn, turns}
 use Rattle.tree_laws.proofs.AptStagesOwn.{Doing, asked}

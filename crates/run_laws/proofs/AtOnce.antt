@@ -35,10 +35,10 @@ use Rattle.world_model.proofs.KeptThere.{kept_in_past}
 use Rattle.world_model.proofs.Plain.{no_strict}
 use Rattle.world_model.proofs.Bags.{one_if_both}
 use Rattle.world_model.specs.Meant.{IsLetterMeant, IsMeant}
-use Rattle.strict_laws.proofs.AtHome.{all_append}
+use Rattle.tree_laws.proofs.AtHome.{all_append}
 use Rattle.world_model.proofs.Meant.{letters_are_meant}
-use Rattle.strict_laws.proofs.Parkings.{none_parks}
-use Rattle.strict_laws.proofs.DoneOrParked.{Answers, AskedMeets, keeping_answers, meets_way, row_answers, way_holds}
+use Rattle.tree_laws.proofs.Parkings.{none_parks}
+use Rattle.tree_laws.proofs.DoneOrParked.{Answers, AskedMeets, keeping_answers, meets_way, row_answers, way_holds}
 use Rattle.advance_laws.proofs.Brought.{brought_meant}
 use Rattle.advance_laws.proofs.Progress.{brings_to}
 use Rattle.tree_laws.proofs.AptRulings.{client_acts}

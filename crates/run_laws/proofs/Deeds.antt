@@ -25,9 +25,9 @@ use Rattle.world_model.proofs.Bags.{one_if_both}
 use Rattle.board_rules.specs.Histories.{Place}
 use Rattle.board_rules.specs.Stands.{conflict_of}
 use Rattle.board_rules.specs.Rules.{IsFreeDeed}
-use Rattle.strict_laws.proofs.ByActs.{kind_updates}
-use Rattle.strict_laws.proofs.NoConflicts.{not_parked}
-use Rattle.strict_laws.proofs.DoneOrParked.{meets_way}
+use Rattle.tree_laws.proofs.ByActs.{kind_updates}
+use Rattle.tree_laws.proofs.NoConflicts.{not_parked}
+use Rattle.tree_laws.proofs.DoneOrParked.{meets_way}
 use Rattle.tree_laws.specs.Dids.{is_did_act}
 use Rattle.tree_laws.proofs.Acts.{of_act}
 use Rattle.tree_laws.proofs.AptStagesOwn.{Doing}

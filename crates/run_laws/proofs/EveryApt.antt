@@ -23,7 +23,7 @@ use Rattle.world_model.proofs.Outstanding.{IsOutstanding}
 use Rattle.world_model.proofs.Plain.{no_strict}
 use Rattle.world_model.specs.Meant.{IsMeant}
 use Rattle.world_model.proofs.MeantRows.{strict_below}
-use Rattle.strict_laws.proofs.Waking.{wakes_bring_letters}
+use Rattle.tree_laws.proofs.Waking.{wakes_bring_letters}
 use Rattle.tree_laws.specs.Dids.{asks, letters_asking}
 use Rattle.tree_laws.proofs.AptApplied.{applied_where_decided}
 use Rattle.tree_laws.proofs.AptDecided.{decided_once}

@@ -36,7 +36,7 @@ use Rattle.board_rules.specs.Histories.{Place, places_at, version_in}
 use Rattle.board_rules.specs.Stands.{newest_of, version_or_zero, written_by}
 use Rattle.board_rules.specs.Worth.{changes, ops_change, subs_change}
 use Rattle.board_rules.proofs.Places.{version_stays, places_more}
-use Rattle.strict_laws.proofs.ByActs.{kind_updates}
+use Rattle.tree_laws.proofs.ByActs.{kind_updates}
 use Rattle.advance_laws.proofs.Balance.{apt_low_rises}
 use Rattle.tree_laws.specs.Carried.{CarriesVersion}
 use Rattle.tree_laws.specs.Dids.{asks}

@@ -52,7 +52,7 @@ use Rattle.tree_laws.proofs.AptWindows.{AreNear, over_near}
 use Rattle.tree_laws.proofs.Seen.{same_item, seen_of}
 use Rattle.tree_laws.proofs.Tables.{replaced_other, replaced_same}
 use Rattle.tree_laws.proofs.Turns.{kind_version, work_version}
-use Rattle.strict_laws.proofs.ByActs.{kind_updates}
+use Rattle.tree_laws.proofs.ByActs.{kind_updates}
 use Rattle.run_laws.proofs.HeldItems.{written_other}
 use Rattle.run_laws.proofs.HoldRows.{decided_table}
 use Rattle.run_laws.proofs.Overwritten.{IsOfCommit, seen_some}

@@ -37,9 +37,9 @@ use Rattle.board_rules.specs.Histories.{Place, version_in}
 use Rattle.tree_laws.proofs.AptVersions.{DoneIn, is_version}
 use Rattle.tree_laws.proofs.Seen.{raised_low}
 use Rattle.tree_laws.proofs.Turns.{kind_version, work_version}
-use Rattle.strict_laws.proofs.ByActs.{decided_locks}
-use Rattle.strict_laws.proofs.RunConflicts.{wanted_tree}
-use Rattle.strict_laws.proofs.Holding.{wanted_mark}
+use Rattle.tree_laws.proofs.ByActs.{decided_locks}
+use Rattle.tree_laws.proofs.RunConflicts.{wanted_tree}
+use Rattle.tree_laws.proofs.Holding.{wanted_mark}
 use Rattle.world_model.proofs.Epochs.{order_each, ask_each}
 use Rattle.letter_types.specs.Steps.{Out}
 

@@ -27,8 +27,8 @@ use Rattle.world_model.proofs.Outstanding.{keeping_elsewhere}
 use Rattle.world_model.proofs.Scripts.{SubAt, sub_below, sub_there, tree_below}
 use Rattle.world_model.proofs.Bags.{one_if_both}
 use Rattle.world_model.specs.Meant.{IsMeant}
-use Rattle.strict_laws.specs.Keeping.{Holds}
-use Rattle.strict_laws.proofs.Holding.{Came, HeldFrom, LetsGo, Stood, row_comes, same_holds}
+use Rattle.tree_laws.specs.Keeping.{Holds}
+use Rattle.tree_laws.proofs.Holding.{Came, HeldFrom, LetsGo, Stood, row_comes, same_holds}
 use Rattle.advance_laws.proofs.Brought.{brought_meant}
 use Rattle.advance_laws.proofs.Progress.{brings_to}
 use Rattle.tree_laws.specs.Applied.{applied_at, applies_as, tells_decision}

@@ -34,12 +34,12 @@ use Rattle.world_model.proofs.Every.{each_append, each_both, each_map}
 use Rattle.world_model.proofs.KeptThere.{IsCoreKeeping, OfKeeping, core_keeps}
 use Rattle.world_model.proofs.Outstanding.{keeping_elsewhere}
 use Rattle.world_model.proofs.Bags.{one_if_both}
-use Rattle.strict_laws.specs.Keeping.{Holds, IsKeptFor}
+use Rattle.tree_laws.specs.Keeping.{Holds, IsKeptFor}
 use Rattle.world_model.specs.Meant.{IsMeant}
-use Rattle.strict_laws.proofs.ByActs.{kind_updates}
-use Rattle.strict_laws.proofs.Holding.{LetsGo, met_holds, row_stays, same_holds}
-use Rattle.strict_laws.proofs.Reasons.{kept_for_a_reason}
-use Rattle.strict_laws.proofs.Waking.{wakes_find_letters}
+use Rattle.tree_laws.proofs.ByActs.{kind_updates}
+use Rattle.tree_laws.proofs.Holding.{LetsGo, met_holds, row_stays, same_holds}
+use Rattle.tree_laws.proofs.Reasons.{kept_for_a_reason}
+use Rattle.tree_laws.proofs.Waking.{wakes_find_letters}
 use Rattle.advance_laws.proofs.Brought.{brought_meant}
 use Rattle.advance_laws.proofs.Progress.{brings_to}
 use Rattle.advance_laws.proofs.Working.{RaisesBy, keeps_turns}

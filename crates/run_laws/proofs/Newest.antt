@@ -60,8 +60,8 @@ use Rattle.tree_laws.proofs.AptWindows.{apt_timely}
 use Rattle.tree_laws.proofs.NodeLoads.{plain_kind}
 use Rattle.tree_laws.proofs.Seen.{raised_low}
 use Rattle.tree_laws.proofs.Tables.{collected_of, item_collected}
-use Rattle.strict_laws.specs.Locks.{HaveNoConflict}
-use Rattle.strict_laws.proofs.NoConflicts.{none_met, not_parked, runs_apart}
+use Rattle.tree_laws.specs.Locks.{HaveNoConflict}
+use Rattle.tree_laws.proofs.NoConflicts.{none_met, not_parked, runs_apart}
 use Rattle.run_laws.specs.Newest.{IsNewest, NewestUnderHolds}
 use Rattle.run_laws.specs.VoteLocks.{AreAmong}
 use Rattle.run_laws.proofs.Agreed.{IsAgreed, agreed}

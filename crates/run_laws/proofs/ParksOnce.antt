@@ -27,8 +27,8 @@ use Rattle.world_model.proofs.Cases.{Case, Coordinates, Does, Keeps, NodeDoes, N
 use Rattle.world_model.proofs.KeptThere.{IsCoreKeeping, OfKeeping as OfCoreKeeping, core_keeps, kept_in_past, still_kept}
 use Rattle.world_model.proofs.Outstanding.{keeping_elsewhere}
 use Rattle.world_model.proofs.Scripts.{sub_here}
-use Rattle.strict_laws.specs.Keeping.{IsKeptFor}
-use Rattle.strict_laws.proofs.Reasons.{kept_for_a_reason}
+use Rattle.tree_laws.specs.Keeping.{IsKeptFor}
+use Rattle.tree_laws.proofs.Reasons.{kept_for_a_reason}
 use Rattle.advance_laws.proofs.Brought.{brought_meant}
 use Rattle.advance_laws.proofs.Progress.{brings_to}
 use Rattle.tree_laws.specs.Applied.{tells_decision}

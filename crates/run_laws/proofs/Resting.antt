@@ -25,10 +25,10 @@ use Rattle.world_model.proofs.Bags.{tally-append}
 use Rattle.world_model.proofs.Every.{each_map}
 use Rattle.world_model.proofs.KeptThere.{kept_in_past}
 use Rattle.world_model.proofs.Scripts.{SubAt, sub_below, sub_here, sub_there, tree_below}
-use Rattle.strict_laws.specs.Keeping.{Holds}
-use Rattle.strict_laws.specs.Waking.{is_wake_at}
+use Rattle.tree_laws.specs.Keeping.{Holds}
+use Rattle.tree_laws.specs.Waking.{is_wake_at}
 use Rattle.world_model.proofs.MeantRows.{strict_below}
-use Rattle.strict_laws.proofs.Waking.{wakes_find_letters}
+use Rattle.tree_laws.proofs.Waking.{wakes_find_letters}
 use Rattle.tree_laws.specs.Dids.{answers, asks, letters_asking, tells_done}
 use Rattle.tree_laws.specs.Stages.{StageAt, Answered, Gathers, Holds as HoldsAnswer, Unborn, decides, is_noted}
 use Rattle.tree_laws.specs.Turns.{turns}

@@ -23,7 +23,7 @@ use Rattle.world_model.specs.Strict.{notice_by}
 use Rattle.world_model.specs.Votes.{voted}
 use Rattle.board_rules.specs.Histories.{Place, places_at}
 use Rattle.board_rules.specs.Right.{IsRight, IsRightAct}
-use Rattle.strict_laws.proofs.Parkings.{kind_reads_by}
+use Rattle.tree_laws.proofs.Parkings.{kind_reads_by}
 use Rattle.tree_laws.proofs.AptStagesOwn.{Doing}
 use Rattle.tree_laws.proofs.AptVersions.{before}
 use Rattle.tree_laws.proofs.Histories.{at_each_act_more}

@@ -30,7 +30,7 @@ use Rattle.board_rules.specs.Worth.{worth_in}
 use Rattle.board_rules.proofs.ItemAt.{item_at, op_row}
 use Rattle.board_rules.proofs.ReadDids.{worth_before_read}
 use Rattle.board_rules.proofs.Shown.{shown_is_worth}
-use Rattle.strict_laws.proofs.Parkings.{kind_reads_by}
+use Rattle.tree_laws.proofs.Parkings.{kind_reads_by}
 use Rattle.tree_laws.proofs.AptDecisions.{dated_here}
 use Rattle.tree_laws.proofs.AptStagesOwn.{Doing}
 use Rattle.tree_laws.proofs.AptVersions.{before}

@@ -24,7 +24,7 @@ use Rattle.world_model.specs.Strict.{notice_by}
 use Rattle.world_model.specs.Votes.{voted}
 use Rattle.board_rules.specs.Histories.{Place}
 use Rattle.board_rules.specs.Rules.{FollowsRules, IsByRule}
-use Rattle.strict_laws.proofs.ByActs.{kind_updates}
+use Rattle.tree_laws.proofs.ByActs.{kind_updates}
 use Rattle.tree_laws.proofs.AptStagesOwn.{Doing}
 use Rattle.tree_laws.proofs.AptVersions.{before}
 use Rattle.run_laws.proofs.RowActs.{is_lasting, lasting}

@@ -39,7 +39,7 @@ use Rattle.tree_laws.proofs.AptVersions.{DoneIn, is_version, version_is}
 use Rattle.tree_laws.proofs.AptWindows.{AreNear}
 use Rattle.tree_laws.proofs.Seen.{IsFrom, collected_shows, seen_ops}
 use Rattle.tree_laws.proofs.Turns.{kind_version, work_version}
-use Rattle.strict_laws.proofs.ByActs.{kind_updates}
+use Rattle.tree_laws.proofs.ByActs.{kind_updates}
 use Rattle.run_laws.specs.ValuesByActs.{value_by_act}
 use Rattle.run_laws.proofs.HoldRows.{decided_table}
 use Rattle.run_laws.proofs.Overwritten.{AreTop, IsOfCommit, commit_seen}

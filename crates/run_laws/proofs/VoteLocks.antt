@@ -43,13 +43,13 @@ use Rattle.board_rules.specs.Stands.{releases, votes_yes}
 use Rattle.tree_laws.specs.Applied.{applied_at, applies_as}
 use Rattle.tree_laws.proofs.AptSteps.{done_before}
 use Rattle.tree_laws.proofs.NodeLoads.{strict_there}
-use Rattle.strict_laws.specs.Locks.{locks_after_acts}
+use Rattle.tree_laws.specs.Locks.{locks_after_acts}
 use Rattle.world_model.specs.Meant.{IsLetterMeant, IsMeant}
-use Rattle.strict_laws.proofs.ByActs.{wanted_needed}
+use Rattle.tree_laws.proofs.ByActs.{wanted_needed}
 use Rattle.world_model.proofs.Meant.{letters_are_meant}
-use Rattle.strict_laws.proofs.RunConflicts.{wanted_tree}
-use Rattle.strict_laws.proofs.RunLocks.{step_follows}
-use Rattle.strict_laws.proofs.Holding.{more_locks}
+use Rattle.tree_laws.proofs.RunConflicts.{wanted_tree}
+use Rattle.tree_laws.proofs.RunLocks.{step_follows}
+use Rattle.tree_laws.proofs.Holding.{more_locks}
 use Rattle.run_laws.specs.VoteLocks.{VoteLocksStand, yeses_at}
 use Rattle.run_laws.proofs.RowActs.{asked_acts, is_lasting, keeping_lasts, lasting, lasting_acts, row_lasts, tally_lasting}
 

@@ -28,8 +28,8 @@ use Rattle.board_rules.proofs.ClosedWorth.{IsClosed}
 use Rattle.board_rules.proofs.ItemAt.{item_at, op_row}
 use Rattle.board_rules.proofs.Rules.{IsItemAt}
 use Rattle.board_rules.proofs.Votes.{closed_at_vote}
-use Rattle.strict_laws.proofs.ByActs.{wanted_needed}
-use Rattle.strict_laws.proofs.RunConflicts.{runs_meet_conflicts}
+use Rattle.tree_laws.proofs.ByActs.{wanted_needed}
+use Rattle.tree_laws.proofs.RunConflicts.{runs_meet_conflicts}
 use Rattle.tree_laws.specs.Turns.{has_turn}
 use Rattle.tree_laws.proofs.Acts.{of_act}
 use Rattle.tree_laws.proofs.AptStagesOwn.{Doing}

@@ -23,8 +23,8 @@ use Rattle.world_model.proofs.Cases.{Case, Coordinates, Does, Keeps, NodeDoes, N
 use Rattle.world_model.proofs.KeptThere.{kept_in_past}
 use Rattle.world_model.proofs.Outstanding.{keeping_elsewhere}
 use Rattle.world_model.proofs.Scripts.{SubAt, sub_here}
-use Rattle.strict_laws.specs.Keeping.{IsKeptFor}
-use Rattle.strict_laws.proofs.Reasons.{kept_for_a_reason}
+use Rattle.tree_laws.specs.Keeping.{IsKeptFor}
+use Rattle.tree_laws.proofs.Reasons.{kept_for_a_reason}
 use Rattle.tree_laws.proofs.AptStagesOwn.{sub_of_node}
 use Rattle.tree_laws.proofs.AptTurns.{turns_come_once}
 use Rattle.run_laws.specs.Parks.{StrictRootsWaitFewTimes, is_kept_for_show, shown_as, waitings, waits_for}

@@ -35,10 +35,10 @@ use Rattle.world_model.proofs.Every.{each_append}
 use Rattle.world_model.proofs.Keepings.{of_kept}
 use Rattle.world_model.proofs.Outstanding.{keeping_elsewhere}
 use Rattle.world_model.proofs.Sends.{on}
-use Rattle.strict_laws.specs.Keeping.{IsKeptFor}
+use Rattle.tree_laws.specs.Keeping.{IsKeptFor}
 use Rattle.world_model.proofs.MeantRows.{strict_below}
-use Rattle.strict_laws.proofs.NoWakes.{client_none as client_sends_none, coordinator_none as coordinator_sends_none, core_none}
-use Rattle.strict_laws.proofs.Reasons.{kept_for_a_reason}
+use Rattle.tree_laws.proofs.NoWakes.{client_none as client_sends_none, coordinator_none as coordinator_sends_none, core_none}
+use Rattle.tree_laws.proofs.Reasons.{kept_for_a_reason}
 use Rattle.tree_laws.proofs.Sums.{over, over_add, over_hit, over_none, over_same}
 use Rattle.run_laws.specs.Parks.{is_kept_for_show, parks, parks_for, shown_as, waitings, waits_for}
 use Rattle.run_laws.proofs.EveryApt.{all_apt}

@@ -43,7 +43,7 @@ use Rattle.board_rules.specs.Stands.{lock_mode_of, version_or_zero, written_by, 
 use Rattle.board_rules.specs.Worth.{changes, ops_change, subs_change}
 use Rattle.board_rules.proofs.ItemAt.{item_at, marks_it, holds_it}
 use Rattle.board_rules.proofs.Places.{version_stays, places_more}
-use Rattle.strict_laws.proofs.ByActs.{kind_updates}
+use Rattle.tree_laws.proofs.ByActs.{kind_updates}
 use Rattle.world_model.specs.Meant.{IsMeant}
 use Rattle.advance_laws.proofs.Brought.{brought_meant}
 use Rattle.tree_laws.specs.Carried.{CarriesVersion}

@@ -39,8 +39,8 @@ use Rattle.board_rules.proofs.ItemAt.{op_row}
 use Rattle.board_rules.proofs.Places.{version_stays}
 use Rattle.board_rules.specs.Rules.{IsFreeVote}
 use Rattle.board_rules.proofs.Standing.{none_parts}
-use Rattle.strict_laws.proofs.ByActs.{wanted_needed}
-use Rattle.strict_laws.proofs.RunConflicts.{runs_meet_conflicts}
+use Rattle.tree_laws.proofs.ByActs.{wanted_needed}
+use Rattle.tree_laws.proofs.RunConflicts.{runs_meet_conflicts}
 use Rattle.tree_laws.specs.Turns.{has_turn}
 use Rattle.tree_laws.proofs.AptBounds.{effect_bound, tables_keep}
 use Rattle.tree_laws.proofs.AptDecisions.{dated_here}

@@ -11,8 +11,8 @@ use Rattle.world_model.specs.Counts.{Each, tally}
 use Rattle.world_model.specs.Kept.{kept_in}
 use Rattle.world_model.specs.Named.{is_strict_at}
 use Rattle.world_model.specs.Runs.{IsStepRun, in_flight, keeping_in, node_in}
-use Rattle.strict_laws.specs.Keeping.{Holds}
-use Rattle.strict_laws.specs.Waking.{is_wake_at}
+use Rattle.tree_laws.specs.Keeping.{Holds}
+use Rattle.tree_laws.specs.Waking.{is_wake_at}
 use Rattle.tree_laws.specs.Applied.{applied_at}
 use Rattle.tree_laws.specs.Turns.{turns}
 

@@ -1,8 +1,8 @@
 ghost use Rattle.std.specs.Prelude.{◌≡◌};
 ghost use Rattle.letter_types.specs.declared.bodies.Body.TheVariants.{Wake};
 
-use kept_letters::KeptLetters;
 use letter_types::{Body, KeptLetter, Letter, LetterId, Why};
+use node_keeping::KeptLetters;
 use std::test::Fail;
 use tv_base::{ActorNo, Stamp, SubNo, TreeNo, Version};
 

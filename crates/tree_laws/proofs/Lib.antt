@@ -43,3 +43,15 @@ pub mod AptApplied
 pub mod AptDecided
 pub mod AptVotesRows
 pub mod AptVotes
+pub mod ByActs
+pub mod Conflicts
+pub mod Reasons
+pub mod RunLocks
+pub mod AtHome
+pub mod NoConflicts
+pub mod RunConflicts
+pub mod NoWakes
+pub mod Waking
+pub mod Holding
+pub mod Parkings
+pub mod DoneOrParked

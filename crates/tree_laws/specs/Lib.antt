@@ -7,3 +7,6 @@ pub mod Carried
 pub mod Stages
 pub mod Applied
 pub mod Effects
+pub mod Keeping
+pub mod Locks
+pub mod Waking

@@ -18,7 +18,7 @@ use Rattle.world_model.specs.Node.{Node}
 use Rattle.tree_step.specs.Due.{is_due}
 use Rattle.tree_step.specs.Core.{IsCoreReady}
 use Rattle.tree_step.specs.declared.node_core.NodeCore.{NodeCore}
-use Rattle.core_step.specs.Apt.{acked_apt, decide_apt}
+use Rattle.node_keeping.specs.Apt.{acked_apt, decide_apt}
 
 some_below : (k n : ℕ) → k < n → 0 < n
 some_below k n lt = omega (arith, lt)

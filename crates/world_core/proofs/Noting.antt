@@ -16,11 +16,11 @@ use Rattle.tree_step.specs.CoreChanges.{IsCoreStepOf}
 use Rattle.tree_step.specs.Core.{core_of}
 use Rattle.tree_step.specs.declared.core_change.CorePrepared.{CorePrepared}
 use Rattle.tree_step.specs.declared.node_core.NodeCore.{NodeCore}
-use Rattle.core_step.specs.declared.plans.CorePlan.TheVariants.{Still, Does}
-use Rattle.core_step.specs.Apt.{IsOwnPlan}
-use Rattle.core_step.proofs.Aptness.{note_apt}
+use Rattle.node_keeping.specs.declared.plans.CorePlan.TheVariants.{Still, Does}
+use Rattle.node_keeping.specs.Apt.{IsOwnPlan}
+use Rattle.node_keeping.proofs.Aptness.{note_apt}
 use Rattle.world_core.proofs.Decisions.{IsNotice, is_notice}
-use Rattle.core_step.proofs.Planned.{due_body, first_fails, first_holds, plan_one, undue_body}
+use Rattle.node_keeping.proofs.Planned.{due_body, first_fails, first_holds, plan_one, undue_body}
 
 -- one that isn't due
 pub note_undue : (s : ScriptData) (l : Letter) (n : NodeCore) (t : TreeNo) (k : SubNo) (v : Version) (notice : Notice)

@@ -26,11 +26,11 @@ use Rattle.tree_step.specs.CoreChanges.{IsCoreStepOf}
 use Rattle.tree_step.specs.Core.{AreApart, IsCoreReady, core_of}
 use Rattle.tree_step.specs.declared.core_change.CorePrepared.{CorePrepared}
 use Rattle.tree_step.specs.declared.node_core.NodeCore.{NodeCore}
-use Rattle.core_step.specs.declared.plans.CorePlan.TheVariants.{Still, Does}
-use Rattle.core_step.specs.Apt.{IsOwnPlan, apt_by, is_own}
+use Rattle.node_keeping.specs.declared.plans.CorePlan.TheVariants.{Still, Does}
+use Rattle.node_keeping.specs.Apt.{IsOwnPlan, apt_by, is_own}
 use Rattle.world_core.specs.inside.Stays.{hearing, of_parts, still_step}
-use Rattle.core_step.proofs.Aptness.{ask_apt, order_apt, other_row, plain_apt}
-use Rattle.core_step.proofs.Planned.{plan_one}
+use Rattle.node_keeping.proofs.Aptness.{ask_apt, order_apt, other_row, plain_apt}
+use Rattle.node_keeping.proofs.Planned.{plan_one}
 
 of_node : (o : Out Node) (n : NodeCore) (p : Prepared) (epoch : Option ℕ) → IsNodeStepOf o n.parts p
     → o.state.homes ≡ (data_of n.parts).homes → AreApart (data_of n.parts).homes (held_answers n.parts.homes)

@@ -12,7 +12,7 @@ use Rattle.letter_types.specs.declared.kept.KeptLetter.{KeptLetter}
 use Rattle.letter_types.specs.declared.kept.Why.{Why}
 use Rattle.letter_types.specs.Kept.{brought, first_called, kept_without, without_called}
 use Rattle.letter_types.specs.Steps.{Out, still}
-use Rattle.kept_letters.specs.Again.{with_last}
+use Rattle.node_keeping.specs.Again.{with_last}
 use Rattle.nc_locks.specs.declared.modes.Met.{Met}
 use Rattle.tx_trees.specs.ScriptData.{ScriptData}
 use Rattle.tx_trees.specs.declared.parts.TreeKind.{TreeKind}

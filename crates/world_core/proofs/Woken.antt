@@ -16,7 +16,7 @@ use Rattle.letter_types.specs.declared.kept.Why.TheVariants.{Called}
 use Rattle.letter_types.specs.Kept.{brought, first_called, kept_without, wakes, wakes_by, with_called, without_called}
 use Rattle.letter_types.specs.Steps.{Out}
 use Rattle.letter_types.proofs.Ids.{none_woken}
-use Rattle.kept_letters.proofs.Calling.{none_called}
+use Rattle.node_keeping.proofs.Calling.{none_called}
 use Rattle.world_model.specs.Core.{Core}
 use Rattle.world_model.specs.Epochs.{plain_order, is_obeyed_now}
 use Rattle.world_model.specs.Keeping.{AreKeptAt, AsksFor, KeepingNode, woken_by}

@@ -4,7 +4,7 @@ ghost use Rattle.letter_types.specs.Steps.{still};
 ghost use Rattle.world_model.specs.Keeping.{AsksFor, keeping_row};
 ghost use Rattle.tree_step.specs.CoreChanges.{MayDoCore, core_prepared_row};
 ghost use Rattle.tree_step.specs.Core.{core_of};
-ghost use Rattle.core_step.specs.Plans.{kept_core};
+ghost use Rattle.node_keeping.specs.Plans.{kept_core};
 ghost use Rattle.tree_step.specs.Raising.{RaisesNear};
 ghost use Rattle.node_keeping.specs.Changes.{IsKeepingStepOf, IsSettled};
 ghost use Rattle.node_keeping.specs.State.{IsKeepingReady, keeping_of};
@@ -13,9 +13,8 @@ ghost use Rattle.world_core.specs.inside.Bringing.{IsBroughtBy, done_out, keep_b
 
 use crate::orders::is_obeyed_now;
 use crate::plan::plan_core;
-use core_step::{CoreKept, CorePlan};
 use letter_types::{Body, Boxed, KeptLetter, Letter, Letters, StepOut, What, Why};
-use node_keeping::{Keep, KeepingParts, KeepingPrepared, KeptChange};
+use node_keeping::{CoreKept, CorePlan, Keep, KeepingParts, KeepingPrepared, KeptChange};
 use std::alloc::Global;
 use tree_step::{CorePrepared, NodeCore, Prepared};
 use tv_base::{NoMemory, SubNo, TreeNo, Version};

@@ -3,12 +3,12 @@ ghost use Rattle.std.specs.Prelude.{◌≡◌, false, IfOk};
 ghost use Rattle.letter_types.specs.declared.bodies.Body.TheVariants.{Ask, AskAsked, AskDone, Numbers, Order};
 ghost use Rattle.world_model.specs.Epochs.{plain_order, is_obeyed_now};
 ghost use Rattle.tree_step.specs.Core.{IsCoreReady, core_of};
-ghost use Rattle.core_step.specs.Apt.{IsOwnPlan, is_own};
+ghost use Rattle.node_keeping.specs.Apt.{IsOwnPlan, is_own};
 ghost use Rattle.world_core.specs.inside.Own.{is_of_tree};
 ghost use Rattle.world_core.specs.inside.Stays.{of_parts, still_step};
 
-use core_step::CorePlan;
 use letter_types::{Body, Boxed, Letter, What};
+use node_keeping::CorePlan;
 use node_step::{
     plain_answer, prepare_asked, prepare_done, prepare_obeyed, prepare_order, prepare_told,
     was_obeyed,

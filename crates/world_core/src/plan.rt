@@ -12,19 +12,19 @@ ghost use Rattle.world_model.specs.Updates.{can_update};
 ghost use Rattle.tree_step.specs.Due.{is_due};
 ghost use Rattle.tree_step.specs.Node.{data_of};
 ghost use Rattle.tree_step.specs.Core.{IsCoreReady, core_of};
-ghost use Rattle.core_step.specs.Plans.{IsPlanBy, IsPlanOf};
-ghost use Rattle.core_step.specs.declared.plans.CorePlan.TheVariants.{Does};
-ghost use Rattle.core_step.specs.Apt.{IsOwnPlan, asks_a_sub, makes_by, tree_apt};
+ghost use Rattle.node_keeping.specs.Plans.{IsPlanBy, IsPlanOf};
+ghost use Rattle.node_keeping.specs.declared.plans.CorePlan.TheVariants.{Does};
+ghost use Rattle.node_keeping.specs.Apt.{IsOwnPlan, asks_a_sub, makes_by, tree_apt};
 
 use crate::orders::{plan_advancing, still_step};
 use crate::trees::{prepare_read_tree, prepare_update_tree};
-use core_step::{
-    CorePlan, acked_apt, decide_apt, decides_near, is_free, meets, parked, release_apt,
-    root_waiting, suits_coordinator, waits_for_show, wake_apt,
-};
 use letter_types::{Body, Letter, Notice};
 use nc_commit::Decision;
 use nc_locks::Met;
+use node_keeping::{
+    CorePlan, acked_apt, decide_apt, decides_near, is_free, meets, parked, release_apt,
+    root_waiting, suits_coordinator, waits_for_show, wake_apt,
+};
 use std::alloc::Global;
 use strict_step::{prepare_acked, prepare_decide, prepare_note, prepare_release, prepare_vote};
 use tree_step::{NodeCore, Request, is_due, kind_of};

@@ -17,7 +17,7 @@ use Rattle.board_rules.specs.Moves.{OneByOne}
 use Rattle.board_tallies.specs.Board.{BoardData, IsBoardOf, closes_in}
 use Rattle.worth_steps.specs.Kept.{AreWorths, WorthsData, worths_back}
 use Rattle.worth_steps.specs.Worth.{Noted, deed_suits}
-use Rattle.board_standing.specs.Notes.{AreKnown, tree_noted}
+use Rattle.board_judge.specs.Notes.{AreKnown, tree_noted}
 use Rattle.board_judge.specs.declared.rewriting.Altered.{Altered}
 use Rattle.board_judge.specs.inside.Votes.{IsRightRead}
 

@@ -15,9 +15,9 @@ use Rattle.board_rules.specs.Right.{IsRightAct}
 use Rattle.board_rules.specs.Stands.{refusal_in}
 use Rattle.board_tallies.specs.Board.{BoardData}
 use Rattle.board_tallies.specs.GateRows.{AreGatesOf, GatesData}
-use Rattle.board_standing.specs.Notes.{AreKnown}
-use Rattle.board_standing.specs.Views.{IsView, UsersData}
-use Rattle.board_standing.specs.declared.at_once.Asked.{Asked}
+use Rattle.board_judge.specs.Notes.{AreKnown}
+use Rattle.board_judge.specs.Views.{IsView, UsersData}
+use Rattle.board_judge.specs.declared.at_once.Asked.{Asked}
 use Rattle.worth_steps.specs.Kept.{WorthsData}
 use Rattle.board_judge.specs.declared.votes.Ballot.{Ballot}
 use Rattle.board_judge.specs.declared.votes.Given.{Given}

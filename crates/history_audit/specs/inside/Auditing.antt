@@ -5,9 +5,9 @@ use Rattle.tx_trees.specs.ScriptData.{ScriptData}
 use Rattle.board_judge.specs.Judged.{HasJudged, JudgeData}
 use Rattle.board_judge.specs.declared.judge.Refused.{Refused}
 use Rattle.board_judge.specs.declared.judge.Refused.TheVariants as refused
-use Rattle.history_walk.specs.Walks.{IsWalked, WalkData}
-use Rattle.history_walk.specs.declared.walk.Fault.{Fault}
-use Rattle.history_walk.specs.declared.walk.Fault.TheVariants as faults
+use Rattle.history_reader.specs.Walks.{IsWalked, WalkData}
+use Rattle.history_reader.specs.declared.walk.Fault.{Fault}
+use Rattle.history_reader.specs.declared.walk.Fault.TheVariants as faults
 use Rattle.history_audit.specs.declared.auditor.AuditRefusal.{AuditRefusal}
 use Rattle.history_audit.specs.declared.auditor.AuditRefusal.TheVariants as refusals
 use Rattle.history_audit.specs.declared.rules.AuditRule.{AuditRule}

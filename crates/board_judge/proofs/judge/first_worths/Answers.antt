@@ -7,7 +7,7 @@ use Rattle.script_parts.specs.Valid.{IsItem}
 use Rattle.script_parts.proofs.SubsOf.{all_at}
 use Rattle.board_rules.specs.Worth.{first_value}
 use Rattle.worth_steps.specs.Kept.{AreWorths, WorthsData}
-use Rattle.board_standing.specs.Notes.{AreKnown}
+use Rattle.board_judge.specs.Notes.{AreKnown}
 use Rattle.board_judge.proofs.Judging.{one_first}
 use Rattle.board_judge.proofs.Rewritten.{known_kinds}
 use Rattle.board_judge.proofs.judge.first_worths.Goals as goal

@@ -1,7 +1,7 @@
 use Rattle.std.proofs.Common.{ℕ, Option, subst, sym}
 use Rattle.tv_base.specs.declared.numbers.TreeNo.{TreeNo}
 use Rattle.script_parts.specs.ScriptData.{subs_at}
-use Rattle.board_standing.specs.Notes.{subs_noted}
+use Rattle.board_judge.specs.Notes.{subs_noted}
 use Rattle.board_judge.specs.inside.Rewriting.{HasNoted, closed_noted}
 use Rattle.board_judge.proofs.rewriting.note_closed.Goals as goal
 

@@ -1,5 +1,5 @@
 use Rattle.std.proofs.Common.{◌≡◌, ℕ, take}
-use Rattle.board_standing.specs.Notes.{ops_noted}
+use Rattle.board_judge.specs.Notes.{ops_noted}
 use Rattle.board_judge.specs.inside.Rewriting.{HasNoted, unaltered}
 use Rattle.board_judge.proofs.rewriting.note_ops.Given as goal
 

@@ -1,7 +1,7 @@
 use Rattle.std.proofs.Common.{ℕ, List, ◌∙◌, subst, length, refl}
 use Rattle.std.proofs.lemmas.Option.{slice_get_read}
 use Rattle.script_parts.specs.declared.parts.SubOp.{SubOp}
-use Rattle.board_standing.specs.Notes.{ops_noted}
+use Rattle.board_judge.specs.Notes.{ops_noted}
 use Rattle.board_judge.specs.inside.Rewriting.{HasNoted}
 use Rattle.board_judge.proofs.Rewritten.{subs_all, subs_on}
 use Rattle.board_judge.proofs.rewriting.note_subs.Goals as goal

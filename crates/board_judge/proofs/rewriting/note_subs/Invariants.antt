@@ -1,5 +1,5 @@
 use Rattle.std.proofs.Common.{◌≡◌, ℕ, take}
-use Rattle.board_standing.specs.Notes.{subs_noted}
+use Rattle.board_judge.specs.Notes.{subs_noted}
 use Rattle.board_judge.specs.inside.Rewriting.{HasNoted, unaltered}
 use Rattle.board_judge.proofs.rewriting.note_subs.Given as goal
 

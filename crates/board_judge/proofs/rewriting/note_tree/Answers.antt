@@ -1,6 +1,6 @@
 use Rattle.std.proofs.Common.{ℕ, List, ◌∙◌, sym, subst}
 use Rattle.script_parts.specs.declared.parts.Sub.{Sub}
-use Rattle.board_standing.specs.Notes.{subs_noted}
+use Rattle.board_judge.specs.Notes.{subs_noted}
 use Rattle.board_judge.specs.inside.Rewriting.{AllSubsSuit, HasNoted, kinds_of}
 use Rattle.board_judge.proofs.Rewritten.{noted_nothing, subs_found, subs_nowhere, tree_suits}
 use Rattle.board_judge.proofs.rewriting.note_tree.Goals as goal

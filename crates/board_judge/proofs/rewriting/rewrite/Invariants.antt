@@ -2,7 +2,7 @@ use Rattle.std.proofs.Common.{◌≡◌, ℕ, List, length, map, take, true}
 use Rattle.letter_types.specs.declared.acts.Act.{Act}
 use Rattle.letter_types.specs.declared.entries.Entry.{Entry}
 use Rattle.board_rules.specs.Histories.{places_of}
-use Rattle.board_standing.specs.Notes.{AreKnown}
+use Rattle.board_judge.specs.Notes.{AreKnown}
 use Rattle.board_judge.specs.inside.Rewriting.{AreOfKinds, IsRewritten, unaltered}
 use Rattle.board_judge.specs.inside.Steps.{AreNoted}
 use Rattle.board_judge.proofs.rewriting.rewrite.Given as goal

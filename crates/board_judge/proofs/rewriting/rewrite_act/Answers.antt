@@ -1,6 +1,6 @@
 use Rattle.std.proofs.Common.{◌++◌, ◌∷◌, [], subst, sym}
 use Rattle.board_rules.specs.Histories.{Place}
-use Rattle.board_standing.specs.Notes.{AreKnown}
+use Rattle.board_judge.specs.Notes.{AreKnown}
 use Rattle.board_judge.proofs.Compared.{has_versions, known_more}
 use Rattle.board_judge.proofs.rewriting.rewrite_act.Goals as goal
 

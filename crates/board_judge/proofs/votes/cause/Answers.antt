@@ -2,10 +2,10 @@ use Rattle.std.proofs.Common.{ℕ, ap, sym, subst, ◌∙◌}
 use Rattle.script_parts.specs.ScriptData.{ops_of}
 use Rattle.board_rules.specs.Histories.{places_of, version_in}
 use Rattle.board_rules.specs.Stands.{conflict_of, newer_of, short_of, version_or_zero}
-use Rattle.board_standing.specs.Views.{AreThere, MayLook}
-use Rattle.board_standing.specs.inside.Shorts.{short_ops}
-use Rattle.board_standing.proofs.Against.{has_one}
-use Rattle.board_standing.proofs.Fitting.{all_asked, ops_there}
+use Rattle.board_judge.specs.Views.{AreThere, MayLook}
+use Rattle.board_judge.specs.inside.Shorts.{short_ops}
+use Rattle.board_judge.proofs.Against.{has_one}
+use Rattle.board_judge.proofs.Fitting.{all_asked, ops_there}
 use Rattle.board_judge.proofs.Voting.{cause_first, cause_second, cause_third, short_same}
 use Rattle.board_judge.proofs.votes.cause.Goals as goal
 

@@ -3,8 +3,8 @@ use Rattle.script_parts.specs.ScriptData.{ops_of}
 use Rattle.script_parts.specs.declared.parts.SubOp.{SubOp}
 use Rattle.board_rules.specs.Right.{IsShown, gets_among}
 use Rattle.board_rules.specs.Worth.{worth_in}
-use Rattle.board_standing.specs.Views.{AreThere}
-use Rattle.board_standing.proofs.Fitting.{ops_there}
+use Rattle.board_judge.specs.Views.{AreThere}
+use Rattle.board_judge.proofs.Fitting.{ops_there}
 use Rattle.board_judge.proofs.Voting.{decide_shown, decide_unborn}
 use Rattle.board_judge.proofs.votes.is_given.Goals as goal
 

@@ -2,7 +2,7 @@ use Rattle.std.proofs.Common.{ℕ, ◌++◌, ◌∷◌, [], ◌∙◌, ap, subst
 use Rattle.std.specs.Prelude.{Result}
 use Rattle.std.proofs.lemmas.Result.{err_from_is_err_and}
 use Rattle.board_judge.specs.Judged.{JudgeData}
-use Rattle.history_walk.specs.Walks.{WalkData}
+use Rattle.history_reader.specs.Walks.{WalkData}
 use Rattle.history_audit.specs.Audited.{IsAudited}
 use Rattle.history_audit.specs.declared.auditor.AuditRefusal.{AuditRefusal}
 use Rattle.history_audit.specs.inside.Auditing.{IsUnderAudit}

@@ -2,7 +2,7 @@ use Rattle.std.proofs.Common.{ℕ, sym, subst}
 use Rattle.std.specs.Prelude.{IfOk}
 use Rattle.letter_types.specs.Steps.{Out}
 use Rattle.world_model.specs.Keeping.{KeepingNode}
-use Rattle.core_step.specs.Plans.{kept_core}
+use Rattle.node_keeping.specs.Plans.{kept_core}
 use Rattle.tree_step.specs.CoreChanges.{core_prepared_row}
 use Rattle.tree_step.specs.Core.{IsCoreReady, core_of}
 use Rattle.node_keeping.specs.Changes.{IsKeepingStepOf}

@@ -4,7 +4,7 @@ use Rattle.world_model.specs.Advancing.{done_row}
 use Rattle.tree_step.specs.Node.{data_of}
 use Rattle.tree_step.specs.Core.{core_of}
 use Rattle.world_core.specs.inside.Stays.{hearing}
-use Rattle.core_step.proofs.Aptness.{done_row_apt}
+use Rattle.node_keeping.proofs.Aptness.{done_row_apt}
 use Rattle.world_core.proofs.Ordering.{of_parts_step, own_done}
 use Rattle.world_core.proofs.orders.plan_done_row.Goals as goal
 

@@ -1,10 +1,10 @@
 use Rattle.std.proofs.Common.{refl, sym}
 use Rattle.letter_types.specs.declared.bodies.Body.TheVariants.{Decide}
 use Rattle.tree_step.specs.Core.{core_of}
-use Rattle.core_step.specs.declared.plans.CorePlan.TheVariants.{Still, Does}
-use Rattle.core_step.proofs.Aptness.{decision_apt}
+use Rattle.node_keeping.specs.declared.plans.CorePlan.TheVariants.{Still, Does}
+use Rattle.node_keeping.proofs.Aptness.{decision_apt}
 use Rattle.world_core.proofs.Decisions.{is_decision, ready_from}
-use Rattle.core_step.proofs.Planned.{plan_one}
+use Rattle.node_keeping.proofs.Planned.{plan_one}
 use Rattle.world_core.proofs.plan.plan_decide.Goals as goal
 
 pub returns-then-not-decide_apt : goal.returns-then-not-decide_apt

@@ -1,5 +1,5 @@
 use Rattle.tree_step.specs.Core.{core_of}
-use Rattle.core_step.proofs.Kept.{reads_free}
+use Rattle.node_keeping.proofs.Waiting.{reads_free}
 use Rattle.world_core.proofs.plan.plan_kind.Goals as goal
 
 pub returns-in-Update : goal.returns-in-Update

@@ -1,5 +1,5 @@
 use Rattle.std.proofs.Common.{refl}
-use Rattle.core_step.proofs.Planned.{root_plan, sub_plan}
+use Rattle.node_keeping.proofs.Planned.{root_plan, sub_plan}
 use Rattle.world_core.proofs.plan.plan_own.Goals as goal
 
 pub plan_tree-requires-clause-asks : goal.plan_tree-requires-clause-asks

@@ -2,7 +2,7 @@ use Rattle.std.proofs.Common.{◌≡◌, ◌∙◌, true, sym}
 use Rattle.item_versions.proofs.Window.{in_window-is}
 use Rattle.tree_step.proofs.Dues.{asked_near}
 use Rattle.tree_step.specs.Node.{data_of}
-use Rattle.core_step.proofs.Kept.{parked_plan}
+use Rattle.node_keeping.proofs.Waiting.{parked_plan}
 use Rattle.world_core.proofs.plan.plan_parked.Goals as goal
 
 pub returns : goal.returns

@@ -1,9 +1,9 @@
 use Rattle.std.proofs.Common.{refl, sym}
 use Rattle.letter_types.specs.declared.bodies.Body.TheVariants.{Release}
 use Rattle.tree_step.specs.Core.{core_of}
-use Rattle.core_step.specs.declared.plans.CorePlan.TheVariants.{Still, Does}
-use Rattle.core_step.proofs.Aptness.{freed_apt}
-use Rattle.core_step.proofs.Planned.{plan_one}
+use Rattle.node_keeping.specs.declared.plans.CorePlan.TheVariants.{Still, Does}
+use Rattle.node_keeping.proofs.Aptness.{freed_apt}
+use Rattle.node_keeping.proofs.Planned.{plan_one}
 use Rattle.world_core.proofs.plan.plan_release.Goals as goal
 
 pub returns-then-not-release_apt : goal.returns-then-not-release_apt

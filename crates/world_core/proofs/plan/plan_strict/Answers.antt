@@ -1,6 +1,6 @@
 use Rattle.std.proofs.Common.{refl, sym}
 use Rattle.tree_step.specs.Core.{core_of}
-use Rattle.core_step.proofs.Kept.{votes_free, waiting_plan}
+use Rattle.node_keeping.proofs.Waiting.{votes_free, waiting_plan}
 use Rattle.world_core.proofs.plan.plan_strict.Goals as goal
 
 pub returns-then-waits_for_show : goal.returns-then-waits_for_show

@@ -5,8 +5,8 @@ use Rattle.world_model.specs.Named.{tree_kind_at}
 use Rattle.world_model.specs.Strict.{is_unheld}
 use Rattle.tree_step.specs.Due.{is_due}
 use Rattle.tree_step.specs.Node.{data_of}
-use Rattle.core_step.specs.Apt.{makes_by}
-use Rattle.core_step.proofs.Planned.{tree_plan, unfree}
+use Rattle.node_keeping.specs.Apt.{makes_by}
+use Rattle.node_keeping.proofs.Planned.{tree_plan, unfree}
 use Rattle.world_core.proofs.plan.plan_tree.Goals as goal
 
 pub returns-then-not-is_free : goal.returns-then-not-is_free

@@ -1,6 +1,6 @@
 use Rattle.std.proofs.Common.{◌∙◌, sym}
 use Rattle.tree_step.specs.Core.{core_of}
-use Rattle.core_step.proofs.Kept.{meets_none}
+use Rattle.node_keeping.proofs.Waiting.{meets_none}
 use Rattle.world_core.proofs.plan.plan_update.Goals as goal
 
 pub returns : goal.returns

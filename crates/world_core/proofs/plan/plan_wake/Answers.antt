@@ -1,10 +1,10 @@
 use Rattle.std.proofs.Common.{refl, sym}
 use Rattle.letter_types.specs.declared.bodies.Body.TheVariants.{Wake}
 use Rattle.tree_step.specs.Core.{core_of}
-use Rattle.core_step.specs.declared.plans.CorePlan.TheVariants.{Still, Does}
-use Rattle.core_step.proofs.Aptness.{called_apt}
+use Rattle.node_keeping.specs.declared.plans.CorePlan.TheVariants.{Still, Does}
+use Rattle.node_keeping.proofs.Aptness.{called_apt}
 use Rattle.world_core.proofs.Ordering.{still_done}
-use Rattle.core_step.proofs.Planned.{plan_one}
+use Rattle.node_keeping.proofs.Planned.{plan_one}
 use Rattle.world_core.proofs.plan.plan_wake.Goals as goal
 
 pub returns-then-not-wake_apt : goal.returns-then-not-wake_apt

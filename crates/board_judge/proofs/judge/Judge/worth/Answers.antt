@@ -2,8 +2,8 @@ use Rattle.std.proofs.Common.{◌≡◌, ◌<◌, length, subst, sym, ◌∙◌}
 use Rattle.std.specs.Prelude.{slice_get}
 use Rattle.board_rules.specs.Histories.{places_of}
 use Rattle.board_rules.specs.Worth.{first_value, worth_in}
-use Rattle.board_standing.specs.Notes.{AreKnown, noted_on}
-use Rattle.board_standing.proofs.Seeing.{item_found, worth_known}
+use Rattle.board_judge.specs.Notes.{AreKnown, noted_on}
+use Rattle.board_judge.proofs.Seeing.{item_found, worth_known}
 use Rattle.board_judge.specs.Judged.{HasJudged, JudgeData}
 use Rattle.board_judge.proofs.judge.Judge.worth.Goals as goal
 

@@ -1,0 +1,143 @@
+// What operations see of their items: what the items are worth at a version.
+ghost use Rattle.std.specs.Prelude.{◌≡◌, ◌<◌, false, ℕ, List, Some, None, length, IfOk};
+ghost use Rattle.std.specs.Bool.{Decides};
+ghost use Rattle.letter_types.specs.Causes.{short_cause};
+ghost use Rattle.script_parts.specs.Deeds.{found_short};
+ghost use Rattle.script_parts.specs.ScriptData.{ScriptData};
+ghost use Rattle.script_parts.specs.Valid.{IsValid};
+ghost use Rattle.board_rules.specs.Histories.{Place};
+ghost use Rattle.board_rules.specs.Right.{gets_among, is_get, with_worths};
+ghost use Rattle.board_rules.specs.Worth.{worth_in};
+ghost use Rattle.board_judge.specs.Notes.{AreKnown};
+ghost use Rattle.board_judge.specs.Views.{AreThere};
+ghost use Rattle.board_judge.specs.inside.Shorts.{draws, short_item, short_ops};
+
+use commute_ops::Value;
+use letter_types::Cause;
+use std::alloc::Global;
+use tv_base::{ItemNo, NoMemory, Version};
+use tx_trees::{Deed, SubOp};
+use worth_steps::Worths;
+
+// Whether the deed reads its item.
+fn is_get(deed: &Deed) -> bool
+    ensures { result ≡ is_get deed.now }
+{
+    match deed {
+        Deed::Get => true,
+        Deed::Apply(_) => false,
+        Deed::Set(_) => false,
+        Deed::Draw(_) => false,
+    }
+}
+
+// Whether these values, with their items, are those of the gets among the operations: what their items are worth at this version,
+// in order.
+pub(crate) fn shows(
+    worths: &[Worths],
+    version: Version,
+    ops: &[SubOp],
+    values: &[(ItemNo, Value)],
+) -> bool
+    ensures { (s : ScriptData) (xs : List Place) → AreKnown s xs worths.now → AreThere s ops.now
+        → Decides result (values.now ≡ with_worths (λ (x : ℕ). worth_in s xs x version.0) (gets_among ops.now)) }
+{
+    let Some((op, later)) = ops.split_first() else {
+        return values.is_empty();
+    };
+    if !is_get(&op.deed) {
+        return shows(worths, version, later, values);
+    }
+    let Some((value, others)) = values.split_first() else {
+        return false;
+    };
+    if !is_worth(worths, version, op.item, value) {
+        return false;
+    }
+    shows(worths, version, later, others)
+}
+
+// Whether this is the item with what it is worth at this version.
+fn is_worth(worths: &[Worths], version: Version, item: ItemNo, value: &(ItemNo, Value)) -> bool
+    ensures { (s : ScriptData) (xs : List Place) → AreKnown s xs worths.now → item.0 < length s.items
+        → Decides result (value.now ≡ (item, worth_in s xs item.0 version.0)) }
+{
+    if value.0.0 != item.0 {
+        return false;
+    }
+    match worths.get(item.0 as usize) {
+        Some(worths) => worths.is_at(version, &value.1),
+        None => false,
+    }
+}
+
+// The first of the operations that draws more than its item is worth at this version, as a cause.
+pub(crate) fn short(
+    alloc: Global,
+    worths: &[Worths],
+    version: Version,
+    ops: &[SubOp],
+) -> Result<Option<Cause>, NoMemory>
+    ensures { IfOk result (λ cause. (s : ScriptData) (xs : List Place) → AreKnown s xs worths.now → AreThere s ops.now
+        → cause ≡ short_ops s xs version.0 ops.now) }
+{
+    for op in ops {
+        let cause = short_item(alloc, worths, version, op)?;
+        if cause.is_some() {
+            return Ok(cause);
+        }
+    }
+    Ok(None)
+}
+
+// The same of one operation.
+fn short_item(
+    alloc: Global,
+    worths: &[Worths],
+    version: Version,
+    op: &SubOp,
+) -> Result<Option<Cause>, NoMemory>
+    ensures { IfOk result (λ cause. (s : ScriptData) (xs : List Place) → AreKnown s xs worths.now → op.now.item.0 < length s.items
+        → cause ≡ short_item s xs version.0 op.now) }
+{
+    if !draws(&op.deed) {
+        return Ok(None);
+    }
+    let Some(worths) = worths.get(op.item.0 as usize) else {
+        return Ok(None);
+    };
+    let value = worths.at(alloc, version)?;
+    let cause = short_by(op.item, &op.deed, &value);
+    Ok(cause)
+}
+
+// Whether the deed draws from its item.
+fn draws(deed: &Deed) -> bool
+    ensures { result ≡ draws deed.now }
+{
+    match deed {
+        Deed::Draw(_) => true,
+        Deed::Get => false,
+        Deed::Apply(_) => false,
+        Deed::Set(_) => false,
+    }
+}
+
+// A value that is less than what is drawn, as a cause.
+fn short_by(item: ItemNo, deed: &Deed, value: &Value) -> Option<Cause>
+    ensures { result ≡ short_cause item (found_short deed.now value.now) }
+{
+    match (deed, value) {
+        (Deed::Draw(amount), Value::Sum(found)) => {
+            if found.0 < *amount {
+                Some(Cause::Short {
+                    item,
+                    found: found.0,
+                })
+            } else {
+                None
+            }
+        }
+        _ => None,
+    }
+}

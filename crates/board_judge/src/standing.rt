@@ -1,0 +1,307 @@
+// What is in the way of a subtransaction at its node, and in which versions its items were written.
+ghost use Rattle.std.specs.Prelude.{if◌then◌else◌, ◌≡◌, ◌<◌, ◌&&◌, true, ℕ, List, length, max};
+ghost use Rattle.std.specs.Option.{option_map};
+ghost use Rattle.tv_base.specs.declared.numbers.TreeNo.{TreeNo};
+ghost use Rattle.nc_locks.specs.Modes.{modes_conflict};
+ghost use Rattle.script_parts.specs.Counts.{has_strict};
+ghost use Rattle.script_parts.specs.Deeds.{overwrites};
+ghost use Rattle.script_parts.specs.ScriptData.{ScriptData, updates};
+ghost use Rattle.board_rules.specs.Histories.{Place, version_in, was_done};
+ghost use Rattle.board_rules.specs.Stands.{conflict_of, holder_of, newer_of, newest_of, version_or_zero};
+ghost use Rattle.board_tallies.specs.Board.{IsBoardOf};
+ghost use Rattle.board_judge.specs.Views.{AreThere, IsView, MayLook, MayNeed};
+ghost use Rattle.board_judge.specs.inside.Users.{changes_in, first_tree, has_taken, has_written, is_mark, lesser_tree, newer_item, newest_by, stands_against, version_by};
+
+use crate::users::{User, Users, lock_mode, on};
+use board_tallies::Board;
+use letter_types::Cause;
+use nc_locks::Mode;
+use script_parts::kinds::is_update;
+use tv_base::{ActorNo, ItemNo, TreeNo, Version};
+use tx_trees::{Deed, Script, SubOp};
+
+// How a tree needs an item.
+#[derive(Clone, Copy)]
+pub(crate) struct Need {
+    pub(crate) tree: TreeNo,
+    pub(crate) mode: Mode,
+}
+
+// Whether the tree of this number is there, and is an update tree.
+pub(crate) fn updates(script: &Script, tree: TreeNo) -> bool
+    ensures { result ≡ updates script.now tree.0 }
+{
+    match script.trees().get(tree.0 as usize) {
+        Some(tree) => is_update(tree.kind),
+        None => false,
+    }
+}
+
+// Whether two trees can't have an item in these modes.
+fn conflicts(one: Mode, other: Mode) -> bool
+    ensures { result ≡ modes_conflict one other }
+{
+    match (one, other) {
+        (Mode::Mark, Mode::Mark) => false,
+        (Mode::Look, Mode::Look) => false,
+        _ => true,
+    }
+}
+
+// Whether an operation's item has been taken by it.
+fn has_taken(script: &Script, board: &Board, user: User) -> bool
+    ensures { (xs : List Place) → IsBoardOf script.now xs board.now → result ≡ has_taken script.now xs user.tree.0 user.sub.0 }
+{
+    if was_updated(script, board, user) {
+        return true;
+    }
+    board.voted_yes(user.tree, user.sub)
+}
+
+// Whether an operation stands at the node against what is needed.
+fn stands(script: &Script, board: &Board, node: ActorNo, need: Need, user: User) -> bool
+    ensures { (xs : List Place) → IsBoardOf script.now xs board.now
+        → result ≡ stands_against script.now xs node.0 need.tree.0 need.mode user }
+{
+    if user.tree.0 == need.tree.0 {
+        return false;
+    }
+    if board.was_freed(user.tree, node) {
+        return false;
+    }
+    if board.was_applied(user.tree, node) {
+        return false;
+    }
+    if !has_taken(script, board, user) {
+        return false;
+    }
+    conflicts(need.mode, user.mode)
+}
+
+// The tree of the first operation that stands against what is needed.
+fn first_against(
+    script: &Script,
+    board: &Board,
+    node: ActorNo,
+    need: Need,
+    users: &[User],
+) -> Option<TreeNo>
+    ensures { (xs : List Place) → IsBoardOf script.now xs board.now
+        → option_map (λ (t : TreeNo). t.0) result ≡ first_tree (stands_against script.now xs node.0 need.tree.0 need.mode) users.now }
+{
+    for user in users {
+        if stands(script, board, node, need, *user) {
+            return Some(user.tree);
+        }
+    }
+    None
+}
+
+// The lesser number of two trees, if there are two.
+fn lesser_number(one: Option<TreeNo>, other: Option<TreeNo>) -> Option<TreeNo>
+    ensures { result ≡ lesser_tree one other }
+{
+    match (one, other) {
+        (Some(a), Some(b)) => Some(TreeNo(a.0.min(b.0))),
+        (None, b) => b,
+        (a, None) => a,
+    }
+}
+
+// Whether the mode is that of commuting operations.
+fn is_mark(mode: Mode) -> bool
+    ensures { result ≡ is_mark mode }
+{
+    match mode {
+        Mode::Mark => true,
+        Mode::Look => false,
+        Mode::Hold => false,
+    }
+}
+
+// The tree of least number that has an item against what is needed.
+fn holder(
+    script: &Script,
+    users: &Users,
+    board: &Board,
+    node: ActorNo,
+    need: Need,
+    item: ItemNo,
+) -> Option<TreeNo>
+    ensures { (xs : List Place) → IsView script.now xs board.now users.now → item.0 < length script.now.items → MayNeed script.now need.mode
+        → option_map (λ (t : TreeNo). t.0) result ≡ holder_of script.now xs node.0 need.tree.0 item.0 need.mode }
+{
+    let strict = first_against(script, board, node, need, on(&users.strict, item));
+    if is_mark(need.mode) {
+        return strict;
+    }
+    let update = first_against(script, board, node, need, on(&users.updates, item));
+    lesser_number(update, strict)
+}
+
+// The first of a tree's operations at a node whose item another tree has in a mode that conflicts, as a cause that names the
+// least such tree. Only a mark may be asked for where the script has no strict tree.
+//
+// Takes time by the operations of the script's strict trees on these items, and for strict trees by those of update trees
+// too: in all, a script's limits let this be a million steps for each strict tree.
+pub(crate) fn conflict(
+    script: &Script,
+    users: &Users,
+    board: &Board,
+    node: ActorNo,
+    tree: TreeNo,
+    ops: &[SubOp],
+) -> Option<Cause>
+    ensures { (xs : List Place) → IsView script.now xs board.now users.now → AreThere script.now ops.now → MayLook script.now ops.now
+        → result ≡ conflict_of script.now xs node.0 tree.0 ops.now }
+{
+    for op in ops {
+        let mode = lock_mode(&op.deed);
+        let need = Need { tree, mode };
+        if let Some(holder) = holder(script, users, board, node, need, op.item) {
+            return Some(Cause::Conflict {
+                item: op.item,
+                holder,
+            });
+        }
+    }
+    None
+}
+
+// Whether an item that is had in this mode is changed.
+fn changes_in(mode: Mode) -> bool
+    ensures { result ≡ changes_in mode }
+{
+    match mode {
+        Mode::Look => false,
+        Mode::Mark => true,
+        Mode::Hold => true,
+    }
+}
+
+// Whether an operation was done in an update tree.
+fn was_updated(script: &Script, board: &Board, user: User) -> bool
+    ensures { (xs : List Place) → IsBoardOf script.now xs board.now
+        → result ≡ (updates script.now user.tree.0 && was_done user.tree.0 user.sub.0 xs) }
+{
+    if !updates(script, user.tree) {
+        return false;
+    }
+    board.was_done(user.tree, user.sub)
+}
+
+// Whether an operation has written its item, which is at this node.
+fn has_written(script: &Script, board: &Board, node: ActorNo, user: User) -> bool
+    ensures { (xs : List Place) → IsBoardOf script.now xs board.now → result ≡ has_written script.now xs node.0 user }
+{
+    if !changes_in(user.mode) {
+        return false;
+    }
+    if was_updated(script, board, user) {
+        return true;
+    }
+    if !board.is_committed(user.tree) {
+        return false;
+    }
+    board.was_applied(user.tree, node)
+}
+
+// The version of a tree, or 0 where it isn't born.
+pub(crate) fn version_or_zero(board: &Board, tree: TreeNo) -> u64
+    ensures { (s : ScriptData) (xs : List Place) → IsBoardOf s xs board.now → result ≡ version_or_zero (version_in tree.0 xs) }
+{
+    match board.version_of(tree) {
+        Some(version) => version.0,
+        None => 0,
+    }
+}
+
+// The greatest version of those operations that have written their item, which is at this node.
+fn newest_by(script: &Script, board: &Board, node: ActorNo, users: &[User]) -> u64
+    ensures { (xs : List Place) → IsBoardOf script.now xs board.now → result ≡ newest_by script.now xs node.0 users.now }
+{
+    let mut newest = 0;
+    for user in users {
+        newest = newer_by(script, board, node, *user, newest);
+    }
+    newest
+}
+
+// A version, or that of an operation which has written its item in a greater one.
+fn newer_by(script: &Script, board: &Board, node: ActorNo, user: User, newest: u64) -> u64
+    ensures { (xs : List Place) → IsBoardOf script.now xs board.now
+        → result ≡ (if has_written script.now xs node.0 user then max newest (version_by xs user) else newest) }
+{
+    if !has_written(script, board, node, user) {
+        return newest;
+    }
+    newest.max(version_or_zero(board, user.tree))
+}
+
+// The greatest version in which an item was written, which is at this node.
+fn newest(script: &Script, users: &Users, board: &Board, node: ActorNo, item: ItemNo) -> u64
+    ensures { (xs : List Place) → IsView script.now xs board.now users.now → item.0 < length script.now.items
+        → has_strict script.now ≡ true → result ≡ newest_of script.now xs node.0 item.0 }
+{
+    let strict = newest_by(script, board, node, on(&users.strict, item));
+    let update = newest_by(script, board, node, on(&users.updates, item));
+    update.max(strict)
+}
+
+// Whether a deed writes over what is newer.
+fn overwrites(deed: &Deed) -> bool
+    ensures { result ≡ overwrites deed.now }
+{
+    match deed {
+        Deed::Set(_) => true,
+        Deed::Draw(_) => true,
+        Deed::Get => false,
+        Deed::Apply(_) => false,
+    }
+}
+
+// The first of the operations of a strict tree at a node that writes an item which is written in a version above this one, as a
+// cause that names the greatest such version. Takes time by the script's operations on these items.
+pub(crate) fn newer(
+    script: &Script,
+    users: &Users,
+    board: &Board,
+    node: ActorNo,
+    version: u64,
+    ops: &[SubOp],
+) -> Option<Cause>
+    ensures { (xs : List Place) → IsView script.now xs board.now users.now → AreThere script.now ops.now → has_strict script.now ≡ true
+        → result ≡ newer_of script.now xs node.0 version ops.now }
+{
+    for op in ops {
+        if let Some(cause) = newer_item(script, users, board, node, version, op) {
+            return Some(cause);
+        }
+    }
+    None
+}
+
+// The same of one operation.
+fn newer_item(
+    script: &Script,
+    users: &Users,
+    board: &Board,
+    node: ActorNo,
+    version: u64,
+    op: &SubOp,
+) -> Option<Cause>
+    ensures { (xs : List Place) → IsView script.now xs board.now users.now → op.now.item.0 < length script.now.items
+        → has_strict script.now ≡ true → result ≡ newer_item script.now xs node.0 version op.now }
+{
+    if !overwrites(&op.deed) {
+        return None;
+    }
+    let newest = newest(script, users, board, node, op.item);
+    if version < newest {
+        return Some(Cause::Newer {
+            item: op.item,
+            version: Version(newest),
+        });
+    }
+    None
+}

@@ -1,5 +1,0 @@
-use Rattle.std.proofs.Common.{length}
-use Rattle.board_standing.proofs.shown.+shows.Given as goal
-
-abbrev pub decreases-shows : goal.decreases-shows
-decreases-shows l = length l.ops.now

@@ -1,5 +1,0 @@
-use Rattle.board_standing.specs.inside.Users.{AreUsersTo}
-use Rattle.board_standing.proofs.users.users_by_item.Given as goal
-
-abbrev pub invariant-loop-t : goal.invariant-loop-t
-invariant-loop-t l = AreUsersTo l.script l.strict l.t l.users.items

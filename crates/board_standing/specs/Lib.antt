@@ -1,4 +1,0 @@
-pub mod Settled
-pub mod Notes
-pub mod Views
-pub mod inside

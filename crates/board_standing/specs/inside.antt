@@ -1,3 +1,0 @@
-pub mod Users
-pub mod Shorts
-pub mod Asking

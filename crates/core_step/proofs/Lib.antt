@@ -1,3 +1,0 @@
-pub mod Aptness
-pub mod Planned
-pub mod Kept

@@ -1,3 +1,0 @@
-pub mod Plans
-pub mod Apt
-pub mod Meeting

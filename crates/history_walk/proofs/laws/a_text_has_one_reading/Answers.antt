@@ -1,5 +1,0 @@
-use Rattle.history_walk.proofs.OneReading.{one_reading}
-use Rattle.history_walk.proofs.laws.a_text_has_one_reading.Goals as goal
-
-pub returns : goal.returns
-returns c = one_reading

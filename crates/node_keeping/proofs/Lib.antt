@@ -1,0 +1,11 @@
+pub mod Again
+pub mod Aptness
+pub mod Calling
+pub mod Entries
+pub mod Finding
+pub mod Keeping
+pub mod Orders
+pub mod Placing
+pub mod Planned
+pub mod Waiting
+pub mod Walks

@@ -1,0 +1,110 @@
+-- A plan by the letter's body is a plan of the letter.
+use Rattle.std.proofs.Common.{◌≡◌, ◌&&◌, Bool, true, false, refl, sym, subst, ap, ◌∙◌, Option, Result}
+use Rattle.std.specs.Prelude.{IfOk}
+use Rattle.tv_base.specs.declared.numbers.NoMemory.{NoMemory}
+use Rattle.tv_base.specs.declared.numbers.SubNo.{SubNo}
+use Rattle.tv_base.specs.declared.numbers.TreeNo.{TreeNo}
+use Rattle.tv_base.specs.declared.numbers.Version.{Version}
+use Rattle.letter_types.specs.declared.bodies.Body.{Body}
+use Rattle.letter_types.specs.declared.bodies.Body.TheVariants.{Root, Sub as SubLetter}
+use Rattle.letter_types.specs.declared.entries.Letter.{Letter}
+use Rattle.tx_trees.specs.ScriptData.{ScriptData}
+use Rattle.tree_home.specs.HeldAnswers.{held_answers}
+use Rattle.tx_trees.specs.declared.parts.TreeKind.{TreeKind}
+use Rattle.world_model.specs.Epochs.{suits_coordinator}
+use Rattle.world_model.specs.Named.{tree_kind_at}
+use Rattle.world_model.specs.Strict.{core_by_kind, core_keeping, core_row, is_unheld, kept_by_kind}
+use Rattle.tree_step.specs.Due.{is_due}
+use Rattle.tree_step.specs.Node.{data_of}
+use Rattle.tree_step.specs.Core.{core_of}
+use Rattle.tree_step.specs.declared.node_core.NodeCore.{NodeCore}
+use Rattle.node_keeping.specs.Plans.{IsPlanBy, IsPlanOf, IsPlanWhere}
+use Rattle.node_keeping.specs.declared.plans.CorePlan.{CorePlan}
+use Rattle.node_keeping.specs.Apt.{IsOwnPlan, apt_by, makes_by, tree_apt}
+use Rattle.node_keeping.proofs.Aptness.{own_apt, root_apt, sub_apt}
+
+-- a plan of a letter of this body, that is apt by this test
+abbrev pub IsPlanHere : ScriptData → Letter → NodeCore → Body → Bool → CorePlan → Type 0
+IsPlanHere s l n body test plan =
+    IsPlanBy test (core_keeping s (core_of n) body) (core_row s l.to.0 (core_of n) l.from.0 body) n plan
+
+pub plan_one : (s : ScriptData) (l : Letter) (n : NodeCore) (body : Body) (test : Bool) (plan : CorePlan) → l.body ≡ body
+    → test ≡ apt_by s l.to.0 l.from.0 (core_of n) body → IsPlanHere s l n body test plan → IsOwnPlan s l n plan
+plan_one s l n body test plan is same planned =
+    subst (λ (b : Body). IsPlanHere s l n b (apt_by s l.to.0 l.from.0 (core_of n) b) plan) (sym is)
+    (subst (λ (x : Bool). IsPlanHere s l n body x plan) same planned)
+
+pub plan_result : (s : ScriptData) (l : Letter) (n : NodeCore) (body : Body) (test : Bool) (r : Result CorePlan NoMemory)
+    → l.body ≡ body → test ≡ apt_by s l.to.0 l.from.0 (core_of n) body → IfOk r (IsPlanHere s l n body test)
+    → IfOk r (IsOwnPlan s l n)
+plan_result s l n body test r is same planned =
+    subst (λ (b : Body). IfOk r (IsPlanHere s l n b (apt_by s l.to.0 l.from.0 (core_of n) b))) (sym is)
+    (subst (λ (x : Bool). IfOk r (IsPlanHere s l n body x)) same planned)
+
+-- two tests of which the first holds
+pub first_holds : (a b : Bool) → a ≡ true → (a && b) ≡ b
+first_holds a b is = ap (λ (x : Bool). x && b) is
+
+pub first_fails : (a b : Bool) → a ≡ false → (a && b) ≡ false
+first_fails a b is = ap (λ (x : Bool). x && b) is
+
+-- whether a letter is due, by its body
+pub due_body : (s : ScriptData) (l : Letter) (n : NodeCore) (body : Body) → l.body ≡ body
+    → true ≡ is_due s l.to.0 (data_of n.parts) l.from.0 l.body → is_due s l.to.0 (data_of n.parts) l.from.0 body ≡ true
+due_body s l n body is due = sym (due ∙ ap (λ (b : Body). is_due s l.to.0 (data_of n.parts) l.from.0 b) is)
+
+pub undue_body : (s : ScriptData) (l : Letter) (n : NodeCore) (body : Body) → l.body ≡ body
+    → false ≡ is_due s l.to.0 (data_of n.parts) l.from.0 l.body → is_due s l.to.0 (data_of n.parts) l.from.0 body ≡ false
+undue_body s l n body is due = sym (due ∙ ap (λ (b : Body). is_due s l.to.0 (data_of n.parts) l.from.0 b) is)
+
+-- A letter that asks for a subtransaction of a tree.
+pub unfree : (a b m : Bool) → false ≡ (a && b) → (a && (b && m)) ≡ false
+unfree true true m is = absurd (cc)
+unfree true false m is = refl
+unfree false b m is = refl
+
+is_free : (a b m : Bool) → true ≡ (a && b) → m ≡ (a && (b && m))
+is_free true true m is = refl
+is_free true false m is = absurd (cc)
+is_free false b m is = absurd (cc)
+
+-- its plan, by the tree's kind
+abbrev IsTreePlan : ScriptData → Letter → NodeCore → TreeNo → Body → Bool → Option TreeKind → CorePlan → Type 0
+IsTreePlan s l n t body test kind plan =
+    IsPlanBy test (kept_by_kind s (core_of n) t body kind) (core_by_kind s l.to.0 l.from.0 t body kind (core_of n)) n plan
+
+pub tree_plan : (s : ScriptData) (l : Letter) (n : NodeCore) (t : TreeNo) (kind : Option TreeKind)
+    (r : Result CorePlan NoMemory) → kind ≡ tree_kind_at s t.0
+    → true ≡ (is_due s l.to.0 (data_of n.parts) l.from.0 l.body && is_unheld l.body (held_answers n.parts.homes))
+    → IfOk r (IsTreePlan s l n t l.body (makes_by s (data_of n.parts) l.body kind) kind)
+    → IfOk r (IsTreePlan s l n t l.body (tree_apt s l.to.0 l.from.0 (core_of n) t l.body) (tree_kind_at s t.0))
+tree_plan s l n t kind r is free planned =
+    subst (λ (x : Bool). IfOk r (IsTreePlan s l n t l.body x (tree_kind_at s t.0)))
+    (is_free (is_due s l.to.0 (data_of n.parts) l.from.0 l.body) (is_unheld l.body (held_answers n.parts.homes))
+    (makes_by s (data_of n.parts) l.body (tree_kind_at s t.0)) free)
+    (subst (λ (x : Option TreeKind). IfOk r (IsTreePlan s l n t l.body (makes_by s (data_of n.parts) l.body x) x)) is planned)
+
+pub root_plan : (s : ScriptData) (l : Letter) (n : NodeCore) (t : TreeNo) (r : Result CorePlan NoMemory) → l.body ≡ Root t
+    → IfOk r (IsTreePlan s l n t l.body (tree_apt s l.to.0 l.from.0 (core_of n) t l.body) (tree_kind_at s t.0))
+    → IfOk r (IsOwnPlan s l n)
+root_plan s l n t r is planned =
+    plan_result s l n (Root t) (tree_apt s l.to.0 l.from.0 (core_of n) t (Root t)) r is
+    (root_apt s l.to.0 l.from.0 (core_of n) t)
+    (subst (λ (b : Body). IfOk r (IsTreePlan s l n t b (tree_apt s l.to.0 l.from.0 (core_of n) t b) (tree_kind_at s t.0)))
+    is planned)
+
+pub sub_plan : (s : ScriptData) (l : Letter) (n : NodeCore) (t : TreeNo) (k : SubNo) (v : Version)
+    (r : Result CorePlan NoMemory) → l.body ≡ SubLetter t k v
+    → IfOk r (IsTreePlan s l n t l.body (tree_apt s l.to.0 l.from.0 (core_of n) t l.body) (tree_kind_at s t.0))
+    → IfOk r (IsOwnPlan s l n)
+sub_plan s l n t k v r is planned =
+    plan_result s l n (SubLetter t k v) (tree_apt s l.to.0 l.from.0 (core_of n) t (SubLetter t k v)) r is
+    (sub_apt s l.to.0 l.from.0 (core_of n) t k v)
+    (subst (λ (b : Body). IfOk r (IsTreePlan s l n t b (tree_apt s l.to.0 l.from.0 (core_of n) t b) (tree_kind_at s t.0)))
+    is planned)
+
+-- a plan of a letter that the script's coordinator has
+pub own_plan : (s : ScriptData) (l : Letter) (n : NodeCore) (r : Result CorePlan NoMemory)
+    → suits_coordinator s l.body ≡ true → IfOk r (IsOwnPlan s l n) → IfOk r (IsPlanOf s l n)
+own_plan s l n r own planned =
+    subst (λ (x : Bool). IfOk r (λ (plan : CorePlan). IsPlanWhere x s l n plan)) (own_apt s l.to.0 (core_of n) l own) planned

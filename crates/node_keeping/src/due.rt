@@ -1,0 +1,176 @@
+// Whether a letter is apt, as far as its operations don't decide.
+ghost use Rattle.std.specs.Prelude.{◌≡◌, ◌==◌, ◌&&◌, is_some, nat_lt};
+ghost use Rattle.std.specs.Option.{option_copied};
+ghost use Rattle.tree_home.specs.HeldAnswers.{held_answers, held_in};
+ghost use Rattle.tree_home.specs.Homes.{Gets, open_trees};
+ghost use Rattle.tx_trees.specs.ScriptData.{node_of, sub_at};
+ghost use Rattle.world_model.specs.Epochs.{is_of_forgetting, is_of_remembering, suits_coordinator};
+ghost use Rattle.world_model.specs.Notices.{answer_noted};
+ghost use Rattle.world_model.specs.Strict.{is_near_answer, is_unheld};
+ghost use Rattle.tree_step.specs.Due.{is_due};
+ghost use Rattle.tree_step.specs.Node.{data_of};
+ghost use Rattle.tree_step.specs.Core.{core_of};
+ghost use Rattle.node_keeping.specs.Apt.{acked_apt, acks_here, decide_apt, decides_here, release_apt, wake_apt};
+
+use letter_types::{Body, Letter};
+use nc_commit::{Decision, may_apply_decision};
+use script_parts::children::visits;
+use tree_home::Homes;
+use tree_step::{NodeCore, Request, is_due, is_near, is_strict};
+use tv_base::{ActorNo, NodeNo, SubNo, TreeNo, Version};
+use tx_trees::{Script, Sub};
+
+/// Whether a letter is of, or to, a coordinator that forgets.
+fn is_of_forgetting(body: &Body) -> bool
+    ensures { result ≡ is_of_forgetting body.now }
+{
+    matches!(
+        body,
+        Body::Lose
+            | Body::AdvanceNo { .. }
+            | Body::Ask { .. }
+            | Body::Numbers { .. }
+            | Body::Wanted { .. }
+            | Body::Order { .. }
+            | Body::Obeyed { .. }
+    )
+}
+
+/// Whether a letter is of, or to, a coordinator that remembers.
+fn is_of_remembering(body: &Body) -> bool
+    ensures { result ≡ is_of_remembering body.now }
+{
+    matches!(
+        body,
+        Body::Advance
+            | Body::Turn { .. }
+            | Body::Show { .. }
+            | Body::Sweep { .. }
+            | Body::Turned { .. }
+            | Body::Shown { .. }
+            | Body::Swept { .. }
+    )
+}
+
+/// Whether a letter is none that only the other kind of coordinator has, which the script doesn't run.
+pub fn suits_coordinator(script: &Script, body: &Body) -> bool
+    ensures { result ≡ suits_coordinator script.now body.now }
+{
+    if script.is_lossy() {
+        return !is_of_remembering(body);
+    }
+    !is_of_forgetting(body)
+}
+
+/// Whether the answer of a tree is held.
+fn is_held(homes: &Homes, tree: TreeNo) -> bool
+    ensures { result ≡ is_some (held_in tree (held_answers homes.now)) }
+{
+    homes.held(tree).is_some()
+}
+
+/// Whether the answer of a root's tree isn't held at its home.
+fn is_unheld(homes: &Homes, body: &Body) -> bool
+    ensures { result ≡ is_unheld body.now (held_answers homes.now) }
+{
+    match body {
+        Body::Root { tree } => !is_held(homes, *tree),
+        _ => true,
+    }
+}
+
+/// Whether a letter that asks for a subtransaction is one that the node takes, and the answer of a root's tree isn't
+/// held.
+pub fn is_free(core: &NodeCore, letter: &Letter, script: &Script) -> bool
+    ensures { result ≡ is_due script.now letter.now.to.0 (data_of core.now.parts) letter.now.from.0 letter.now.body
+        && is_unheld letter.now.body (held_answers core.now.parts.homes) }
+{
+    is_due(&core.parts, letter, script) && is_unheld(&core.parts.homes, &letter.body)
+}
+
+/// Whether the answer that a notice completes, where its tree is strict, is of a version in which the home counts,
+/// whatever values the notice brings. It is so where the tree isn't strict, or the notice completes none.
+pub fn decides_near(core: &NodeCore, script: &Script, request: Request) -> bool
+    ensures { (values : Gets) → result ≡ is_near_answer script.now (data_of core.now.parts)
+        (answer_noted request.tree request.sub values (open_trees core.now.parts.homes)) }
+{
+    if !is_strict(script, request.tree) {
+        return true;
+    }
+    match core.parts.homes.would_answer_in(request.tree, request.sub) {
+        Some(version) => is_near(&core.parts.turns, version),
+        None => true,
+    }
+}
+
+/// Whether the script has strict trees, this one has a subtransaction at the letter's addressee, and a node sent the
+/// letter.
+fn decides_here(letter: &Letter, script: &Script, tree: TreeNo) -> bool
+    ensures { result ≡ decides_here script.now letter.now.to.0 letter.now.from.0 tree }
+{
+    script.has_strict()
+        && visits(script.subs_of(tree), NodeNo(letter.to.0))
+        && letter.from.0 < script.nodes()
+}
+
+/// Whether a decision is apt: its tree is strict and has a subtransaction here, its version is one that the node counts
+/// in, and what it applies can be applied.
+pub fn decide_apt(core: &NodeCore, letter: &Letter, script: &Script, decision: Decision) -> bool
+    ensures { result ≡ decide_apt script.now letter.now.to.0 letter.now.from.0 (core_of core.now) decision.tree
+        decision.version decision.commit }
+{
+    decides_here(letter, script, decision.tree)
+        && is_near(&core.parts.turns, decision.version)
+        && may_apply_decision(&core.parts.items, decision, script, NodeNo(letter.to.0))
+}
+
+/// Whether the script has strict trees, this one is at home at the letter's addressee, and a node sent the letter.
+fn acks_here(letter: &Letter, script: &Script, tree: TreeNo) -> bool
+    ensures { result ≡ acks_here script.now letter.now.to.0 letter.now.from.0 tree }
+{
+    script.has_strict() && script.home_of(tree) == letter.to.0 && letter.from.0 < script.nodes()
+}
+
+/// Whether an acknowledgement is apt.
+pub fn acked_apt(
+    core: &NodeCore,
+    letter: &Letter,
+    script: &Script,
+    tree: TreeNo,
+    version: Version,
+) -> bool
+    ensures { result ≡ acked_apt script.now letter.now.to.0 letter.now.from.0 (core_of core.now) tree version }
+{
+    acks_here(letter, script, tree) && is_near(&core.parts.turns, version)
+}
+
+/// Whether it is apt that a tree's marks go at a node: the script has strict trees, and the tree a subtransaction there.
+pub fn release_apt(script: &Script, at: ActorNo, tree: TreeNo) -> bool
+    ensures { result ≡ release_apt script.now at.0 tree }
+{
+    script.has_strict() && visits(script.subs_of(tree), NodeNo(at.0))
+}
+
+/// A subtransaction of the script. None exactly where it isn't there.
+fn find_sub(script: &Script, tree: TreeNo, sub: SubNo) -> Option<&Sub>
+    ensures { option_copied result ≡ sub_at script.now tree.0 sub.0 }
+{
+    script.subs_of(tree).get(sub.0 as usize)
+}
+
+/// The node of a subtransaction; where it isn't there, the number of nodes, which is no node.
+fn node_of(script: &Script, tree: TreeNo, sub: SubNo) -> u8
+    ensures { result ≡ node_of script.now tree.0 sub.0 }
+{
+    match find_sub(script, tree, sub) {
+        Some(found) => found.node.0,
+        None => script.nodes(),
+    }
+}
+
+/// Whether a Wake is apt: the script has strict trees, and the subtransaction is at the node.
+pub fn wake_apt(script: &Script, at: ActorNo, tree: TreeNo, sub: SubNo) -> bool
+    ensures { result ≡ wake_apt script.now at.0 tree sub }
+{
+    script.has_strict() && node_of(script, tree, sub) == at.0
+}

@@ -1,0 +1,146 @@
+// The letters that a node keeps.
+ghost use Rattle.std.specs.Prelude.{◌≡◌, [], ◌∷◌, ◌++◌, length, IfErr, IfOk, IsSome, OnErr, OnOk};
+ghost use Rattle.std.specs.Option.{option_copied};
+ghost use Rattle.letter_types.specs.Kept.{brought, first_called, kept_without, wakes, wakes_by, with_called, without_called};
+ghost use Rattle.node_keeping.specs.Again.{kept_again};
+
+use crate::arrivals::{called_letter, insert, insert_again, let_called_go};
+use crate::places::{Key, Place};
+use crate::wakes::{call_all, wakes_of};
+use letter_types::{Body, KeptLetter, Letter, Letters, Why};
+use std::alloc::Global;
+use std::collections::{BTreeMap, BTreeSet};
+use std::marker::Model;
+use tv_base::{NoMemory, SubNo, TreeNo};
+
+/// The letters that a node keeps, in the order in which it kept them. Contracts see the list of them.
+///
+/// They are in a map by the number of their arrival. An ordered set has for each its places: its subtransaction with
+/// this number, and what it waits for with this number. To look for the called letter of a subtransaction, to let it
+/// go, to keep a letter and to keep one again takes time by the logarithm of how many are kept, for each letter of
+/// the subtransaction up to the called one. `wakes` and `call` take that for each letter that is woken. `count` takes
+/// the same time whatever is kept.
+#[derive(Drop)]
+pub struct KeptLetters {
+    next: u64,
+    letters: BTreeMap<u64, KeptLetter>,
+    places: BTreeSet<Place>,
+}
+
+impl Model for KeptLetters {
+    ghost use Rattle.std.specs.Prelude.{List};
+    ghost use Rattle.std.specs.Map.{values_of};
+    ghost use Rattle.letter_types.specs.declared.kept.KeptLetter.{KeptLetter};
+    ghost use Rattle.node_keeping.specs.inside.Arrivals.{ArePlaced};
+
+    ghost Value = { List KeptLetter };
+
+    ghost view = { λ s. values_of s.letters.entries };
+
+    ghost invariant = { λ s. ArePlaced s.next s.letters.entries s.places.keys };
+}
+
+impl KeptLetters {
+    /// No letter.
+    pub fn new(alloc: Global) -> KeptLetters
+        ensures { result ≡ [] }
+    {
+        KeptLetters {
+            next: 0,
+            letters: BTreeMap::new(alloc),
+            places: BTreeSet::new(alloc),
+        }
+    }
+
+    /// How many letters are kept.
+    pub fn count(&self) -> usize
+        ensures { result ≡ length self.now }
+    {
+        self.letters.len()
+    }
+
+    /// The letter that this one brings to its node: of a Wake the first kept letter of its subtransaction that is
+    /// called; any other letter brings itself. None exactly for a Wake that calls none.
+    pub fn brought<'a>(&'a self, letter: &'a Letter) -> Option<&'a Letter>
+        ensures { option_copied result ≡ brought self.now letter.now letter.now.body }
+    {
+        match &letter.body {
+            Body::Wake { tree, sub } => {
+                called_letter(&self.letters, &self.places, self.next, *tree, *sub)
+            }
+            _ => Some(letter),
+        }
+    }
+
+    /// Lets the letter go that this one brought, if it was kept. Needs no memory.
+    pub fn let_go(&mut self, letter: &Letter)
+        ensures { self.new ≡ kept_without self.old letter.now.body }
+    {
+        if let Body::Wake { tree, sub } = &letter.body {
+            let_called_go(&mut self.letters, &mut self.places, self.next, *tree, *sub);
+        }
+    }
+
+    /// Lets the first called letter of this subtransaction go, if there is one. Needs no memory.
+    pub fn let_called_go(&mut self, tree: TreeNo, sub: SubNo)
+        ensures { self.new ≡ without_called tree sub self.old }
+    {
+        let_called_go(&mut self.letters, &mut self.places, self.next, tree, sub);
+    }
+
+    /// Keeps one letter more, last. It comes back if memory runs out, and then what is kept is as it was. After 2^64
+    /// letters it finds no memory either.
+    pub fn keep(&mut self, kept: KeptLetter) -> Result<(), (NoMemory, KeptLetter)>
+        ensures ok { OnOk result (self.new ≡ self.old ++ kept ∷ []) }
+        ensures refused { IfErr result (λ e. e.1 ≡ kept) }
+        ensures err { OnErr result (self.new ≡ self.old) }
+    {
+        if self.next == u64::MAX {
+            return Err((NoMemory, kept));
+        }
+        insert(&mut self.letters, &mut self.places, self.next, kept)?;
+        self.next += 1;
+        Ok(())
+    }
+
+    /// The called letter of this subtransaction is kept again, last, for this reason. If memory runs out what is kept
+    /// is as it was.
+    pub fn keep_again(&mut self, tree: TreeNo, sub: SubNo, why: Why) -> Result<(), NoMemory>
+        requires { IsSome (first_called tree sub self.old) }
+        ensures ok { OnOk result (self.new ≡ kept_again tree sub why self.old) }
+        ensures err { OnErr result (self.new ≡ self.old) }
+    {
+        if self.next == u64::MAX {
+            return Err(NoMemory);
+        }
+        insert_again(
+            &mut self.letters,
+            &mut self.places,
+            self.next,
+            tree,
+            sub,
+            why,
+        )?;
+        self.next += 1;
+        Ok(())
+    }
+
+    /// A Wake for each letter that a letter of this body wakes, in the order in which they were kept.
+    pub fn wakes(&self, alloc: Global, body: &Body) -> Result<Letters, NoMemory>
+        ensures { IfOk result (λ sent. sent ≡ wakes (wakes_by body.now) self.now) }
+    {
+        match Key::woken_by(body) {
+            Some(key) => wakes_of(alloc, &self.letters, &self.places, self.next, key),
+            None => Ok(Letters::new(alloc)),
+        }
+    }
+
+    /// The letters that a letter of this body wakes are called from now on. Needs no memory.
+    pub fn call(&mut self, body: &Body)
+        ensures { self.new ≡ with_called (wakes_by body.now) self.old }
+    {
+        if let Some(key) = Key::woken_by(body) {
+            call_all(&mut self.letters, &mut self.places, self.next, key);
+        }
+    }
+}

@@ -1,0 +1,156 @@
+// Which letters are kept, and how.
+ghost use Rattle.std.specs.Prelude.{◌≡◌, ◌++◌, ◌∷◌, [], nat_lt, IfOk};
+ghost use Rattle.world_model.specs.Strict.{is_born_now, meets};
+ghost use Rattle.world_model.specs.Asked.{asked_ops};
+ghost use Rattle.nc_locks.specs.Locks.{met_in};
+ghost use Rattle.tree_step.specs.Node.{data_of};
+ghost use Rattle.tree_step.specs.Core.{core_of};
+ghost use Rattle.node_keeping.specs.Meeting.{asked_sub, op_marks, parked_kept, raises_to, root_kept, turned_by, waits_for_show};
+
+use letter_types::{Act, Acts, Body, Letter, Why};
+use nc_locks::{Locks, Met, Mode};
+use node_versions::Turns;
+use std::alloc::Global;
+use tree_step::{NodeCore, asked_ops, asked_version};
+use tv_base::{NoMemory, SubNo, TreeNo, Version};
+use tx_trees::{Script, SubOp};
+
+/// A letter that is kept: the subtransaction that it asks for, why it is kept, the update version that the node raises
+/// before, if it must, and the acts.
+#[derive(Drop)]
+pub struct CoreKept {
+    pub tree: TreeNo,
+    pub sub: SubNo,
+    pub why: Why,
+    pub raises: Option<Version>,
+    pub acts: Acts,
+}
+
+/// The first lock that a tree meets that marks the items of these operations.
+fn met_by_marks(locks: &Locks, tree: TreeNo, ops: &[SubOp]) -> Option<Met>
+    ensures { result ≡ met_in tree (op_marks ops.now) locks.now }
+{
+    for op in ops {
+        if let Some(met) = locks.met(tree, &[(op.item, Mode::Mark)]) {
+            return Some(met);
+        }
+    }
+    None
+}
+
+/// What a subtransaction of an update tree meets: nothing where there is no strict tree.
+pub fn meets(core: &NodeCore, letter: &Letter, script: &Script, tree: TreeNo) -> Option<Met>
+    ensures { result ≡ meets script.now tree (asked_ops script.now letter.now.body) (core_of core.now) }
+{
+    if !script.has_strict() {
+        return None;
+    }
+    met_by_marks(&core.locks, tree, asked_ops(letter, script))
+}
+
+/// The subtransaction that a letter asks for, 0 for a root.
+fn asked_sub(letter: &Letter) -> SubNo
+    ensures { result ≡ asked_sub letter.now.body }
+{
+    match &letter.body {
+        Body::Sub { sub, .. } => *sub,
+        _ => SubNo(0),
+    }
+}
+
+/// The version to which a subtransaction of this version raises the update version, if it does.
+fn raises_to(turns: &Turns, version: Version) -> Option<Version>
+    ensures { result ≡ raises_to turns.now version }
+{
+    if turns.update.0 < version.0 {
+        return Some(version);
+    }
+    None
+}
+
+/// The act of a raise, if there is one.
+fn turned_by(alloc: Global, raises: Option<Version>) -> Result<Acts, NoMemory>
+    ensures { IfOk result (λ acts. acts ≡ turned_by raises) }
+{
+    let mut acts = Acts::new(alloc);
+    let Some(version) = raises else {
+        return Ok(acts);
+    };
+    acts.push(Act::Turned { version })?;
+    Ok(acts)
+}
+
+/// The acts of a subtransaction that is parked.
+fn parked_acts(alloc: Global, raises: Option<Version>, act: Act) -> Result<Acts, NoMemory>
+    ensures { IfOk result (λ acts. acts ≡ turned_by raises ++ act ∷ []) }
+{
+    let mut acts = turned_by(alloc, raises)?;
+    acts.push(act)?;
+    Ok(acts)
+}
+
+/// A subtransaction of an update tree that meets a lock is parked for its holder. It raises the update version before,
+/// if it must.
+pub fn parked(
+    alloc: Global,
+    turns: &Turns,
+    letter: &Letter,
+    tree: TreeNo,
+    met: Met,
+) -> Result<CoreKept, NoMemory>
+    ensures { IfOk result (λ kept. kept ≡ parked_kept tree letter.now.body turns.now met) }
+{
+    let sub = asked_sub(letter);
+    let raises = raises_to(turns, asked_version(letter, turns.update));
+    let act = Act::Parked {
+        tree,
+        sub,
+        item: met.item,
+        holder: met.holder,
+    };
+    let acts = parked_acts(alloc, raises, act)?;
+    Ok(CoreKept {
+        tree,
+        sub,
+        why: Why::ForHolder(met.holder),
+        raises,
+        acts,
+    })
+}
+
+/// Whether the version that is updated follows the one that is read: then a strict tree is born.
+fn is_born_now(core: &NodeCore) -> bool
+    ensures { result ≡ is_born_now (data_of core.now.parts) }
+{
+    let turns = &core.parts.turns;
+    turns.read.0 < turns.update.0 && turns.update.0 - turns.read.0 == 1
+}
+
+/// Whether a letter that asks a strict tree's subtransaction for its vote is a root that has to wait.
+pub fn waits_for_show(core: &NodeCore, letter: &Letter) -> bool
+    ensures { result ≡ waits_for_show (data_of core.now.parts) letter.now.body }
+{
+    match &letter.body {
+        Body::Root { .. } => !is_born_now(core),
+        _ => false,
+    }
+}
+
+/// The root of a strict tree that isn't born yet waits until the node shows a version.
+pub fn root_waiting(alloc: Global, turns: &Turns, tree: TreeNo) -> Result<CoreKept, NoMemory>
+    ensures { IfOk result (λ kept. kept ≡ root_kept tree turns.now) }
+{
+    let mut acts = Acts::new(alloc);
+    acts.push(Act::Waits {
+        tree,
+        update: turns.update,
+        read: turns.read,
+    })?;
+    Ok(CoreKept {
+        tree,
+        sub: SubNo(0),
+        why: Why::ForShow,
+        raises: None,
+        acts,
+    })
+}

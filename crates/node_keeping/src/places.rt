@@ -1,0 +1,100 @@
+// By what kept letters are found, and when they came.
+ghost use Rattle.std.specs.Prelude.{◌≡◌, OnErr, OnOk};
+ghost use Rattle.std.specs.List.Sorted.{IsStrictlySortedBy};
+ghost use Rattle.node_keeping.specs.inside.Places.{ArePlacesAdded, ArePlacesSame, ArePlacesTaken, IsFree, key_of_why, place_order, woken_key};
+
+use letter_types::{Body, Why};
+use std::collections::BTreeSet;
+use tv_base::{NoMemory, SubNo, TreeNo};
+
+/// By what a kept letter is found.
+#[derive(Clone, Copy, PartialEq, Eq, PartialOrd, Ord)]
+pub(crate) enum Key {
+    /// By its subtransaction, whatever it is kept for.
+    Sub(TreeNo, SubNo),
+    /// By the version that is to be shown.
+    Show,
+    /// By the tree that is to let go of its locks.
+    Holder(TreeNo),
+}
+
+impl Key {
+    /// The key of what a kept letter waits for, but for its Wake.
+    fn of_why(why: Why) -> Option<Key>
+        ensures { result ≡ key_of_why why }
+    {
+        match why {
+            Why::ForShow => Some(Key::Show),
+            Why::ForHolder(tree) => Some(Key::Holder(tree)),
+            Why::Called => None,
+        }
+    }
+
+    /// The key of what a letter of this body wakes.
+    pub(crate) fn woken_by(body: &Body) -> Option<Key>
+        ensures { result ≡ woken_key body.now }
+    {
+        match body {
+            Body::Show { .. } => Some(Key::Show),
+            Body::Decide { tree, .. } => Some(Key::Holder(*tree)),
+            _ => None,
+        }
+    }
+}
+
+/// A kept letter by a key, and by when it came.
+#[derive(Clone, Copy, PartialEq, Eq, PartialOrd, Ord)]
+pub(crate) struct Place {
+    pub(crate) key: Key,
+    pub(crate) arrival: u64,
+}
+
+/// Adds the places of a letter that came then. Where no memory is found the same places are as before.
+pub(crate) fn add_places(
+    places: &mut BTreeSet<Place>,
+    arrival: u64,
+    tree: TreeNo,
+    sub: SubNo,
+    why: Why,
+) -> Result<(), NoMemory>
+    requires { IsFree arrival places.old.keys }
+    ensures ok { OnOk result (ArePlacesAdded arrival tree sub why places.old.keys places.new.keys) }
+    ensures err { OnErr result (ArePlacesSame places.old.keys places.new.keys) }
+    ensures in_order { IsStrictlySortedBy place_order places.new.keys }
+{
+    let first = Place {
+        key: Key::Sub(tree, sub),
+        arrival,
+    };
+    places.insert(first)?;
+    let Some(key) = Key::of_why(why) else {
+        return Ok(());
+    };
+    match places.insert(Place { key, arrival }) {
+        Ok(_) => Ok(()),
+        Err(_) => {
+            places.remove(&first);
+            Err(NoMemory)
+        }
+    }
+}
+
+/// Takes the places of a letter that came then away.
+pub(crate) fn take_places(
+    places: &mut BTreeSet<Place>,
+    arrival: u64,
+    tree: TreeNo,
+    sub: SubNo,
+    why: Why,
+)
+    ensures taken { ArePlacesTaken arrival tree sub why places.old.keys places.new.keys }
+    ensures in_order { IsStrictlySortedBy place_order places.new.keys }
+{
+    places.remove(&Place {
+        key: Key::Sub(tree, sub),
+        arrival,
+    });
+    if let Some(key) = Key::of_why(why) {
+        places.remove(&Place { key, arrival });
+    }
+}

@@ -1,9 +1,0 @@
-pub mod Bounded
-pub mod Carrying
-pub mod EveryEntry
-pub mod Gathering
-pub mod Items
-pub mod Looks
-pub mod Printing
-pub mod Stepping
-pub mod Values

@@ -1,7 +1,0 @@
-use Rattle.std.proofs.Common.{take}
-use Rattle.std.specs.List.{AllByRecursion}
-use Rattle.print_laws.specs.Ranges.{HasSentRanges}
-use Rattle.print_laws.proofs.ranges.of_letters.Given as goal
-
-abbrev pub invariant-loop-letter : goal.invariant-loop-letter
-invariant-loop-letter l = AllByRecursion HasSentRanges (take l.letter-index l.letters)

@@ -1,6 +1,0 @@
-use Rattle.std.proofs.Common.{take}
-use Rattle.print_laws.specs.Ranges.{AreWords}
-use Rattle.print_laws.proofs.ranges.of_row.Given as goal
-
-abbrev pub invariant-loop-number : goal.invariant-loop-number
-invariant-loop-number l = AreWords (take l.number-index l.numbers)

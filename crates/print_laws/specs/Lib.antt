@@ -1,2 +1,0 @@
-pub mod OfScript
-pub mod Ranges

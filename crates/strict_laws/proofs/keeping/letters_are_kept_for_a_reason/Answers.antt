@@ -1,5 +1,0 @@
-use Rattle.strict_laws.proofs.Reasons.{kept_for_a_reason}
-use Rattle.strict_laws.proofs.keeping.letters_are_kept_for_a_reason.Goals as goal
-
-pub returns : goal.returns
-returns c = kept_for_a_reason

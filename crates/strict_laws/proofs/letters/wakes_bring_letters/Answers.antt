@@ -1,5 +1,0 @@
-use Rattle.strict_laws.proofs.Waking.{wakes_bring_letters}
-use Rattle.strict_laws.proofs.letters.wakes_bring_letters.Goals as goal
-
-pub returns : goal.returns
-returns c = wakes_bring_letters

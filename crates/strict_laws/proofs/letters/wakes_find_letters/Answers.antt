@@ -1,5 +1,0 @@
-use Rattle.strict_laws.proofs.Waking.{wakes_find_letters}
-use Rattle.strict_laws.proofs.letters.wakes_find_letters.Goals as goal
-
-pub returns : goal.returns
-returns c = wakes_find_letters

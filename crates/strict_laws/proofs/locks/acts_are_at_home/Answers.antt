@@ -1,5 +1,0 @@
-use Rattle.strict_laws.proofs.AtHome.{acts_at_home}
-use Rattle.strict_laws.proofs.locks.acts_are_at_home.Goals as goal
-
-pub returns : goal.returns
-returns c = acts_at_home

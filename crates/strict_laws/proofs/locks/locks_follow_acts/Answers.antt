@@ -1,5 +1,0 @@
-use Rattle.strict_laws.proofs.ByActs.{locks_follow_acts}
-use Rattle.strict_laws.proofs.locks.locks_follow_acts.Goals as goal
-
-pub returns : goal.returns
-returns c = locks_follow_acts

@@ -1,5 +1,0 @@
-use Rattle.strict_laws.proofs.RunLocks.{run_locks}
-use Rattle.strict_laws.proofs.locks.locks_of_runs.Goals as goal
-
-pub returns : goal.returns
-returns c = run_locks

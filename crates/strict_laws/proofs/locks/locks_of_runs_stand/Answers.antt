@@ -1,5 +1,0 @@
-use Rattle.strict_laws.proofs.AtHome.{locks_are_standing}
-use Rattle.strict_laws.proofs.locks.locks_of_runs_stand.Goals as goal
-
-pub returns : goal.returns
-returns c = locks_are_standing

@@ -1,5 +1,0 @@
-use Rattle.strict_laws.proofs.Conflicts.{met_is_conflict}
-use Rattle.strict_laws.proofs.locks.met_locks_are_named.Goals as goal
-
-pub returns : goal.returns
-returns c = met_is_conflict

@@ -1,5 +1,0 @@
-use Rattle.strict_laws.proofs.NoConflicts.{runs_apart}
-use Rattle.strict_laws.proofs.locks.no_locks_conflict.Goals as goal
-
-pub returns : goal.returns
-returns c = runs_apart

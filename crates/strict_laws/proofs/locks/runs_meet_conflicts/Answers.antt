@@ -1,5 +1,0 @@
-use Rattle.strict_laws.proofs.RunConflicts.{runs_meet_conflicts}
-use Rattle.strict_laws.proofs.locks.runs_meet_conflicts.Goals as goal
-
-pub returns : goal.returns
-returns c = runs_meet_conflicts

@@ -1,0 +1,5 @@
+use Rattle.tree_laws.proofs.ByActs.{locks_follow_acts}
+use Rattle.tree_laws.proofs.locks.locks_follow_acts.Goals as goal
+
+pub returns : goal.returns
+returns c = locks_follow_acts

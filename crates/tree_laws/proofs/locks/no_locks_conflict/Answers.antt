@@ -1,0 +1,5 @@
+use Rattle.tree_laws.proofs.NoConflicts.{runs_apart}
+use Rattle.tree_laws.proofs.locks.no_locks_conflict.Goals as goal
+
+pub returns : goal.returns
+returns c = runs_apart
