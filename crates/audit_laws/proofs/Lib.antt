@@ -1,4 +1,5 @@
 pub mod Accepted
+pub mod Audited
 pub mod Bounded
 pub mod Carrying
 pub mod EveryEntry

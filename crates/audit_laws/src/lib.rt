@@ -7,8 +7,8 @@ mod printable;
 mod ranges;
 
 pub use laws::{
-    printed_histories_are_accepted, printed_histories_are_read_back, printed_runs_are_accepted,
-    printed_runs_are_read_back,
+    printed_histories_are_accepted, printed_histories_are_read_back, printed_histories_pass_audits,
+    printed_runs_are_accepted, printed_runs_are_read_back, printed_runs_pass_audits,
 };
 pub use printable::{entries_are_of_the_script, runs_are_printable};
 pub use ranges::numbers_have_their_ranges;
