@@ -15,6 +15,7 @@ mod held;
 mod moves;
 mod phases;
 mod reads;
+mod replies;
 mod roots;
 mod shown;
 mod stalls;
@@ -37,6 +38,10 @@ pub use phases::{
     requests_are_completions_and_letters, rounds_are_few, versions_keep_to_the_phase,
 };
 pub use reads::{reads_and_votes_are_right, votes_name_their_causes};
+pub use replies::{
+    aborted_replies_name_the_lowest_no, read_replies_show_what_is_worth,
+    replies_tell_what_was_done, trees_are_answered_once,
+};
 pub use roots::strict_roots_are_born_or_wait;
 pub use shown::{
     nothing_comes_to_what_is_shown, orders_are_given_before_or_in_quiet, orders_are_given_in_quiet,
