@@ -30,8 +30,7 @@ pub record HasHeadline (s : ScriptData) (h : List Entry) : Type 0 where
   -- a run that ends: the client has finished, and every tree is whole
   pub finished : HasFinished h
   pub whole : (t : ℕ) → t < length s.trees → IsWhole s h t
-  -- the report of its own stored history: its balances are what the nodes hold, its reads are what the steps gave, and
-  -- how trees came out is what replies have told the client
+  -- the report of its own stored history: balances are what nodes hold, reads what steps gave, replies what was done
   pub settled : HoldsBalances s h
   pub reads : ReadsStayRight s h
   pub replies : RepliesTell s h
