@@ -7,5 +7,6 @@ pub mod Gathering
 pub mod Items
 pub mod Looks
 pub mod Printing
+pub mod ReplyLines
 pub mod Stepping
 pub mod Values
