@@ -1,5 +1,5 @@
 -- Which actor a worker is given, and when a worker that sleeps is notified.
-use Rattle.std.specs.Prelude.{ℕ, zero, suc, ◌+◌, ◌-◌, ◌%◌, ◌^◌, min, Bool, true, false, ◌&&◌, ◌||◌, ◌==◌, nat_lt, List, [], ◌∷◌, replicate, set, slice_index, is_some, slice_index_or, find, Option, Some, None}
+use Rattle.std.specs.Prelude.{ℕ, zero, suc, ◌+◌, ◌-◌, ◌%◌, ◌^◌, min, Bool, true, false, ◌&&◌, ◌||◌, ◌==◌, nat_lt, List, [], ◌∷◌, replicate, set, slice_index, slice_index_or, find, Option, Some, None}
 use Rattle.std.specs.Option.{option_or}
 use Rattle.tv_base.specs.Outside.{one_more}
 use Rattle.actor_schedule.specs.declared.schedule.Schedule.{Schedule}
@@ -14,7 +14,7 @@ at_first = record {
   asleep = 0;
   notified = 0;
   finished = false;
-  stopped = None;
+  stopped = false;
 }
 
 -- so many actors one after the other, from a place on, in cyclic order
@@ -70,4 +70,4 @@ with_notified s = record s { asleep = s.asleep - 1; notified = one_more s.notifi
 
 -- whether a worker that sleeps is to get up: one was notified, or all workers are to end
 abbrev pub is_to_get_up : Schedule → Bool
-is_to_get_up s = nat_lt 0 s.notified || s.finished || is_some s.stopped
+is_to_get_up s = nat_lt 0 s.notified || s.finished || s.stopped

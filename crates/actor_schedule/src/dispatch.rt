@@ -5,7 +5,6 @@ ghost use Rattle.actor_schedule.specs.Desks.{desk_data, empty_trays};
 use crate::desk::Desk;
 use crate::mailbox::{Mailbox, mailboxes_of};
 use crate::schedule::Schedule;
-use crate::stop::RunStop;
 use crossbeam_utils::CachePadded;
 use message_bag::Bag;
 use stamp_post::{Envelope, PostName};
@@ -18,8 +17,8 @@ use tv_base::NoMemory;
 pub enum Ending {
     /// The client has finished.
     Finished,
-    /// A worker has stopped.
-    Stopped(RunStop),
+    /// A worker has found no memory.
+    Stopped,
 }
 
 /// The mailboxes of the actors of the post that `P` names, each under a lock of its own, and which actors are ready.
@@ -168,8 +167,8 @@ impl<P: PostName> Dispatch<P> {
         ensures { IfOk result (λ next. IfSome next (λ actor. actor < P.post.actors)) }
     {
         let mut schedule = self.schedule.lock(rt);
-        if let Some(stop) = schedule.why_stopped() {
-            return Err(Ending::Stopped(stop));
+        if schedule.has_stopped() {
+            return Err(Ending::Stopped);
         }
         if schedule.has_finished() {
             return Err(Ending::Finished);
@@ -196,9 +195,9 @@ impl<P: PostName> Dispatch<P> {
         self.wakes.notify_all();
     }
 
-    /// A worker has stopped: so do all others.
-    pub fn stop<R: Wait>(&self, rt: &R, stop: RunStop) {
-        self.schedule.lock(rt).stop(stop);
+    /// A worker has found no memory: all others stop too.
+    pub fn stop<R: Wait>(&self, rt: &R) {
+        self.schedule.lock(rt).stop();
         self.wakes.notify_all();
     }
 }

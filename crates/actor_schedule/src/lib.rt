@@ -9,4 +9,4 @@ mod stop;
 
 pub use desk::Desk;
 pub use dispatch::{Dispatch, Ending};
-pub use stop::{Held, RunStop, Stopped};
+pub use stop::Held;

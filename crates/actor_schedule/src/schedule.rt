@@ -3,8 +3,6 @@ ghost use Rattle.std.specs.Prelude.{◌≡◌, ℕ, ◌-◌, ◌<◌, true, fals
 ghost use Rattle.actor_schedule.specs.Schedules.{at_first, is_ready, first_ready, next_for, with_ready, with_given, notifies_one, with_notified, is_to_get_up};
 ghost use Rattle.tv_base.specs.Outside.{one_more};
 
-use crate::stop::RunStop;
-
 // The most actors that there are.
 const MOST_ACTORS: usize = 256;
 
@@ -13,8 +11,8 @@ const NOBODY: u32 = u32::MAX;
 
 // What workers tell one another, under one lock: which actors are ready, and how many these are; which worker was the
 // last to serve each; how many workers sleep and weren't notified, and how many were notified and aren't up yet;
-// whether the client has finished, and why a worker has stopped. An actor is ready where a letter lies in its mailbox
-// and no worker has it.
+// whether the client has finished, and whether a worker has stopped. An actor is ready where a letter lies in its
+// mailbox and no worker has it.
 #[derive(Clone, Copy)]
 pub(crate) struct Schedule {
     ready: [bool; MOST_ACTORS],
@@ -23,7 +21,7 @@ pub(crate) struct Schedule {
     asleep: u64,
     notified: u64,
     finished: bool,
-    stopped: Option<RunStop>,
+    stopped: bool,
 }
 
 impl Schedule {
@@ -38,7 +36,7 @@ impl Schedule {
             asleep: 0,
             notified: 0,
             finished: false,
-            stopped: None,
+            stopped: false,
         }
     }
 
@@ -104,10 +102,10 @@ impl Schedule {
     }
 
     // A worker has stopped.
-    pub(crate) fn stop(&mut self, stop: RunStop)
-        ensures { self.new ≡ record self.old { stopped = Some stop } }
+    pub(crate) fn stop(&mut self)
+        ensures { self.new ≡ record self.old { stopped = true } }
     {
-        self.stopped = Some(stop);
+        self.stopped = true;
     }
 
     // Whether the client has finished.
@@ -117,8 +115,8 @@ impl Schedule {
         self.finished
     }
 
-    // Why a worker has stopped.
-    pub(crate) fn why_stopped(&self) -> Option<RunStop>
+    // Whether a worker has stopped.
+    pub(crate) fn has_stopped(&self) -> bool
         ensures { result ≡ self.now.stopped }
     {
         self.stopped
@@ -149,7 +147,7 @@ impl Schedule {
     pub(crate) fn wakes(&self) -> bool
         ensures { result ≡ is_to_get_up self.now }
     {
-        self.notified > 0 || self.finished || self.stopped.is_some()
+        self.notified > 0 || self.finished || self.stopped
     }
 
     // A worker has got up.

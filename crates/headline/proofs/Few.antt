@@ -39,7 +39,7 @@ three : (turns : Turns) (h : Held) → turns.update.0 ≤ turns.low.0 + 2 → Is
 three turns [] near kept = absurd kept.order
 three turns (x ∷ xs) near kept = record {
   few = omega (arith, kept.least.1, few-above x.0.0 turns.update.0 xs kept.most.0 kept.order kept.most.1);
-  some = kept.least.0;
+  ascending = kept.order;
   least = kept.least.1;
   most = kept.most;
   update = near;

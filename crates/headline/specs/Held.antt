@@ -1,7 +1,7 @@
 -- Which versions of an item its node holds.
 use Rattle.std.specs.Prelude.{if◌then◌else◌, ℕ, ◌≡◌, ◌≤◌, ◌<◌, ◌+◌, List, [], ◌∷◌, length, take, Some, None, slice_get}
 use Rattle.std.specs.List.{AllByRecursion}
-use Rattle.item_versions.specs.Item.{Held}
+use Rattle.item_versions.specs.Item.{Held, IsHeld}
 use Rattle.item_versions.specs.Table.{Table, item_in}
 use Rattle.item_versions.specs.Window.{first_version}
 use Rattle.letter_types.specs.declared.entries.Entry.{Entry}
@@ -32,10 +32,11 @@ abbrev pub held_after : ScriptData → List Entry → ℕ → ℕ → Held
 held_after s h p x =
     elim (item_in (record { 0 = x }) (items_of (actor_after s h p))) [ Some held ↦ held | None ↦ [] ]
 
--- they are at most three, from the node's low version to at most its update version, which is at most two above
+-- they are one to three and ascend, from the node's low version to at most its update version, which is at most two
+-- above
 pub record HoldsThree (held : Held) (turns : Turns) : Type 0 where
   pub few : length held ≤ 3
-  pub some : 0 < length held
+  pub ascending : IsHeld held
   pub least : first_version held ≡ turns.low.0
   pub most : AllByRecursion (λ x. x.0.0 ≤ turns.update.0) held
   pub update : turns.update.0 ≤ turns.low.0 + 2

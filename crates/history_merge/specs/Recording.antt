@@ -24,9 +24,10 @@ pub record RecorderData : Type 0 where
 abbrev pub recorder_data : List Entry → List (List Entry) → RecorderData
 recorder_data done waiting = record { done = done; waiting = waiting }
 
--- these entries wait too, behind the others
+-- these entries wait too, if there are any, behind the others
 abbrev pub handed_in : List Entry → RecorderData → RecorderData
-handed_in made d = recorder_data d.done (d.waiting ++ made ∷ [])
+handed_in [] d = d
+handed_in (e ∷ made) d = recorder_data d.done (d.waiting ++ (e ∷ made) ∷ [])
 
 -- the lists with this one at a place; an empty one goes
 abbrev pub lists_left : List (List Entry) → ℕ → List Entry → List (List Entry)
@@ -58,3 +59,7 @@ RecordsNext old new e = Taken (length old.done + 1) old.waiting new.waiting e ×
 abbrev pub Records : List Entry → RecorderData → RecorderData → Type 0
 Records [] old new = old ≡ new
 Records (e ∷ es) old new = (between : RecorderData) × RecordsNext old between e × Records es between new
+
+-- entries were handed in, and then some were recorded
+abbrev pub HandsIn : List Entry → RecorderData → RecorderData → Type 0
+HandsIn made old new = (es : List Entry) × Records es (handed_in made old) new

@@ -1,8 +1,8 @@
 // The history as it is recorded while actors are at work.
-ghost use Rattle.std.specs.Prelude.{◌≡◌, ◌+◌, ◌↔◌, List, [], length, map, true, false, IfSome, IsNone, IfOk, OnErr, OnOk};
+ghost use Rattle.std.specs.Prelude.{◌≡◌, ◌+◌, ◌↔◌, ◌⊎◌, List, [], length, map, true, false, IfSome, IsNone, IfOk, OnErr, OnOk};
 ghost use Rattle.letter_types.specs.declared.entries.Entry.{Entry};
 ghost use Rattle.stamp_post.specs.Shown.{gatherer_data};
-ghost use Rattle.history_merge.specs.Recording.{AreRecorded, FirstHas, RecordsNext, NoneHas, Records, Taken, handed_in, recorder_data};
+ghost use Rattle.history_merge.specs.Recording.{AreRecorded, FirstHas, HandsIn, RecordsNext, NoneHas, Records, Taken, handed_in, recorder_data};
 
 use crate::made::Made;
 use crate::name::ClusterName;
@@ -100,6 +100,9 @@ impl<K: ClusterName> Recorder<K> {
         ensures emptied { OnOk result (made.new.items ≡ []) }
         ensures err { OnErr result ((made.new.items ≡ made.old.items) × (self.new ≡ self.old)) }
     {
+        if made.is_empty() {
+            return Ok(());
+        }
         let room = VecDeque::with_capacity(self.alloc, made.len())?;
         self.waiting.reserve(1)?;
         self.waiting.push_reserved(mem::replace(made, room));
@@ -133,6 +136,19 @@ impl<K: ClusterName> Recorder<K> {
     {
         while self.record_next(post)? {}
         Ok(())
+    }
+
+    /// Entries that were made are handed in, and those that are next are recorded. Where no memory is found, nothing has
+    /// changed, or all of them wait to be recorded but for those that are.
+    pub fn record(&mut self, post: &Post, made: &mut VecDeque<Made<K>>) -> Result<(), NoMemory>
+        requires { post.now ≡ K.post }
+        ensures ok { OnOk result ((made.new.items ≡ []) × HandsIn made.old.items self.old self.new) }
+        ensures all { OnOk result (NoneHas (length self.new.done + 1) self.new.waiting) }
+        ensures err { OnErr result (((made.new.items ≡ made.old.items) × (self.new ≡ self.old))
+            ⊎ ((made.new.items ≡ []) × HandsIn made.old.items self.old self.new)) }
+    {
+        self.take_in(made)?;
+        self.advance(post)
     }
 
     /// How many entries are recorded.

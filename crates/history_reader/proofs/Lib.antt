@@ -23,3 +23,4 @@ pub mod SentTaken
 pub mod Spent
 pub mod Walked
 pub mod WalkEnds
+pub mod AddedFirst

@@ -1,16 +1,19 @@
 // Numbers behind words.
-ghost use Rattle.std.specs.Prelude.{◌≡◌, ◌++◌, OnOk};
+ghost use Rattle.std.specs.Prelude.{◌≡◌, ◌++◌, OnErr, OnOk};
 ghost use Rattle.std.specs.Str.{IsAscii};
 ghost use Rattle.history_text.specs.Values.{count_text};
 
 use commute_ops::push_number;
 use tv_base::{NoMemory, Text};
 
-/// A word and a number.
+/// A word and a number. Where no memory is found the text stays as it is.
 pub fn push_count(text: &mut Text, word: &[u8], count: u64) -> Result<(), NoMemory>
     requires { IsAscii word.now }
-    ensures { OnOk result (text.new ≡ text.old ++ count_text word.now count) }
+    ensures ok { OnOk result (text.new ≡ text.old ++ count_text word.now count) }
+    ensures err { OnErr result (text.new ≡ text.old) }
 {
+    let length = text.bytes().len();
     text.push_all(word)?;
-    push_number(text, count)
+    let added = push_number(text, count);
+    text.all_or_none(length, added)
 }

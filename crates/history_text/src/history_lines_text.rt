@@ -17,20 +17,21 @@ use tx_trees::Script;
 pub fn history_lines(alloc: Global, script: &Script, history: &History) -> Result<Text, NoMemory>
     ensures { IfOk result (λ text. text ≡ history_lines_of script.now history.now) }
 {
-    let mut text = Text::new(alloc);
-    push_history_lines(&mut text, script, history)?;
-    Ok(text)
+    let lines = history_lines_behind(Text::new(alloc), script, history)?;
+    Ok(lines)
 }
 
-/// The same lines, behind what the text has. Where memory runs out some of them may stand there.
-pub fn push_history_lines(
-    text: &mut Text,
+/// The same lines, behind a text. Running out of memory is the only error.
+pub fn history_lines_behind(
+    text: Text,
     script: &Script,
     history: &History,
-) -> Result<(), NoMemory>
-    ensures { OnOk result (text.new ≡ text.old ++ history_lines_of script.now history.now) }
+) -> Result<Text, NoMemory>
+    ensures { IfOk result (λ all. all ≡ text ++ history_lines_of script.now history.now) }
 {
-    push_entries(text, script, history.items())
+    let mut all = text;
+    push_entries(&mut all, script, history.items())?;
+    Ok(all)
 }
 
 // The lines of entries.

@@ -20,7 +20,7 @@ mod votes_text;
 pub use causes_read::read_cause;
 pub use causes_text::{push_cause, push_got};
 pub use counts::push_count;
-pub use history_lines_text::{history_lines, push_history_lines};
+pub use history_lines_text::{history_lines, history_lines_behind};
 pub use names_read::{read_actor, read_item, read_tree};
 pub use numbers_read::{read_amount, read_half, read_number};
 pub use parts::{Parts, cut};

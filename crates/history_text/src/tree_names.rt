@@ -1,5 +1,5 @@
 // Trees and items by number. What the script doesn't have is printed by its number.
-ghost use Rattle.std.specs.Prelude.{◌≡◌, ◌++◌, OnOk};
+ghost use Rattle.std.specs.Prelude.{◌≡◌, ◌++◌, OnErr, OnOk};
 ghost use Rattle.std.specs.Str.{IsAscii};
 ghost use Rattle.history_text.specs.TreeNames.{item_text, item_word, tree_text, word_and_tree};
 
@@ -10,7 +10,8 @@ use tx_trees::Script;
 // A tree.
 #[tactic(auto, using(crate::proofs::Plain::tree_named))]
 fn push_tree(text: &mut Text, script: &Script, tree: TreeNo) -> Result<(), NoMemory>
-    ensures { OnOk result (text.new ≡ text.old ++ tree_text script.now tree.0) }
+    ensures ok { OnOk result (text.new ≡ text.old ++ tree_text script.now tree.0) }
+    ensures err { OnErr result (text.new ≡ text.old) }
 {
     match script.trees().get(tree.0 as usize) {
         Some(row) => text.push_all(row.name.bytes()),
@@ -21,7 +22,8 @@ fn push_tree(text: &mut Text, script: &Script, tree: TreeNo) -> Result<(), NoMem
 // An item.
 #[tactic(auto, using(crate::proofs::Plain::item_named))]
 pub(crate) fn push_item(text: &mut Text, script: &Script, item: ItemNo) -> Result<(), NoMemory>
-    ensures { OnOk result (text.new ≡ text.old ++ item_text script.now item.0) }
+    ensures ok { OnOk result (text.new ≡ text.old ++ item_text script.now item.0) }
+    ensures err { OnErr result (text.new ≡ text.old) }
 {
     match script.items().get(item.0 as usize) {
         Some(row) => text.push_all(row.name.bytes()),
@@ -37,10 +39,13 @@ pub(crate) fn push_tree_word(
     tree: TreeNo,
 ) -> Result<(), NoMemory>
     requires { IsAscii word.now }
-    ensures { OnOk result (text.new ≡ text.old ++ word_and_tree script.now word.now tree.0) }
+    ensures ok { OnOk result (text.new ≡ text.old ++ word_and_tree script.now word.now tree.0) }
+    ensures err { OnErr result (text.new ≡ text.old) }
 {
+    let length = text.bytes().len();
     text.push_all(word)?;
-    push_tree(text, script, tree)
+    let added = push_tree(text, script, tree);
+    text.all_or_none(length, added)
 }
 
 // A word, and the name of an item after it. An item that the script doesn't have is printed by its number.
@@ -51,8 +56,11 @@ pub(crate) fn push_item_word(
     item: ItemNo,
 ) -> Result<(), NoMemory>
     requires { IsAscii word.now }
-    ensures { OnOk result (text.new ≡ text.old ++ item_word script.now word.now item.0) }
+    ensures ok { OnOk result (text.new ≡ text.old ++ item_word script.now word.now item.0) }
+    ensures err { OnErr result (text.new ≡ text.old) }
 {
+    let length = text.bytes().len();
     text.push_all(word)?;
-    push_item(text, script, item)
+    let added = push_item(text, script, item);
+    text.all_or_none(length, added)
 }

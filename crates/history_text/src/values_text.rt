@@ -1,14 +1,26 @@
 // Values.
-ghost use Rattle.std.specs.Prelude.{◌≡◌, ◌++◌, OnOk, ◌∷◌, codes};
+ghost use Rattle.std.specs.Prelude.{◌≡◌, ◌++◌, OnErr, OnOk, ◌∷◌, codes};
 ghost use Rattle.std.specs.Fmt.{signed_decimal};
+ghost use Rattle.std.specs.Io.{StartsWith};
 ghost use Rattle.history_text.specs.Values.{bag_text, more_numbers, value_text};
 
 use commute_ops::{Amount, Value, push_amount};
 use tv_base::{NoMemory, Text};
 
-/// A number in decimal, or a bag's numbers between braces.
+/// A number in decimal, or a bag's numbers between braces. Where no memory is found the text stays as it is.
 pub fn push_value(text: &mut Text, value: &Value) -> Result<(), NoMemory>
-    ensures { OnOk result (text.new ≡ text.old ++ value_text value.now) }
+    ensures ok { OnOk result (text.new ≡ text.old ++ value_text value.now) }
+    ensures err { OnErr result (text.new ≡ text.old) }
+{
+    let length = text.bytes().len();
+    let added = push_parts(text, value);
+    text.all_or_none(length, added)
+}
+
+// The same, part by part. Where no memory is found some of them may stand behind what the text had.
+fn push_parts(text: &mut Text, value: &Value) -> Result<(), NoMemory>
+    ensures ok { OnOk result (text.new ≡ text.old ++ value_text value.now) }
+    ensures err { OnErr result (StartsWith text.new text.old) }
 {
     match value {
         Value::Sum(sum) => push_amount(text, sum.0),
@@ -19,7 +31,8 @@ pub fn push_value(text: &mut Text, value: &Value) -> Result<(), NoMemory>
 
 // Numbers in order between braces.
 fn push_bag(text: &mut Text, numbers: &[Amount]) -> Result<(), NoMemory>
-    ensures { OnOk result (text.new ≡ text.old ++ bag_text numbers.now) }
+    ensures ok { OnOk result (text.new ≡ text.old ++ bag_text numbers.now) }
+    ensures err { OnErr result (StartsWith text.new text.old) }
 {
     match numbers {
         [] => text.push_all(b"{}"),
@@ -29,7 +42,8 @@ fn push_bag(text: &mut Text, numbers: &[Amount]) -> Result<(), NoMemory>
 
 // A number and more of them between braces.
 fn push_some(text: &mut Text, first: Amount, more: &[Amount]) -> Result<(), NoMemory>
-    ensures { OnOk result (text.new ≡ text.old ++ bag_text (first ∷ more.now)) }
+    ensures ok { OnOk result (text.new ≡ text.old ++ bag_text (first ∷ more.now)) }
+    ensures err { OnErr result (StartsWith text.new text.old) }
 {
     text.push_all(b"{")?;
     push_amount(text, first)?;
@@ -38,8 +52,10 @@ fn push_some(text: &mut Text, first: Amount, more: &[Amount]) -> Result<(), NoMe
 }
 
 // Numbers in order, each after a comma.
+#[tactic(auto, using(std::proofs::Transfers::starts_with_of_append, std::proofs::Transfers::starts_with_trans))]
 fn push_more(text: &mut Text, numbers: &[Amount]) -> Result<(), NoMemory>
-    ensures { OnOk result (text.new ≡ text.old ++ more_numbers numbers.now) }
+    ensures ok { OnOk result (text.new ≡ text.old ++ more_numbers numbers.now) }
+    ensures err { OnErr result (StartsWith text.new text.old) }
 {
     for number in numbers {
         push_next(text, *number)?;
@@ -49,7 +65,8 @@ fn push_more(text: &mut Text, numbers: &[Amount]) -> Result<(), NoMemory>
 
 // A number after a comma.
 fn push_next(text: &mut Text, number: Amount) -> Result<(), NoMemory>
-    ensures { OnOk result (text.new ≡ text.old ++ (codes "," ++ signed_decimal number)) }
+    ensures ok { OnOk result (text.new ≡ text.old ++ (codes "," ++ signed_decimal number)) }
+    ensures err { OnErr result (StartsWith text.new text.old) }
 {
     text.push_all(b",")?;
     push_amount(text, number)

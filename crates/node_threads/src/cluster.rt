@@ -4,11 +4,10 @@ ghost use Rattle.stamp_post.specs.Shown.{ReceiptData, gatherer_data, new_seats};
 ghost use Rattle.world_model.specs.Runs.{IsWorldRun};
 ghost use Rattle.history_merge.specs.Histories.{HasReceiptEntry};
 ghost use Rattle.history_merge.specs.OwnLogs.{Delivered};
-ghost use Rattle.actor_schedule.specs.declared.stop.RunStop.TheVariants as stops;
 
 use crate::cell::ActorCell;
-use crate::finishing::{check_whole, closed_again, logs_of, opened, room_for_cells};
-use actor_schedule::{Dispatch, RunStop};
+use crate::finishing::{closed_again, is_whole, logs_of, opened, room_for_cells};
+use actor_schedule::Dispatch;
 use crossbeam_utils::CachePadded;
 use history_merge::{ClusterName, Made, Recorder, gathered};
 use letter_types::History;
@@ -119,20 +118,18 @@ impl<'a, K: ClusterName, G: Gate> Cluster<'a, K, G> {
     }
 
     /// Hands an envelope to its addressee, under that one's lock alone, past the gate. The entry that comes of it is the
-    /// last of those that were made. Where the letter isn't taken, the envelope comes back, what was made is as it was,
-    /// and no actor has changed: `NoMemory` where no memory is found for the step, `Misplaced` where another actor lies
-    /// under the lock.
+    /// last of those that were made. Where no memory is found for the step, the envelope comes back, what was made is as
+    /// it was, and no actor has changed. So it is too where another actor lies under the lock, which none does.
     pub fn deliver<R: Wait>(
         &self,
         rt: &R,
         envelope: Envelope,
         made: &mut VecDeque<Made<K>>,
-    ) -> Result<Outbox, (RunStop, Envelope)>
+    ) -> Result<Outbox, (NoMemory, Envelope)>
         requires { envelope.post ≡ K.post }
-        ensures delivered { MatchResult result
+        ensures { MatchResult result
             (Delivered K.post K.script envelope.letter made.old.items made.new.items)
             (λ e. (e.1 ≡ envelope) × (made.new.items ≡ made.old.items)) }
-        ensures stop { IfErr result (λ e. (e.0 ≡ stops.NoMemory) ⊎ (e.0 ≡ stops.Misplaced)) }
     {
         let to = envelope.letter().to;
         let lock: &Mutex<ActorCell<K>> = &self.cells[to.0 as usize];
@@ -140,23 +137,19 @@ impl<'a, K: ClusterName, G: Gate> Cluster<'a, K, G> {
         self.gate.hold(to);
         // No clause ties a lock's place to what lies under it.
         if cell.number() != to {
-            return Err((RunStop::Misplaced, envelope));
+            return Err((NoMemory, envelope));
         }
-        match cell.handle(self.alloc, &self.post, envelope, self.script, made) {
-            Ok(out) => Ok(out),
-            Err((NoMemory, envelope)) => Err((RunStop::NoMemory, envelope)),
-        }
+        let out = cell.handle(self.alloc, &self.post, envelope, self.script, made)?;
+        Ok(out)
     }
 
-    /// Hands the entries in that were made, and records all that are next. Where no memory is found they are left, or wait
-    /// in the recorder for a later call.
+    /// Hands the entries in that were made, and records all that are next (`Recorder::record`). Where no memory is found
+    /// they are left, or wait in the recorder for a later call.
     pub fn record<R: Wait>(&self, rt: &R, made: &mut VecDeque<Made<K>>) -> Result<(), NoMemory>
         ensures ok { OnOk result (made.new.items ≡ []) }
         ensures err { OnErr result ((made.new.items ≡ made.old.items) ⊎ (made.new.items ≡ [])) }
     {
-        let mut recorder = self.recorder.lock(rt);
-        recorder.take_in(made)?;
-        recorder.advance(&self.post)
+        self.recorder.lock(rt).record(&self.post, made)
     }
 
     /// The same, where nobody else does so just then. Else they are left too.
@@ -164,33 +157,29 @@ impl<'a, K: ClusterName, G: Gate> Cluster<'a, K, G> {
         ensures { (made.new.items ≡ made.old.items) ⊎ (made.new.items ≡ []) }
     {
         match self.recorder.try_lock() {
-            Some(mut recorder) => {
-                recorder.take_in(made)?;
-                recorder.advance(&self.post)
-            }
+            Some(mut recorder) => recorder.record(&self.post, made),
             None => Ok(()),
         }
     }
 
     /// All entries by stamp. They are a run of the script, and each receipt's entry is one of them.
     ///
-    /// Where memory is wanting or there are more entries than a history takes (`NoMemory`), another actor lies under a
-    /// lock (`Misplaced`), or an entry wasn't handed in (`Unfinished`), the cluster and the receipts come back, so that
-    /// it can be asked again: what is recorded and the letters in the mailboxes are there as before. No clause says so,
-    /// since what lies under a lock is known by its type alone.
+    /// Where memory is wanting, there are more entries than a history takes, or an entry wasn't handed in, the cluster
+    /// and the receipts come back, so that it can be asked again: what is recorded and the letters in the mailboxes are
+    /// there as before. No clause says so, since what lies under a lock is known by its type alone. So it is too where
+    /// another actor lies under a lock, which none does.
     pub fn finish(
         self,
         receipts: Receipts,
-    ) -> Result<History, (RunStop, Cluster<'a, K, G>, Receipts)>
+    ) -> Result<History, (NoMemory, Cluster<'a, K, G>, Receipts)>
         requires { All (λ r. r.post ≡ K.post) receipts }
         ensures run { IfOk result (λ h. IsWorldRun K.script h) }
         ensures told { IfOk result (λ h. (k : ℕ) (r : ReceiptData) → slice_get receipts k ≡ Some r
             → HasReceiptEntry K.script h r) }
         ensures receipts { IfErr result (λ e. e.2 ≡ receipts) }
-        ensures stop { IfErr result (λ e. (e.0 ≡ stops.NoMemory) ⊎ (e.0 ≡ stops.Misplaced) ⊎ (e.0 ≡ stops.Unfinished)) }
     {
         let Ok(room) = room_for_cells::<K>(self.alloc, self.cells.len()) else {
-            return Err((RunStop::NoMemory, self, receipts));
+            return Err((NoMemory, self, receipts));
         };
         let Cluster {
             alloc,
@@ -203,7 +192,7 @@ impl<'a, K: ClusterName, G: Gate> Cluster<'a, K, G> {
         } = self;
         let cells = opened(cells, room.opened);
         let recorder = recorder.into_inner().into_inner();
-        if let Err(stop) = check_whole(cells.as_slice(), recorder.count()) {
+        if !is_whole(cells.as_slice(), recorder.count()) {
             let cluster = Cluster {
                 alloc,
                 script,
@@ -213,7 +202,7 @@ impl<'a, K: ClusterName, G: Gate> Cluster<'a, K, G> {
                 cells: closed_again(cells, room.closed),
                 dispatch,
             };
-            return Err((stop, cluster, receipts));
+            return Err((NoMemory, cluster, receipts));
         }
         let logs = logs_of(cells, room.logs);
         Ok(gathered(post, recorder, logs, room.seats, receipts))

@@ -1,12 +1,9 @@
 // The cells of a cluster that finishes: out of their locks, put back, and without their states.
-ghost use Rattle.std.specs.Prelude.{◌≡◌, ◌≤◌, ◌⊎◌, true, length, map, sum_by, IfErr, IfOk, IfSome, OnOk};
-ghost use Rattle.tv_base.specs.declared.numbers.TheConstants.{MOST_ENTRIES};
-ghost use Rattle.actor_schedule.specs.declared.stop.RunStop.TheVariants as stops;
+ghost use Rattle.std.specs.Prelude.{◌≡◌, ◌≤◌, ◌<◌, ◌↔◌, ◌^◌, length, map, sum_by, IfOk, SomeIff, IsTrue};
 ghost use Rattle.history_merge.specs.Merging.{HasRoom, NumberedBy};
-ghost use Rattle.node_threads.specs.Cells.{cell_data};
+ghost use Rattle.node_threads.specs.Cells.{IsWhole, cell_data};
 
 use crate::cell::ActorCell;
-use actor_schedule::RunStop;
 use crossbeam_utils::CachePadded;
 use history_merge::{ClusterName, OwnLog};
 use stamp_post::ActorSeat;
@@ -72,7 +69,7 @@ pub(crate) fn closed_again<K: ClusterName>(
 
 // Whether each cell's number is its place: no clause ties a lock's place to what lies under it.
 fn are_in_order<K: ClusterName>(cells: &[ActorCell<K>]) -> bool
-    ensures { result ≡ true → NumberedBy (λ c. c.number) 0 cells.now }
+    ensures { IsTrue result ↔ NumberedBy (λ c. c.number) 0 cells.now }
 {
     for (place, cell) in cells.iter().enumerate() {
         if cell.number().0 as usize != place {
@@ -84,7 +81,7 @@ fn are_in_order<K: ClusterName>(cells: &[ActorCell<K>]) -> bool
 
 // How many entries the cells have together. None where that is past the largest number.
 fn count_entries<K: ClusterName>(cells: &[ActorCell<K>]) -> Option<usize>
-    ensures { IfSome result (λ count. count ≡ sum_by (λ c. length c.entries) cells.now) }
+    ensures { let all = sum_by (λ c. length c.entries) cells.now in SomeIff result (all < 2 ^ 64) all }
 {
     let mut count: usize = 0;
     for cell in cells {
@@ -95,26 +92,10 @@ fn count_entries<K: ClusterName>(cells: &[ActorCell<K>]) -> Option<usize>
 
 // Whether the cells are in order, and as many entries are recorded as they have, which may be no more than a history
 // takes.
-pub(crate) fn check_whole<K: ClusterName>(
-    cells: &[ActorCell<K>],
-    recorded: usize,
-) -> Result<(), RunStop>
-    ensures order { OnOk result (NumberedBy (λ c. c.number) 0 cells.now) }
-    ensures whole { OnOk result (recorded ≡ sum_by (λ c. length c.entries) cells.now) }
-    ensures few { OnOk result (recorded ≤ MOST_ENTRIES) }
-    ensures stop { IfErr result (λ stop.
-        (stop ≡ stops.NoMemory) ⊎ (stop ≡ stops.Misplaced) ⊎ (stop ≡ stops.Unfinished)) }
+pub(crate) fn is_whole<K: ClusterName>(cells: &[ActorCell<K>], recorded: usize) -> bool
+    ensures { IsTrue result ↔ IsWhole cells.now recorded }
 {
-    if !are_in_order(cells) {
-        return Err(RunStop::Misplaced);
-    }
-    if count_entries(cells) != Some(recorded) {
-        return Err(RunStop::Unfinished);
-    }
-    if recorded > MOST_ENTRIES {
-        return Err(RunStop::NoMemory);
-    }
-    Ok(())
+    are_in_order(cells) && count_entries(cells) == Some(recorded) && recorded <= MOST_ENTRIES
 }
 
 // The actors' own logs, in the room for them.

@@ -7,7 +7,7 @@ mod finishing;
 mod running;
 mod workers;
 
-pub use actor_schedule::{Desk, Held, RunStop, Stopped};
+pub use actor_schedule::{Desk, Held};
 pub use cell::ActorCell;
 pub use cluster::Cluster;
 pub use history_merge::{ClusterName, Made};

@@ -1,13 +1,11 @@
 // A script run by workers in threads of their own.
-ghost use Rattle.std.specs.Prelude.{◌≡◌, ◌+◌, ◌≤◌, [], IfErr, IfOk};
+ghost use Rattle.std.specs.Prelude.{◌≡◌, ◌+◌, ◌≤◌, [], IfOk, OnErr};
 ghost use Rattle.board_rules.specs.Right.{HasFinished};
 ghost use Rattle.stamp_post.specs.Shown.{gatherer_data, new_seats};
 ghost use Rattle.world_model.specs.Runs.{IsWorldRun};
 ghost use Rattle.history_merge.specs.Histories.{HasTakenAll};
-ghost use Rattle.actor_schedule.specs.declared.stop.RunStop.TheVariants as stops;
 
 use crate::cluster::Cluster;
-use actor_schedule::RunStop;
 use history_merge::{ClusterName, has_ended};
 use letter_types::History;
 use stamp_post::{Post, PostParts, Receipts};
@@ -19,26 +17,25 @@ use std::thread::Threads;
 use tv_base::{Gate, NoMemory};
 use tx_trees::Script;
 
-// The history, just where it goes to its end.
-fn ended(history: History) -> Result<History, RunStop>
+// The history, just where it goes to its end, to which each run goes.
+fn ended(history: History) -> Result<History, NoMemory>
     ensures same { IfOk result (λ h. h ≡ history) }
     ensures finished { IfOk result (λ h. HasFinished h) }
     ensures taken { IfOk result (λ h. HasTakenAll h) }
-    ensures stop { IfErr result (λ stop. stop ≡ stops.Unfinished) }
-    ensures unfinished { IfErr result (λ _. HasFinished history × HasTakenAll history → ⊥) }
+    ensures unfinished { OnErr result (HasFinished history × HasTakenAll history → ⊥) }
 {
     if !has_ended(&history) {
-        return Err(RunStop::Unfinished);
+        return Err(NoMemory);
     }
     Ok(history)
 }
 
-// The workers, each in a thread of its own where one is found, else one after another. Where one stops, this is why.
+// The workers, each in a thread of its own where one is found, else one after another.
 fn work_all<K: ClusterName + Send + Sync, R: Threads + Wait + Sync, G: Gate + Sync>(
     rt: &R,
     cluster: &Cluster<'_, K, G>,
     workers: u32,
-) -> Result<(), RunStop> {
+) -> Result<(), NoMemory> {
     let all = thread::map_indices(
         rt,
         cluster.alloc,
@@ -55,7 +52,7 @@ fn work_all<K: ClusterName + Send + Sync, R: Threads + Wait + Sync, G: Gate + Sy
 fn deliver_rest<K: ClusterName, R: Wait, G: Gate>(
     rt: &R,
     cluster: &Cluster<'_, K, G>,
-) -> Result<(), RunStop> {
+) -> Result<(), NoMemory> {
     let mut bench = cluster.bench()?;
     for _ in rt.forever() {
         let Some(envelope) = cluster.dispatch.take_any(rt) else {
@@ -75,7 +72,7 @@ fn run_named<K: ClusterName + Send + Sync, R: Threads + Wait + Sync, G: Gate + S
     parts: PostParts,
     workers: u32,
     gate: &G,
-) -> Result<History, RunStop>
+) -> Result<History, NoMemory>
     requires script { script.now ≡ K.script }
     requires post { (parts.post ≡ K.post) × (K.post.actors ≡ K.script.nodes + 2) }
     requires gatherer { parts.gatherer ≡ gatherer_data K.post [] }
@@ -87,21 +84,19 @@ fn run_named<K: ClusterName + Send + Sync, R: Threads + Wait + Sync, G: Gate + S
 {
     let (cluster, first) = Cluster::<K, G>::start(alloc, script, gate, parts)?;
     if cluster.put(rt, first).is_err() {
-        return Err(RunStop::NoMemory);
+        return Err(NoMemory);
     }
     work_all(rt, &cluster, workers)?;
     deliver_rest(rt, &cluster)?;
     match cluster.finish(Receipts::new(alloc)) {
         Ok(history) => ended(history),
-        Err((stop, _cluster, _receipts)) => Err(stop),
+        Err((NoMemory, _cluster, _receipts)) => Err(NoMemory),
     }
 }
 
 /// Runs a script by so many workers, each in a thread of its own where one is found. Actors are held at the gate. The
 /// history is a run of the script to its end, in the order in which the entries were stamped: the client has finished,
 /// and every letter was taken.
-///
-/// The answer is `NoMemory` too where the run stopped for another cause of `RunStop`, which no run comes to.
 pub fn run<R: Threads + Wait + Sync, G: Gate + Sync>(
     rt: &R,
     alloc: Global,
@@ -115,8 +110,6 @@ pub fn run<R: Threads + Wait + Sync, G: Gate + Sync>(
     ensures taken { IfOk result (λ h. HasTakenAll h) }
 {
     let parts = Post::start(alloc, script.nodes() + 2)?;
-    match run_named::<Brand, R, G>(rt, alloc, script, parts, workers, gate) {
-        Ok(history) => Ok(history),
-        Err(_stop) => Err(NoMemory),
-    }
+    let history = run_named::<Brand, R, G>(rt, alloc, script, parts, workers, gate)?;
+    Ok(history)
 }

@@ -1,11 +1,12 @@
 // What workers do with a cluster's letters.
-ghost use Rattle.std.specs.Prelude.{◌≡◌, ◌<◌, [], IfErr, IfOk, IfSome};
+ghost use Rattle.std.specs.Prelude.{◌≡◌, ◌<◌, ◌-◌, ◌⊎◌, [], length, slice_get, IfErr, IfOk, IfSome, OnOk};
 ghost use Rattle.actor_schedule.specs.Desks.{desk_data, empty_trays};
 ghost use Rattle.actor_schedule.specs.Stops.{AreOfPost, KeepsLetter};
 ghost use Rattle.actor_schedule.specs.declared.stop.Held.TheVariants as helds;
+ghost use Rattle.node_threads.specs.Benches.{Delivers, has_ended_by};
 
 use crate::cluster::Cluster;
-use actor_schedule::{Desk, Ending, Held, RunStop, Stopped};
+use actor_schedule::{Desk, Ending, Held};
 use history_merge::{ClusterName, Made, ends};
 use stamp_post::Envelope;
 use std::collections::VecDeque;
@@ -35,29 +36,21 @@ impl<K: ClusterName> Drop for Bench<K> {
     }
 }
 
-// No memory was found, and so much is held.
-fn out_of_memory(held: Held) -> Stopped
-    ensures { result.held ≡ held }
-{
-    Stopped {
-        stop: RunStop::NoMemory,
-        held,
-    }
-}
-
-// A stop at which nothing is held, where no memory was found.
-fn or_stop(found: Result<(), NoMemory>) -> Result<(), Stopped>
-    ensures { IfErr result (λ s. s.held ≡ helds.Nothing) }
+// Where no memory was found, nothing is held.
+fn or_stop(found: Result<(), NoMemory>) -> Result<(), (NoMemory, Held)>
+    ensures { IfErr result (λ e. e.1 ≡ helds.Nothing) }
 {
     match found {
         Ok(()) => Ok(()),
-        Err(NoMemory) => Err(out_of_memory(Held::Nothing)),
+        Err(NoMemory) => Err((NoMemory, Held::Nothing)),
     }
 }
 
 impl<K: ClusterName> Bench<K> {
     // Whether the client has finished with the entry that was made last.
-    fn has_finished(&self) -> bool {
+    fn has_finished(&self) -> bool
+        ensures { result ≡ has_ended_by (slice_get self.now.made.items (length self.now.made.items - 1)) }
+    {
         match self.made.back() {
             Some(last) => ends(&last.entry().acts),
             None => false,
@@ -75,35 +68,39 @@ impl<'a, K: ClusterName, G: Gate> Cluster<'a, K, G> {
     }
 
     // Delivers an envelope, sorts what comes out into the trays, and keeps the entry. Says whether the client has
-    // finished. Where it stops, the envelope is held, or what its addressee sent and no tray took.
+    // finished with it. Where it stops, the envelope is held, or what its addressee sent and no tray took.
     fn deliver_to_desk<R: Wait>(
         &self,
         rt: &R,
         envelope: Envelope,
         bench: &mut Bench<K>,
-    ) -> Result<bool, Stopped>
+    ) -> Result<bool, (NoMemory, Held)>
         requires { envelope.post ≡ K.post }
-        ensures { IfErr result (λ s. KeepsLetter K.post envelope s.held) }
+        ensures ok { OnOk result (Delivers K.post K.script envelope.letter bench.old.made.items bench.new.made.items
+            bench.old.desk.trays bench.new.desk.trays) }
+        ensures finished { IfOk result (λ f. f
+            ≡ has_ended_by (slice_get bench.new.made.items (length bench.new.made.items - 1))) }
+        ensures held { IfErr result (λ e. KeepsLetter K.post envelope e.1) }
+        ensures hand { bench.new.desk.hand ≡ bench.old.desk.hand }
     {
         let out = match self.deliver(rt, envelope, &mut bench.made) {
             Ok(out) => out,
-            Err((stop, envelope)) => {
-                return Err(Stopped {
-                    stop,
-                    held: Held::Undelivered(envelope),
-                });
-            }
+            Err((NoMemory, envelope)) => return Err((NoMemory, Held::Undelivered(envelope))),
         };
         let finished = bench.has_finished();
         if let Err(held) = bench.desk.sort(self.post(), out) {
-            return Err(out_of_memory(held));
+            return Err((NoMemory, held));
         }
         Ok(finished)
     }
 
     // Puts what lies in the trays into the mailboxes, and hands the entries in where there are many. Where no memory is
     // found, what is left lies in the trays and among the entries.
-    fn put_by<R: Wait>(&self, rt: &R, bench: &mut Bench<K>) -> Result<(), NoMemory> {
+    fn put_by<R: Wait>(&self, rt: &R, bench: &mut Bench<K>) -> Result<(), NoMemory>
+        ensures trays { OnOk result (bench.new.desk.trays ≡ empty_trays K.post.actors) }
+        ensures hand { bench.new.desk.hand ≡ bench.old.desk.hand }
+        ensures made { (bench.new.made.items ≡ bench.old.made.items) ⊎ (bench.new.made.items ≡ []) }
+    {
         self.dispatch.flush(rt, &mut bench.desk)?;
         let count = bench.made.len();
         if count >= MOST_KEPT {
@@ -121,9 +118,9 @@ impl<'a, K: ClusterName, G: Gate> Cluster<'a, K, G> {
         rt: &R,
         envelope: Envelope,
         bench: &mut Bench<K>,
-    ) -> Result<(), Stopped>
+    ) -> Result<(), (NoMemory, Held)>
         requires { envelope.post ≡ K.post }
-        ensures { IfErr result (λ s. AreOfPost K.post s.held) }
+        ensures { IfErr result (λ e. AreOfPost K.post e.1) }
     {
         let _finished = self.deliver_to_desk(rt, envelope, bench)?;
         or_stop(self.put_by(rt, bench))
@@ -142,9 +139,14 @@ impl<'a, K: ClusterName, G: Gate> Cluster<'a, K, G> {
 
     // Serves an actor: a turn of letters, or all that lie in its mailbox. What comes out is put at the end, and what is
     // left in hand goes back into the mailbox, also where it stops. Where more may lie there, the actor is ready again.
-    fn take_turn<R: Wait>(&self, rt: &R, actor: u8, bench: &mut Bench<K>) -> Result<(), Stopped>
+    fn take_turn<R: Wait>(
+        &self,
+        rt: &R,
+        actor: u8,
+        bench: &mut Bench<K>,
+    ) -> Result<(), (NoMemory, Held)>
         requires { actor < K.post.actors }
-        ensures { IfErr result (λ s. AreOfPost K.post s.held) }
+        ensures { IfErr result (λ e. AreOfPost K.post e.1) }
     {
         for _letter in 0..TURN {
             let Some(envelope) = self.next_letter(rt, actor, bench) else {
@@ -166,26 +168,31 @@ impl<'a, K: ClusterName, G: Gate> Cluster<'a, K, G> {
     }
 
     // The same. Where it stops, it tells the others.
-    fn serve_actor<R: Wait>(&self, rt: &R, actor: u8, bench: &mut Bench<K>) -> Result<(), Stopped>
+    fn serve_actor<R: Wait>(
+        &self,
+        rt: &R,
+        actor: u8,
+        bench: &mut Bench<K>,
+    ) -> Result<(), (NoMemory, Held)>
         requires { actor < K.post.actors }
-        ensures { IfErr result (λ s. AreOfPost K.post s.held) }
+        ensures { IfErr result (λ e. AreOfPost K.post e.1) }
     {
         let served = self.take_turn(rt, actor, bench);
-        if let Err(stopped) = &served {
-            self.dispatch.stop(rt, stopped.stop);
+        if served.is_err() {
+            self.dispatch.stop(rt);
         }
         served
     }
 
     // A worker for which no actor is ready hands in what it made, so that nobody waits for that, and sleeps. Where no
     // memory is found it tells the others.
-    fn rest<R: Wait>(&self, rt: &R, bench: &mut Bench<K>) -> Result<(), Stopped>
-        ensures { IfErr result (λ s. s.held ≡ helds.Nothing) }
+    fn rest<R: Wait>(&self, rt: &R, bench: &mut Bench<K>) -> Result<(), (NoMemory, Held)>
+        ensures { IfErr result (λ e. e.1 ≡ helds.Nothing) }
     {
         if !bench.made.is_empty() {
             if let Err(NoMemory) = self.record(rt, &mut bench.made) {
-                self.dispatch.stop(rt, RunStop::NoMemory);
-                return Err(out_of_memory(Held::Nothing));
+                self.dispatch.stop(rt);
+                return Err((NoMemory, Held::Nothing));
             }
         }
         self.dispatch.sleep(rt);
@@ -198,14 +205,20 @@ impl<'a, K: ClusterName, G: Gate> Cluster<'a, K, G> {
     /// `Cluster::bench` gives, and puts it into the mailboxes at the turn's end. The entries that come of it are handed
     /// in at the end of some turns, before it sleeps, and at its own end. Then it goes on with the next actor. Where
     /// there is none, it sleeps until an envelope is put that nobody else is about to take. It ends once the client has
-    /// finished, or once any worker stops. What it had in hand when it stopped itself comes back, lies in its mailbox
-    /// again, or in a tray of its desk; where another worker stopped it has nothing in hand, and tells that one's
-    /// cause. Either way the entries that it hasn't handed in lie on the bench.
+    /// finished, or once any worker finds no memory. What it had in hand when it stopped itself comes back, lies in its
+    /// mailbox again, or in a tray of its desk; where another worker stopped it has nothing in hand. Either way the
+    /// entries that it hasn't handed in lie on the bench. Of this a clause says what post comes back is of: what its
+    /// steps leave is said by `deliver`, `Desk::sort` and `Recorder::record`, and the rest lies under locks.
     ///
     /// `worker` is its own number, by which it is known as the last to serve an actor: different workers should have
     /// different numbers, and 2^32 - 1 stands for nobody.
-    pub fn serve<R: Wait>(&self, rt: &R, worker: u32, bench: &mut Bench<K>) -> Result<(), Stopped>
-        ensures { IfErr result (λ s. AreOfPost K.post s.held) }
+    pub fn serve<R: Wait>(
+        &self,
+        rt: &R,
+        worker: u32,
+        bench: &mut Bench<K>,
+    ) -> Result<(), (NoMemory, Held)>
+        ensures { IfErr result (λ e. AreOfPost K.post e.1) }
     {
         let mut place = (worker % 256) as u8;
         for _ in rt.forever() {
@@ -218,12 +231,7 @@ impl<'a, K: ClusterName, G: Gate> Cluster<'a, K, G> {
                 Err(Ending::Finished) => {
                     return or_stop(self.record(rt, &mut bench.made));
                 }
-                Err(Ending::Stopped(stop)) => {
-                    return Err(Stopped {
-                        stop,
-                        held: Held::Nothing,
-                    });
-                }
+                Err(Ending::Stopped) => return Err((NoMemory, Held::Nothing)),
             }
         }
         unreachable!()
@@ -242,10 +250,10 @@ impl<'a, K: ClusterName, G: Gate> Cluster<'a, K, G> {
     }
 
     // A worker with a bench of its own. Where no memory is found for that, all workers stop.
-    pub(crate) fn work<R: Wait>(&self, rt: &R, worker: u32) -> Result<(), RunStop> {
+    pub(crate) fn work<R: Wait>(&self, rt: &R, worker: u32) -> Result<(), NoMemory> {
         let Ok(mut bench) = self.bench() else {
-            self.dispatch.stop(rt, RunStop::NoMemory);
-            return Err(RunStop::NoMemory);
+            self.dispatch.stop(rt);
+            return Err(NoMemory);
         };
         self.serve(rt, worker, &mut bench)?;
         Ok(())

@@ -4,7 +4,7 @@ ghost use Rattle.stamp_post.specs.Shown.{gatherer_data, new_seats};
 
 use letter_types::{Act, Acts, Entry, History};
 use message_bag::Bag;
-use node_threads::{Cluster, ClusterName, Made, RunStop};
+use node_threads::{Cluster, ClusterName, Made};
 use script_reader::read_script;
 use stamp_post::{Envelope, Post, PostParts, Receipt, Receipts};
 use std::alloc::{AllocError, Global};
@@ -174,8 +174,8 @@ fn unfinished<'a, K: ClusterName>(
     ensures { IfSome result (λ back. All (λ r. r.post ≡ K.post) back.1) }
 {
     match cluster.finish(receipts) {
-        Err((RunStop::Unfinished, cluster, receipts)) => Some((cluster, receipts)),
-        _ => None,
+        Err((_, cluster, receipts)) => Some((cluster, receipts)),
+        Ok(_) => None,
     }
 }
 
@@ -185,8 +185,7 @@ fn finish<K: ClusterName>(cluster: Cluster<'_, K, NoGate>, receipts: Receipts) -
 {
     match cluster.finish(receipts) {
         Ok(history) => Some(history),
-        Err((RunStop::NoMemory, cluster, receipts)) => cluster.finish(receipts).ok(),
-        Err(_) => None,
+        Err((_, cluster, receipts)) => cluster.finish(receipts).ok(),
     }
 }
 

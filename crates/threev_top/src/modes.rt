@@ -12,7 +12,7 @@ ghost use Rattle.world_model.specs.Scheduled.{IsScheduled};
 
 use crate::texts::{HELP, VERSION};
 use command_words::Mode;
-use history_text::push_history_lines;
+use history_text::history_lines_behind;
 use letter_types::History;
 use node_threads::run;
 use report_text::{check_line, report};
@@ -76,11 +76,12 @@ fn report_with(
 ) -> Result<Text, NoMemory>
     ensures { IfOk result (λ text. text ≡ report_with lines script.now history.now) }
 {
-    let mut text = report(alloc, script, history)?;
-    if lines {
-        push_history_lines(&mut text, script, history)?;
+    let text = report(alloc, script, history)?;
+    if !lines {
+        return Ok(text);
     }
-    Ok(text)
+    let all = history_lines_behind(text, script, history)?;
+    Ok(all)
 }
 
 /// The run of a script on one thread, and its report.

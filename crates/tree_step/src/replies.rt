@@ -1,5 +1,5 @@
 // The answer of a tree to its client.
-ghost use Rattle.std.specs.Prelude.{◌≡◌, ◌++◌, IfOk, OnOk};
+ghost use Rattle.std.specs.Prelude.{◌≡◌, ◌++◌, IfOk, OnErr, OnOk};
 ghost use Rattle.world_model.specs.Notices.{reply_letters};
 ghost use Rattle.tree_step.specs.Changes.{IsReplied, SendsRequests};
 
@@ -9,13 +9,14 @@ use tree_home::Answered;
 use tv_base::{ActorNo, NoMemory};
 use tx_trees::Script;
 
-/// Adds the answer to the client, if there is one.
+/// Adds the answer to the client, if there is one. Where no memory is found the letters are as they were.
 pub fn push_reply(
     sent: &mut Letters,
     client: ActorNo,
     answer: Option<Answered>,
 ) -> Result<(), NoMemory>
-    ensures { OnOk result (sent.new ≡ sent.old ++ reply_letters client.0 answer) }
+    ensures ok { OnOk result (sent.new ≡ sent.old ++ reply_letters client.0 answer) }
+    ensures err { OnErr result (sent.new ≡ sent.old) }
 {
     let Some(answered) = answer else {
         return Ok(());

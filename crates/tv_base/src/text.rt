@@ -1,5 +1,5 @@
 // ASCII texts that are written byte by byte.
-ghost use Rattle.std.specs.Prelude.{◌≡◌, ◌<◌, ◌↔◌, [], ◌∷◌, ◌++◌, IsNone, OnOk, OnErr, IfErr, IfSome};
+ghost use Rattle.std.specs.Prelude.{◌≡◌, ◌<◌, ◌↔◌, [], ◌∷◌, ◌++◌, take, IsNone, OnOk, OnErr, IfErr, IfSome};
 ghost use Rattle.std.specs.Str.{IsAscii};
 
 use crate::numbers::NoMemory;
@@ -70,6 +70,23 @@ impl Text {
     {
         self.inner.extend_from_slice(more)?;
         Ok(())
+    }
+
+    /// Where what was to be added wasn't, for lack of memory, takes off what stands behind so many bytes.
+    #[tactic(auto, using(crate::proofs::Fronts::ascii_front))]
+    pub fn all_or_none(
+        &mut self,
+        length: usize,
+        added: Result<(), NoMemory>,
+    ) -> Result<(), NoMemory>
+        ensures same { result ≡ added }
+        ensures ok { OnOk added (self.new ≡ self.old) }
+        ensures err { OnErr added (self.new ≡ take length self.old) }
+    {
+        if added.is_err() {
+            self.inner.truncate(length);
+        }
+        added
     }
 
     /// Takes the first byte out. None exactly where the text is empty.
