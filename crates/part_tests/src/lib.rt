@@ -2,6 +2,8 @@
 #![tactic(auto)]
 
 #[cfg(test)]
+mod homes;
+#[cfg(test)]
 mod items;
 #[cfg(test)]
 mod locks;
