@@ -54,10 +54,10 @@ its_line : (s : ScriptData) (h : List Entry) (from to : ℕ) (b : Body) → IsRi
 its_line s h from to (Reply t v answer) right shows = λ tree at.
     let subs : subs_at s t.0 ≡ tree.subs = rw (at, subs_at) refl in
     let kind : tree_kind_at s t.0 ≡ Some tree.kind = rw (at, tree_kind_at) refl in
-    let by_acts = subst (λ (k : Option TreeKind). AnswersByActs (acts_in (places_of h)) t.0 (subs_at s t.0) k answer) kind right.1.1.1 in
+    let by_acts = subst (λ (k : Option TreeKind). AnswersByActs (acts_in (places_of h)) t.0 (subs_at s t.0) k answer) kind right.says in
     let by_worths = subst (λ (k : Option TreeKind). ShowsWorths s h t.0 k v answer) kind shows in
-    ap (λ (o : Option Version). tree_line tree tree.kind o (λ w. gets_text s h w tree.subs) (outcome_of s (acts_in (places_of h)) t.0 tree.subs)) right.1.1.0
-    ∙ line_of s h t.0 v answer tree tree.kind subs right.1.1.0 by_acts by_worths
+    ap (λ (o : Option Version). tree_line tree tree.kind o (λ w. gets_text s h w tree.subs) (outcome_of s (acts_in (places_of h)) t.0 tree.subs)) right.version
+    ∙ line_of s h t.0 v answer tree tree.kind subs right.version by_acts by_worths
 its_line s h from to Go right shows = tt
 its_line s h from to _ right shows = tt
 

@@ -1,4 +1,4 @@
--- What replies say: of each tree what its acts gave, in the words of the report.
+-- What replies say: of each tree what its acts gave.
 use Rattle.std.specs.Prelude.{ℕ, ◌<◌, ◌≡◌, Bool, true, false, List, [], length, Option, Some, None}
 use Rattle.tv_base.specs.declared.numbers.Version.{Version}
 use Rattle.letter_types.specs.declared.acts.Act.{Act}
@@ -40,16 +40,20 @@ AnswersByActs acts t subs (Some Read) answer = answer ≡ Whole (did_from acts t
 AnswersByActs acts t subs (Some Strict) answer = AnswersAsDecided acts t subs (decision_in t acts) answer
 AnswersByActs acts t subs None answer = ⊥
 
--- a reply goes from its tree's home to the client, with the version of the tree and what its acts gave
+-- a reply to tree t comes from its home and goes to the client, with the version of the tree and what its acts gave
+pub record IsReplyOf (s : ScriptData) (h : List Entry) (from to t : ℕ) (v : Version) (answer : Answer) : Type 0 where
+  pub home : from ≡ home_of s t
+  pub client : to ≡ client_of s
+  pub version : version_of h t ≡ Some v
+  pub says : AnswersByActs (acts_in (places_of h)) t (subs_at s t) (tree_kind_at s t) answer
+
+-- a letter is so if it is a reply
 abbrev pub IsRightReply : ScriptData → List Entry → ℕ → ℕ → Body → Type 0
-IsRightReply s h from to (Reply t v answer) =
-    (from ≡ home_of s t.0)
-    × ((to ≡ client_of s)
-    × ((version_of h t.0 ≡ Some v) × AnswersByActs (acts_in (places_of h)) t.0 (subs_at s t.0) (tree_kind_at s t.0) answer))
+IsRightReply s h from to (Reply t v answer) = IsReplyOf s h from to t.0 v answer
 IsRightReply s h from to Go = Unit {0}
 IsRightReply s h from to _ = Unit {0}
 
--- so with each letter that an entry of the history sends
+-- so is each letter that an entry of the history sends
 abbrev pub RepliesTell : ScriptData → List Entry → Type 0
 RepliesTell s h = Each (λ (e : Entry). Each (λ (o : Outgoing). IsRightReply s h e.actor.0 o.to.0 o.body) e.sent) h
 

@@ -193,8 +193,12 @@ answers_by s does vs t v answer None is it = absurd (it.kind is)
 
 right_reply : (s : ScriptData) (past : List Entry) (from to : ℕ) (b : Body) → BodyTold s (acts_before past) (versions_before past) to b → FromHome s from b
     → IsRightReply s (reverse past) from to b
-right_reply s past from to (Reply t v answer) it home =
-    (home it.1.kind, (it.0, (it.1.version, answers_by s (acts_before past) (versions_before past) t.0 v answer (tree_kind_at s t.0) refl it.1)))
+right_reply s past from to (Reply t v answer) it home = record {
+  home = home it.1.kind;
+  client = it.0;
+  version = it.1.version;
+  says = answers_by s (acts_before past) (versions_before past) t.0 v answer (tree_kind_at s t.0) refl it.1;
+}
 right_reply s past from to Go it home = tt
 right_reply s past from to _ it home = tt
 
@@ -287,7 +291,7 @@ names_no s does t (Aborted cause) kind it = named_by s does t cause kind it
 names_no s does t (Whole values) kind it = tt
 
 reply_names : (s : ScriptData) (h : List Entry) (from to : ℕ) (b : Body) → IsRightReply s h from to b → ReplyNamesNo s h b
-reply_names s h from to (Reply t v answer) it = names_no s (acts_in (places_of h)) t.0 answer (tree_kind_at s t.0) it.1.1.1
+reply_names s h from to (Reply t v answer) it = names_no s (acts_in (places_of h)) t.0 answer (tree_kind_at s t.0) it.says
 reply_names s h from to Go it = tt
 reply_names s h from to _ it = tt
 
