@@ -1,5 +1,5 @@
 -- One entry more that is recorded.
-use Rattle.std.proofs.Common.{◌≡◌, ℕ, zero, suc, ◌+◌, ◌<◌, ◌≢◌, List, [], ◌∷◌, ◌++◌, length, refl, sym, ap, ◌∙◌, subst, arith, inl, inr, Some}
+use Rattle.std.proofs.Common.{◌≡◌, ◌==◌, ℕ, zero, suc, ◌+◌, ◌<◌, ◌≢◌, false, List, [], ◌∷◌, ◌++◌, length, refl, sym, ap, ◌∙◌, subst, arith, inl, inr, Some}
 use Rattle.std.specs.Prelude.{map, slice_get, slice_set, sum_by}
 use Rattle.std.specs.List.{remove}
 use Rattle.std.proofs.lemmas.List.Sums.{sum_by-cons}
@@ -7,7 +7,7 @@ use Rattle.tv_base.proofs.ByPlace.{slice_get_last, slice_get_left, slice_get_spl
 use Rattle.letter_types.specs.declared.entries.Entry.{Entry}
 use Rattle.stamp_post.specs.declared.rule.JoinedReceipt.{JoinedReceipt}
 use Rattle.tx_trees.specs.ScriptData.{ScriptData}
-use Rattle.history_merge.specs.Recording.{AreRecorded, RecordsNext, RecorderData, Records, Vouches, lists_left}
+use Rattle.history_merge.specs.Recording.{AreRecorded, RecordsNext, RecorderData, Records, Vouches, handed_in, lists_left, recorder_data}
 
 pub recorded_more : (s : ScriptData) (known : List JoinedReceipt) (told : JoinedReceipt) (es : List Entry) (e : Entry) → AreRecorded s known es
     → e.stamp.0 ≡ length es + 1 → Vouches s told e → AreRecorded s (known ++ told ∷ []) (es ++ e ∷ [])
@@ -77,3 +77,9 @@ none_left lists place (e ∷ es) none = absurd (cc none)
 pub some_left : (lists : List (List Entry)) (place : ℕ) (left : List Entry) → length left ≢ 0 → lists_left lists place left ≡ slice_set lists place left
 some_left lists place [] some = absurd (some refl)
 some_left lists place (e ∷ es) some = refl
+
+-- entries that are handed in, of which there is one at least
+pub handed_some : (made : List Entry) (d : RecorderData) → (length made == 0) ≡ false
+    → recorder_data d.done (d.waiting ++ made ∷ []) ≡ handed_in made d
+handed_some [] d some = absurd (cc some)
+handed_some (e ∷ made) d some = refl
