@@ -1,4 +1,5 @@
 pub mod Accepted
+pub mod Audited
 pub mod Bounded
 pub mod Carrying
 pub mod EveryEntry
@@ -6,5 +7,6 @@ pub mod Gathering
 pub mod Items
 pub mod Looks
 pub mod Printing
+pub mod ReplyLines
 pub mod Stepping
 pub mod Values

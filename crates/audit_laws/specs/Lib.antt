@@ -1,2 +1,3 @@
 pub mod OfScript
 pub mod Ranges
+pub mod ReplyLines

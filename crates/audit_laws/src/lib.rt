@@ -1,14 +1,16 @@
-//! The laws that join runs and audits: each entry of every run may be printed, the text of a run that has finished is
-//! accepted, and that of any run is read back.
+//! Laws that join runs and their texts: each entry of every run may be printed, the text of a run that has finished is
+//! accepted, that of any run is read back, and a run's report says of each tree what its reply says.
 #![tactic(auto)]
 
 mod laws;
 mod printable;
 mod ranges;
+mod reports;
 
 pub use laws::{
-    printed_histories_are_accepted, printed_histories_are_read_back, printed_runs_are_accepted,
-    printed_runs_are_read_back,
+    printed_histories_are_accepted, printed_histories_are_read_back, printed_histories_pass_audits,
+    printed_runs_are_accepted, printed_runs_are_read_back, printed_runs_pass_audits,
 };
 pub use printable::{entries_are_of_the_script, runs_are_printable};
 pub use ranges::numbers_have_their_ranges;
+pub use reports::reports_say_what_replies_say;

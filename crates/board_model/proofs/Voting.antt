@@ -11,7 +11,8 @@ use Rattle.letter_types.specs.declared.votes.Vote.{Vote}
 use Rattle.tx_trees.specs.ScriptData.{ScriptData}
 use Rattle.tx_trees.specs.declared.parts.Tree.{Tree}
 use Rattle.board_rules.specs.Histories.{Place, places_of}
-use Rattle.board_model.specs.Ballots.{acts_in, ballots_from, ballots_of, decision_by, decision_in, tells_of, vote_by, vote_in}
+use Rattle.board_rules.specs.Outcomes.{acts_in, decision_by, decision_in, vote_by, vote_in}
+use Rattle.board_model.specs.Ballots.{ballots_from, ballots_of, tells_of}
 use Rattle.board_model.specs.inside.Ballots.{ballots_after, ballots_over, ballots_with_act, no_ballots, with_act}
 use Rattle.board_model.specs.inside.SerialList.{placed}
 use Rattle.board_model.specs.inside.Tallies.{on_row}

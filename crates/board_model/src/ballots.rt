@@ -1,7 +1,8 @@
 // How the subtransactions of trees vote in a history, and what is decided of them.
 ghost use Rattle.std.specs.Prelude.{◌≡◌, [], ◌∷◌, ◌++◌, IfOk, OnOk};
 ghost use Rattle.std.specs.Option.{option_copied};
-ghost use Rattle.board_model.specs.Ballots.{ballots_of, decision_by, decision_in, vote_by, vote_in};
+ghost use Rattle.board_rules.specs.Outcomes.{decision_by, decision_in, vote_by, vote_in};
+ghost use Rattle.board_model.specs.Ballots.{ballots_of};
 ghost use Rattle.board_model.specs.inside.Ballots.{ballots_after, ballots_over, ballots_with_act, no_ballots, with_act};
 ghost use Rattle.board_model.specs.inside.Tallies.{on_row};
 

@@ -5,6 +5,7 @@ pub mod Right
 pub mod Moves
 pub mod Gates
 pub mod Stands
+pub mod Outcomes
 pub mod Rules
 pub mod Locked
 pub mod Judging

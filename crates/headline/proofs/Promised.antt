@@ -12,6 +12,7 @@ use Rattle.headline.proofs.BoardRuns.{board_run}
 use Rattle.run_laws.proofs.AtOnce.{all_at_once}
 use Rattle.run_laws.proofs.Taken.{taken_run}
 use Rattle.run_laws.proofs.CommittedGets.{gets_are_the_fold}
+use Rattle.run_laws.proofs.replies_told.Replies.{replies_tell}
 use Rattle.run_laws.proofs.Right.{right_run}
 use Rattle.run_laws.proofs.ShownStays.{shown_stays}
 use Rattle.run_laws.proofs.WritersFirst.{writers_first}
@@ -32,6 +33,7 @@ headline_past s past valid run finished = record {
   whole = λ t lt. whole_at_end s past t valid run finished lt;
   settled = settled s past valid run finished;
   reads = shown_stays s past valid run;
+  replies = replies_tell s past valid run;
   right = right_run s past valid run;
   writers_first = writers_first s past valid run;
   board = board_run s past valid run;

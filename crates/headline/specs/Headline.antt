@@ -14,6 +14,7 @@ use Rattle.board_rules.specs.Right.{HasFinished, IsAtOnce, IsRight}
 use Rattle.world_model.specs.Runs.{IsWorldRun}
 use Rattle.run_laws.specs.Taken.{TakesWhatIsApt}
 use Rattle.run_laws.specs.Gets.{GetsAreTheFoldBefore}
+use Rattle.run_laws.specs.Replies.{RepliesTell}
 use Rattle.run_laws.specs.Stays.{ReadsStayRight, WritersAreFirst}
 use Rattle.headline.specs.Undone.{ShowsNothingUndone}
 use Rattle.headline.specs.Held.{HasHeldThree, HoldsBalances}
@@ -29,9 +30,10 @@ pub record HasHeadline (s : ScriptData) (h : List Entry) : Type 0 where
   -- a run that ends: the client has finished, and every tree is whole
   pub finished : HasFinished h
   pub whole : (t : ℕ) → t < length s.trees → IsWhole s h t
-  -- the report of its own stored history: its balances are what the nodes hold, and its reads are what the steps gave
+  -- the report of its own stored history: balances are what nodes hold, reads what steps gave, replies what was done
   pub settled : HoldsBalances s h
   pub reads : ReadsStayRight s h
+  pub replies : RepliesTell s h
   -- every read tree shows exactly the whole update trees of its version or older, and the committed strict trees
   pub right : IsRight s h
   pub writers_first : WritersAreFirst s h

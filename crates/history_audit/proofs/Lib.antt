@@ -2,3 +2,4 @@ pub mod OneVerdict
 pub mod Taken
 pub mod Auditing
 pub mod Divided
+pub mod Joined

@@ -1,5 +1,5 @@
 -- What is read in mode audit: a script, a line that is exactly `history`, and a history's lines.
-use Rattle.std.specs.Prelude.{if◌then◌else◌, ℕ, Bool, true, ◌≡◌, ◌==◌, ◌&&◌, ◌⊎◌, ◌++◌, List, [], ◌∷◌, codes, drop, take, Option, Result, Ok, Err, ⊤}
+use Rattle.std.specs.Prelude.{if◌then◌else◌, ℕ, Bool, true, false, ◌≡◌, ◌==◌, ◌&&◌, ◌⊎◌, ◌++◌, List, [], ◌∷◌, codes, drop, take, Option, Result, Ok, Err, ⊤}
 use Rattle.std.specs.Io.KnownBytes.{Consumes, IsAtEnd}
 use Rattle.std.specs.Str.{bytes_eq}
 use Rattle.tv_base.specs.Outside.{HasMoreThan}
@@ -41,6 +41,20 @@ script_part bytes = (divided true bytes).0
 
 abbrev pub history_part : List ℕ → List ℕ
 history_part bytes = (divided true bytes).1
+
+-- the text's last byte is a line feed
+abbrev pub ends_in_feed : List ℕ → Bool
+ends_in_feed [] = false
+ends_in_feed (b ∷ []) = b == 10
+ends_in_feed (b ∷ c ∷ bs) = ends_in_feed (c ∷ bs)
+
+-- no line of the text is exactly `history`
+abbrev pub HasNoHistoryLine : List ℕ → Type 0
+HasNoHistoryLine text = divided true text ≡ (text, [])
+
+-- a script's text, the line `history`, and a history's lines
+abbrev pub audited : List ℕ → List ℕ → List ℕ
+audited text lines = text ++ (codes "history\n" ++ lines)
 
 -- all bytes that the source had are a script and a text with this verdict
 pub record IsAuditOf (left now : Option (List ℕ)) (verdict : Result ℕ (ℕ × AuditRule)) : Type 0 where

@@ -5,7 +5,7 @@ ghost use Rattle.history_text.specs.Exact.{IsReadBack};
 ghost use Rattle.history_reader.specs.inside.ActWords.{act_words};
 
 use crate::nexts::{
-    next_commit, next_item, next_number, next_sub, next_tree, next_version, number_behind,
+    is_word, next_commit, next_item, next_number, next_sub, next_tree, next_version, number_behind,
 };
 use crate::votes::read_vote;
 use history_text::{Parts, read_values};
@@ -25,10 +25,10 @@ pub(crate) fn read_act(
     let Some(word) = words.next() else {
         return Ok(None);
     };
-    if word == b"did".as_slice() {
+    if is_word(word, b"did") {
         return read_did(alloc, script, words);
     }
-    if word == b"voted".as_slice() {
+    if is_word(word, b"voted") {
         return read_voted(alloc, script, words);
     }
     Ok(plain_act(script, word, words))
@@ -158,34 +158,34 @@ fn plain_act(script: &Script, word: &[u8], words: &mut Parts) -> Option<Act>
     requires voted { word.now ≡ codes "voted" → ⊥ }
     ensures { IsReadBack (act_words script.now) (IsAct script.now) (word.now ∷ words.old) result }
 {
-    if word == b"born".as_slice() {
+    if is_word(word, b"born") {
         return read_born(script, words);
     }
-    if word == b"turned".as_slice() {
+    if is_word(word, b"turned") {
         return read_turned(script, words);
     }
-    if word == b"showed".as_slice() {
+    if is_word(word, b"showed") {
         return read_showed(script, words);
     }
-    if word == b"swept".as_slice() {
+    if is_word(word, b"swept") {
         return read_swept(script, words);
     }
-    if word == b"finished".as_slice() {
+    if is_word(word, b"finished") {
         return read_finished(script, words);
     }
-    if word == b"waits".as_slice() {
+    if is_word(word, b"waits") {
         return read_waits(script, words);
     }
-    if word == b"parked".as_slice() {
+    if is_word(word, b"parked") {
         return read_parked(script, words);
     }
-    if word == b"freed".as_slice() {
+    if is_word(word, b"freed") {
         return read_freed(script, words);
     }
-    if word == b"decided".as_slice() {
+    if is_word(word, b"decided") {
         return read_decided(script, words);
     }
-    if word == b"applied".as_slice() {
+    if is_word(word, b"applied") {
         return read_applied(script, words);
     }
     None

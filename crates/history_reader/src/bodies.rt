@@ -5,7 +5,7 @@ ghost use Rattle.history_text.specs.Exact.{IsReadBack};
 ghost use Rattle.history_reader.specs.inside.BodyWords.{body_words};
 
 use crate::letters::tree_letter;
-use crate::nexts::{next_round, next_sub, next_tree, next_version};
+use crate::nexts::{is_word, next_round, next_sub, next_tree, next_version};
 use crate::votes::{read_answer, read_notice, read_row};
 use history_text::Parts;
 use letter_types::Body;
@@ -24,16 +24,16 @@ pub(crate) fn read_body(
     let Some(word) = words.next() else {
         return Ok(None);
     };
-    if word == b"done".as_slice() {
+    if is_word(word, b"done") {
         return read_done(alloc, script, words);
     }
-    if word == b"reply".as_slice() {
+    if is_word(word, b"reply") {
         return read_reply(alloc, script, words);
     }
-    if word == b"donerow".as_slice() {
+    if is_word(word, b"donerow") {
         return read_donerow(alloc, script, words);
     }
-    if word == b"askedrow".as_slice() {
+    if is_word(word, b"askedrow") {
         return read_askedrow(alloc, script, words);
     }
     Ok(tree_letter(script, word, words))

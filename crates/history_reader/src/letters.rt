@@ -5,7 +5,7 @@ ghost use Rattle.history_text.specs.Exact.{IsReadBack};
 ghost use Rattle.history_reader.specs.inside.BodyWords.{IsReadFrom, body_words};
 
 use crate::nexts::{
-    last_order, next_commit, next_half, next_number, next_sub, next_tree, next_version,
+    is_word, last_order, next_commit, next_half, next_number, next_sub, next_tree, next_version,
     number_behind,
 };
 use history_text::Parts;
@@ -164,22 +164,22 @@ fn read_advance(script: &Script, words: &mut Parts) -> Option<Body>
 pub(crate) fn tree_letter(script: &Script, word: &[u8], words: &mut Parts) -> Option<Body>
     ensures { IsReadFrom script.now 1 (word.now ∷ words.old) result }
 {
-    if word == b"root".as_slice() {
+    if is_word(word, b"root") {
         return read_root(script, words);
     }
-    if word == b"sub".as_slice() {
+    if is_word(word, b"sub") {
         return read_sub(script, words);
     }
-    if word == b"wake".as_slice() {
+    if is_word(word, b"wake") {
         return read_wake(script, words);
     }
-    if word == b"release".as_slice() {
+    if is_word(word, b"release") {
         return read_release(script, words);
     }
-    if word == b"decide".as_slice() {
+    if is_word(word, b"decide") {
         return read_decide(script, words);
     }
-    if word == b"decided".as_slice() {
+    if is_word(word, b"decided") {
         return read_decided(script, words);
     }
     other_letter(script, word, words)
@@ -189,31 +189,31 @@ pub(crate) fn tree_letter(script: &Script, word: &[u8], words: &mut Parts) -> Op
 fn other_letter(script: &Script, word: &[u8], words: &mut Parts) -> Option<Body>
     ensures { IsReadFrom script.now 2 (word.now ∷ words.old) result }
 {
-    if word == b"nudge".as_slice() {
+    if is_word(word, b"nudge") {
         return read_nudge(script, words);
     }
-    if word == b"lose".as_slice() {
+    if is_word(word, b"lose") {
         return read_lose(script, words);
     }
-    if word == b"advance".as_slice() {
+    if is_word(word, b"advance") {
         return read_advance(script, words);
     }
-    if word == b"askdone".as_slice() {
+    if is_word(word, b"askdone") {
         return read_askdone(script, words);
     }
-    if word == b"askasked".as_slice() {
+    if is_word(word, b"askasked") {
         return read_askasked(script, words);
     }
-    if word == b"numbers".as_slice() {
+    if is_word(word, b"numbers") {
         return read_numbers(script, words);
     }
-    if word == b"wanted".as_slice() {
+    if is_word(word, b"wanted") {
         return read_wanted(script, words);
     }
-    if word == b"order".as_slice() {
+    if is_word(word, b"order") {
         return read_order(script, words);
     }
-    if word == b"obeyed".as_slice() {
+    if is_word(word, b"obeyed") {
         return read_obeyed(script, words);
     }
     number_letter(script, word, words)
@@ -235,28 +235,28 @@ fn body_of(_script: &Script, word: &[u8], number: u64) -> Option<Body>
     ensures { IsReadFrom _script.now 3 (word.now ∷ decimal number ∷ []) result }
 {
     let version = Version(number);
-    if word == b"turn".as_slice() {
+    if is_word(word, b"turn") {
         return Some(Body::Turn { version });
     }
-    if word == b"show".as_slice() {
+    if is_word(word, b"show") {
         return Some(Body::Show { version });
     }
-    if word == b"sweep".as_slice() {
+    if is_word(word, b"sweep") {
         return Some(Body::Sweep { version });
     }
-    if word == b"turned".as_slice() {
+    if is_word(word, b"turned") {
         return Some(Body::Turned { version });
     }
-    if word == b"shown".as_slice() {
+    if is_word(word, b"shown") {
         return Some(Body::Shown { version });
     }
-    if word == b"swept".as_slice() {
+    if is_word(word, b"swept") {
         return Some(Body::Swept { version });
     }
-    if word == b"advanced".as_slice() {
+    if is_word(word, b"advanced") {
         return Some(Body::Advanced { version });
     }
-    if word == b"ask".as_slice() {
+    if is_word(word, b"ask") {
         return Some(Body::Ask { epoch: number });
     }
     None

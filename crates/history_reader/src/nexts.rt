@@ -1,5 +1,5 @@
 // The next words of a line.
-ghost use Rattle.std.specs.Prelude.{ℕ, List, ◌≡◌, ◌∷◌, [], codes, decimal, is_some, IfSome, IsNone, MatchOption};
+ghost use Rattle.std.specs.Prelude.{ℕ, List, ◌≡◌, ◌∷◌, [], codes, decimal, false, true, is_some, IfSome, IsNone, MatchOption};
 ghost use Rattle.history_text.specs.Printable.{IsHalfWord, IsSubOf, IsWord};
 ghost use Rattle.history_text.specs.Words.{HasItem, HasTree, name_of_item, name_of_tree};
 ghost use Rattle.tx_trees.specs.ScriptData.{sub_at};
@@ -41,12 +41,20 @@ pub(crate) fn next_item(script: &Script, words: &mut Parts) -> Option<ItemNo>
     read_item(script, word)
 }
 
+// Whether a word is this one. A test of it is one call, and its proof half of that of `==` between slices.
+pub(crate) fn is_word(word: &[u8], one: &[u8]) -> bool
+    ensures is { result ≡ true → word.now ≡ one.now }
+    ensures other { result ≡ false → word.now ≡ one.now → ⊥ }
+{
+    word == one
+}
+
 // This very word.
 pub(crate) fn next_word(words: &mut Parts, word: &[u8]) -> Option<()>
     ensures { MatchOption result ((rest : List (List ℕ)) → words.old ≡ word.now ∷ rest → ⊥) (λ _. words.old ≡ word.now ∷ words.new) }
 {
     let next = words.next()?;
-    if next != word {
+    if !is_word(next, word) {
         return None;
     }
     Some(())
@@ -101,10 +109,10 @@ pub(crate) fn next_commit(words: &mut Parts) -> Option<bool>
     ensures { IsNext commit_word_of (λ commit. Unit {0}) words.old words.new result }
 {
     let word = words.next()?;
-    if word == b"commit".as_slice() {
+    if is_word(word, b"commit") {
         return Some(true);
     }
-    if word == b"abort".as_slice() {
+    if is_word(word, b"abort") {
         return Some(false);
     }
     None
@@ -115,13 +123,13 @@ pub(crate) fn next_what(words: &mut Parts) -> Option<What>
     ensures { IsNext order_word (λ what. Unit {0}) words.old words.new result }
 {
     let word = words.next()?;
-    if word == b"turn".as_slice() {
+    if is_word(word, b"turn") {
         return Some(What::Turn);
     }
-    if word == b"show".as_slice() {
+    if is_word(word, b"show") {
         return Some(What::Show);
     }
-    if word == b"sweep".as_slice() {
+    if is_word(word, b"sweep") {
         return Some(What::Sweep);
     }
     None

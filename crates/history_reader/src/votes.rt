@@ -6,6 +6,7 @@ ghost use Rattle.history_text.specs.Exact.{IsReadBack};
 ghost use Rattle.history_text.specs.Words.{HasTree};
 ghost use Rattle.history_reader.specs.inside.BodyWords.{AreLineWords, IsAnswerRead, IsNoticeRead, answer_words, notice_words, number_words, vote_words};
 
+use crate::nexts::is_word;
 use history_text::{Parts, read_cause, read_number, read_values};
 use letter_types::{Answer, Boxed, Notice, Row, Vote};
 use std::alloc::Global;
@@ -56,10 +57,10 @@ pub(crate) fn read_vote(
     let Some(word) = words.next() else {
         return Ok(None);
     };
-    if word == b"yes".as_slice() {
+    if is_word(word, b"yes") {
         return read_yes(alloc, script, words);
     }
-    if word == b"no".as_slice() {
+    if is_word(word, b"no") {
         return read_no(alloc, script, words);
     }
     Ok(None)
@@ -173,13 +174,13 @@ fn strict_answer(
     let Some(word) = words.next() else {
         return Ok(None);
     };
-    if word == b"committed".as_slice() {
+    if is_word(word, b"committed") {
         let Some(values) = read_values(alloc, script, words)? else {
             return Ok(None);
         };
         return Ok(Some(Answer::Whole(values)));
     }
-    if word == b"aborted".as_slice() {
+    if is_word(word, b"aborted") {
         let Some(cause) = read_cause(script, words) else {
             return Ok(None);
         };

@@ -172,11 +172,7 @@ pub fn read_values(
 
 // The same, word by word.
 #[tactic(auto, using(crate::proofs::Each::each_fails, crate::proofs::Each::one_more))]
-fn read_all(
-    alloc: Global,
-    script: &Script,
-    words: &mut Parts,
-) -> Result<Option<Values>, NoMemory>
+fn read_all(alloc: Global, script: &Script, words: &mut Parts) -> Result<Option<Values>, NoMemory>
     ensures { IfOk result (λ read. IsReadBack (got_words script.now) (AreGot script.now) words.old read) }
 {
     let mut values = Values::new(alloc);

@@ -22,7 +22,7 @@ pub record LeadsTo (s : ScriptData) (a : ℕ) (es : List Entry) (st : ActorState
   pub script : IsFor s st
 
 -- each cell's number is its place, and as many entries are recorded as the cells have, no more than a history takes
-pub record IsWhole (cells : List CellData) (count : ℕ) : Type 0 where
+pub record HasAllEntries (cells : List CellData) (count : ℕ) : Type 0 where
   pub order : NumberedBy (λ (c : CellData). c.number) 0 cells
   pub whole : count ≡ sum_by (λ (c : CellData). length c.entries) cells
   pub few : count ≤ MOST_ENTRIES

@@ -1,7 +1,7 @@
 // The cells of a cluster that finishes: out of their locks, put back, and without their states.
 ghost use Rattle.std.specs.Prelude.{◌≡◌, ◌≤◌, ◌<◌, ◌↔◌, ◌^◌, length, map, sum_by, IfOk, SomeIff, IsTrue};
 ghost use Rattle.history_merge.specs.Merging.{HasRoom, NumberedBy};
-ghost use Rattle.node_threads.specs.Cells.{IsWhole, cell_data};
+ghost use Rattle.node_threads.specs.Cells.{HasAllEntries, cell_data};
 
 use crate::cell::ActorCell;
 use crossbeam_utils::CachePadded;
@@ -93,7 +93,7 @@ fn count_entries<K: ClusterName>(cells: &[ActorCell<K>]) -> Option<usize>
 // Whether the cells are in order, and as many entries are recorded as they have, which may be no more than a history
 // takes.
 pub(crate) fn is_whole<K: ClusterName>(cells: &[ActorCell<K>], recorded: usize) -> bool
-    ensures { IsTrue result ↔ IsWhole cells.now recorded }
+    ensures { IsTrue result ↔ HasAllEntries cells.now recorded }
 {
     are_in_order(cells) && count_entries(cells) == Some(recorded) && recorded <= MOST_ENTRIES
 }

@@ -4,98 +4,97 @@ use std::alloc::Global;
 use std::test::Fail;
 use tv_base::{ItemNo, Version};
 
+/// An item's versions with their sums.
+type Sums = [Option<(u64, Amount)>; 3];
+
 fn sum(number: Amount) -> Value {
     Value::Sum(SumValue(number))
 }
 
-/// Whether the item holds just these versions, with these sums.
-fn holds(item: &Item, want: &[(u64, Amount)]) -> bool {
-    let held = item.held();
-    held.len() == want.len()
-        && held.iter().zip(want).all(|(entry, want)| entry.0.0 == want.0
-            && matches!(&entry.1, Value::Sum(sum) if sum.0 == want.1))
+fn sum_at(item: &Item, place: usize) -> Option<(u64, Amount)> {
+    let entry = item.held().get(place)?;
+    match &entry.1 {
+        Value::Sum(sum) => Some((entry.0.0, sum.0)),
+        _ => None,
+    }
 }
 
-/// Stages that a version of item 4 has this number.
-fn put(table: &ItemTable, staged: &mut Staged, v: u64, amount: Amount) -> Result<(), Fail> {
-    if !table.has_room(staged, Version(v), ItemNo(4)) {
-        return Err("there is no room".into());
-    }
-    table.stage_value(staged, Version(v), ItemNo(4), sum(amount))?;
-    Ok(())
+fn sums(item: &Item) -> Sums {
+    [sum_at(item, 0), sum_at(item, 1), sum_at(item, 2)]
 }
 
 /// Adds an amount to the item in version `v`.
-fn touch(alloc: Global, item: &mut Item, v: u64, amount: Amount) -> Result<(), Fail> {
+fn touch(alloc: Global, item: &mut Item, v: u64, amount: Amount) -> Result<Sums, Fail> {
     let op = Op::Add(amount);
     if !item.may_touch(Version(v), &op) || !item.has_room(Version(v)) {
         return Err("the item may not be touched".into());
     }
     item.touch(alloc, Version(v), &op)?;
-    Ok(())
+    Ok(sums(item))
 }
 
 /// Collects the item to version `f`, where it has a version that is at most `f`.
-fn collect(item: &mut Item, f: u64) -> Result<(), Fail> {
-    if item.held()[0].0 > Version(f) {
-        return Err("no version is that low".into());
+fn collect(item: &mut Item, f: u64) -> Sums {
+    if item.held()[0].0 <= Version(f) {
+        item.collect(Version(f));
     }
-    item.collect(Version(f));
-    Ok(())
+    sums(item)
+}
+
+/// An item with versions 0, 1 and 2 is touched in version 1, collected to it, and touched in version 3.
+fn touched_and_collected(alloc: Global) -> Result<[Sums; 4], Fail> {
+    let mut item = Item::new(sum(1));
+    touch(alloc, &mut item, 1, 1)?;
+    Ok([
+        touch(alloc, &mut item, 2, 2)?,
+        touch(alloc, &mut item, 1, 8)?,
+        collect(&mut item, 1),
+        touch(alloc, &mut item, 3, 0)?,
+    ])
 }
 
 #[test]
 fn an_item_is_touched_and_collected(rt: HostRuntime) -> Result<(), Fail> {
-    let alloc = rt.alloc();
-    let mut item = Item::new(sum(1));
-    touch(alloc, &mut item, 1, 1)?;
-    touch(alloc, &mut item, 2, 2)?;
-    assert!(rt; holds(&item, &[(0, 1), (1, 2), (2, 4)]));
-    touch(alloc, &mut item, 1, 8)?;
-    assert!(rt; holds(&item, &[(0, 1), (1, 10), (2, 12)]));
-    collect(&mut item, 1)?;
-    assert!(rt; holds(&item, &[(1, 10), (2, 12)]));
-    touch(alloc, &mut item, 3, 0)?;
-    assert!(rt; holds(&item, &[(1, 10), (2, 12), (3, 12)]));
+    let want = [
+        [Some((0, 1)), Some((1, 2)), Some((2, 4))],
+        [Some((0, 1)), Some((1, 10)), Some((2, 12))],
+        [Some((1, 10)), Some((2, 12)), None],
+        [Some((1, 10)), Some((2, 12)), Some((3, 12))],
+    ];
+    assert!(rt; touched_and_collected(rt.alloc())? == want);
     Ok(())
+}
+
+/// A table whose item 4 has 1 in version 0, and 4 in version 2.
+fn table(alloc: Global) -> Result<ItemTable, Fail> {
+    let mut table = ItemTable::new(alloc);
+    table.add(ItemNo(4), sum(1))?;
+    let mut staged = Staged::new(alloc);
+    let op = Op::Add(3);
+    let item = table.item(ItemNo(4)).ok_or("the item is there")?;
+    if !item.may_touch(Version(2), &op) || !item.has_room(Version(2)) {
+        return Err("the item may not be touched".into());
+    }
+    table.stage(&mut staged, Version(2), ItemNo(4), &op)?;
+    table.put_staged(staged);
+    Ok(table)
+}
+
+/// The item of this table, once it was given 5 in version 1.
+fn given_between(alloc: Global) -> Result<Sums, Fail> {
+    let mut table = table(alloc)?;
+    let mut staged = Staged::new(alloc);
+    if !table.has_room(&staged, Version(1), ItemNo(4)) {
+        return Err("there is no room".into());
+    }
+    table.stage_value(&mut staged, Version(1), ItemNo(4), sum(5))?;
+    table.put_staged(staged);
+    Ok(sums(table.item(ItemNo(4)).ok_or("the item is there")?))
 }
 
 #[test]
 fn a_value_is_put_between_two_versions(rt: HostRuntime) -> Result<(), Fail> {
-    let alloc = rt.alloc();
-    let mut table = ItemTable::new(alloc);
-    table.add(ItemNo(4), sum(1))?;
-    let mut staged = Staged::new(alloc);
-    put(&table, &mut staged, 2, 4)?;
-    table.put_staged(staged);
-    let mut staged = Staged::new(alloc);
-    put(&table, &mut staged, 1, 3)?;
-    put(&table, &mut staged, 1, 5)?;
-    assert!(rt; !table.has_room(&staged, Version(3), ItemNo(4)));
-    table.put_staged(staged);
-    let item = table.item(ItemNo(4)).ok_or("the item is there")?;
-    assert!(rt; holds(item, &[(0, 1), (1, 5), (2, 4)]));
-    Ok(())
-}
-
-#[test]
-fn an_update_is_staged_where_it_may_be_made(rt: HostRuntime) -> Result<(), Fail> {
-    let alloc = rt.alloc();
-    let mut table = ItemTable::new(alloc);
-    table.add(ItemNo(4), sum(1))?;
-    let mut staged = Staged::new(alloc);
-    let one = Op::Add(1);
-    let item = table.item(ItemNo(4)).ok_or("the item is there")?;
-    if item.may_touch(Version(1), &one) && item.has_room(Version(1)) {
-        table.stage(&mut staged, Version(1), ItemNo(4), &one)?;
-    }
-    let put = Op::Put(1);
-    if table.has_room(&staged, Version(1), ItemNo(4)) {
-        assert!(rt; !table.stage_if_may(&mut staged, Version(1), ItemNo(4), &put)?);
-        assert!(rt; table.stage_if_may(&mut staged, Version(1), ItemNo(4), &Op::Add(2))?);
-    }
-    table.put_staged(staged);
-    let item = table.item(ItemNo(4)).ok_or("the item is there")?;
-    assert!(rt; holds(item, &[(0, 1), (1, 4)]));
+    let want = [Some((0, 1)), Some((1, 5)), Some((2, 4))];
+    assert!(rt; given_between(rt.alloc())? == want);
     Ok(())
 }

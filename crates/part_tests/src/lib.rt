@@ -1,10 +1,12 @@
-//! Tests of the parts below the actors: sources and sinks, lists, and what no run of the program calls.
+//! Tests of the parts below the actors: sources and sinks, and calls that no run of the program makes.
 #![tactic(auto)]
 
 #[cfg(test)]
-mod counts;
+mod homes;
 #[cfg(test)]
 mod items;
+#[cfg(test)]
+mod locks;
 #[cfg(test)]
 mod outside;
 #[cfg(test)]
@@ -12,4 +14,4 @@ mod rounds;
 #[cfg(test)]
 mod values;
 #[cfg(test)]
-mod worths;
+mod votes;

@@ -2,8 +2,8 @@ use std::io;
 use std::io::{Read, Write};
 use std::test::Fail;
 use tv_base::{
-    MOST_BYTES, MemSink, MemSource, NoMemory, ReadEnd, ReadStep, ReaderSource, Seq, Sink, Source,
-    WriteFailed, WriteStep, WriterSink, read_all, write_all,
+    MOST_BYTES, MemSink, MemSource, ReadEnd, ReadStep, ReaderSource, Sink, Source, WriteFailed,
+    WriteStep, WriterSink, read_all, write_all,
 };
 
 // A reader that gives one byte and then only fails.
@@ -75,20 +75,6 @@ fn a_sink_takes_pieces_and_fails_where_listed_and_full(rt: HostRuntime) -> Resul
 }
 
 #[test]
-fn a_fault_ends_the_moving(rt: HostRuntime) -> Result<(), Fail> {
-    let alloc = rt.alloc();
-    let mut source = MemSource::new(b"abcdefg".to_vec(alloc)?, 3, [2].to_vec(alloc)?);
-    assert_eq!(rt;
-        read_all(alloc, &mut source, MOST_BYTES).err(),
-        Some(ReadEnd::Failed)
-    );
-    let mut sink = MemSink::new(alloc, 100, 4, [2].to_vec(alloc)?)?;
-    assert_eq!(rt; write_all(&mut sink, b"abcdefg"), Err(WriteFailed));
-    assert_eq!(rt; sink.bytes(), b"abcd".as_slice());
-    Ok(())
-}
-
-#[test]
 fn a_reader_is_a_source(rt: HostRuntime) -> Result<(), Fail> {
     let alloc = rt.alloc();
     let mut source = ReaderSource::new(b"abc".as_slice());
@@ -117,23 +103,5 @@ fn a_writer_is_a_sink(rt: HostRuntime) -> Result<(), Fail> {
     let mut full = WriterSink::new(Full);
     assert_eq!(rt; write_all(&mut full, b"abc"), Err(WriteFailed));
     assert_eq!(rt; full.faults(), 1);
-    Ok(())
-}
-
-#[test]
-fn lists_grow_at_the_end(rt: HostRuntime) -> Result<(), Fail> {
-    let alloc = rt.alloc();
-    let mut seq: Seq<u8, 3> = Seq::new(alloc);
-    for one in [5, 6, 7] {
-        seq.push(one)?;
-    }
-    assert_eq!(rt; seq.push(8), Err((NoMemory, 8)));
-    assert_eq!(rt; seq.take_first(), Some(5));
-    if seq.items().len() == 2 {
-        assert_eq!(rt; seq.put(0, 9), 6);
-    }
-    assert_eq!(rt; seq.items(), [9, 7].as_slice());
-    assert_eq!(rt; (seq.pop(), seq.pop(), seq.pop()), (Some(7), Some(9), None));
-    assert_eq!(rt; seq.take_first(), None);
     Ok(())
 }

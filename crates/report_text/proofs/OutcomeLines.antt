@@ -9,10 +9,11 @@ use Rattle.letter_types.specs.declared.votes.Cause.{Cause}
 use Rattle.letter_types.specs.declared.votes.Vote.{Vote}
 use Rattle.tx_trees.specs.ScriptData.{ScriptData}
 use Rattle.tx_trees.specs.declared.parts.Sub.{Sub}
-use Rattle.board_model.specs.Ballots.{decision_in, tells_of, vote_in}
+use Rattle.board_rules.specs.Outcomes.{cause_by, cause_from, decision_in, got_by, got_from, vote_in}
+use Rattle.board_model.specs.Ballots.{tells_of}
 use Rattle.board_model.proofs.Voting.{decisions_kept, votes_kept}
 use Rattle.history_text.specs.TreeNames.{got_text, item_text}
-use Rattle.report_text.specs.Outcomes.{cause_by, cause_from, got_by, got_from, outcome_of, outcome_text, why_text}
+use Rattle.report_text.specs.Outcomes.{outcome_of, outcome_text, why_text}
 use Rattle.history_text.specs.Values.{get_text}
 
 pub got_text-append : (s : ScriptData) (vs more : List (ItemNo × Value)) → got_text s (vs ++ more) ≡ got_text s vs ++ got_text s more

@@ -10,7 +10,8 @@ use Rattle.tx_trees.specs.ScriptData.{ScriptData}
 use Rattle.tx_trees.specs.declared.parts.Tree.{Tree}
 use Rattle.tx_trees.specs.declared.parts.TreeKind.{TreeKind}
 use Rattle.tx_trees.specs.declared.parts.TreeKind.TheVariants.{Update, Read, Strict}
-use Rattle.board_model.specs.Ballots.{acts_in, ballots_from, ballots_of, tells_of}
+use Rattle.board_rules.specs.Outcomes.{acts_in}
+use Rattle.board_model.specs.Ballots.{ballots_from, ballots_of, tells_of}
 use Rattle.board_model.specs.declared.standings.Standing.{Standing}
 use Rattle.board_rules.specs.Histories.{places_of}
 use Rattle.report_text.specs.inside.Lines.{trees_lines, history_of_votes}

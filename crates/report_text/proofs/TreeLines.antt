@@ -16,7 +16,8 @@ use Rattle.tx_trees.specs.declared.parts.Tree.{Tree}
 use Rattle.tx_trees.specs.declared.parts.TreeKind.{TreeKind}
 use Rattle.tx_trees.specs.declared.parts.TreeKind.TheVariants.{Update, Read, Strict}
 use Rattle.board_model.specs.Balances.{by_number, worths}
-use Rattle.board_model.specs.Ballots.{acts_in, ballots_from, ballots_of, tells_of}
+use Rattle.board_rules.specs.Outcomes.{acts_in}
+use Rattle.board_model.specs.Ballots.{ballots_from, ballots_of, tells_of}
 use Rattle.board_rules.specs.Histories.{places_of, version_of}
 use Rattle.board_rules.specs.Right.{shown}
 use Rattle.board_model.specs.Standings.{standings_from, standings_of}

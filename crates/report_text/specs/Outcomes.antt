@@ -1,43 +1,12 @@
 -- How strict trees came out: the text of what was decided of them, by their votes.
-use Rattle.std.specs.Prelude.{ℕ, ◌+◌, Bool, true, false, List, [], ◌∷◌, ◌++◌, codes, Option, Some, None}
-use Rattle.std.specs.Option.{option_or}
-use Rattle.tv_base.specs.declared.numbers.ItemNo.{ItemNo}
-use Rattle.commute_ops.specs.declared.value.Value.{Value}
+use Rattle.std.specs.Prelude.{ℕ, ◌+◌, Bool, true, false, List, [], ◌++◌, codes, Option, Some, None}
 use Rattle.letter_types.specs.declared.acts.Act.{Act}
 use Rattle.letter_types.specs.declared.votes.Cause.{Cause}
-use Rattle.letter_types.specs.declared.votes.Vote.{Vote}
-use Rattle.letter_types.specs.declared.votes.Vote.TheVariants.{Yes, No}
 use Rattle.tx_trees.specs.ScriptData.{ScriptData}
 use Rattle.tx_trees.specs.declared.parts.Sub.{Sub}
-use Rattle.board_model.specs.Ballots.{decision_in, vote_in}
-use Rattle.board_rules.specs.Stands.{refusal_in}
+use Rattle.board_rules.specs.Outcomes.{cause_from, decision_in, got_from}
 use Rattle.history_text.specs.TreeNames.{cause_text, got_text}
 use Rattle.report_text.specs.Parts.{version_text}
-
--- the values that a vote gives
-abbrev pub got_of : Vote → List (ItemNo × Value)
-got_of (Yes values) = values
-got_of (No cause) = []
-
--- the same of a vote that may not be there
-abbrev pub got_by : Option Vote → List (ItemNo × Value)
-got_by None = []
-got_by (Some vote) = got_of vote
-
--- the cause that a vote names, which may not be there
-abbrev pub cause_by : Option Vote → Option Cause
-cause_by None = None
-cause_by (Some vote) = refusal_in vote
-
--- the values of the yes votes of tree t in these acts, by subtransaction, where the list begins with subtransaction k
-abbrev pub got_from : List Act → ℕ → ℕ → List Sub → List (ItemNo × Value)
-got_from acts t k [] = []
-got_from acts t k (sub ∷ subs) = got_by (vote_in t k acts) ++ got_from acts t (k + 1) subs
-
--- the cause of the first of these subtransactions that votes no
-abbrev pub cause_from : List Act → ℕ → ℕ → List Sub → Option Cause
-cause_from acts t k [] = None
-cause_from acts t k (sub ∷ subs) = option_or (cause_by (vote_in t k acts)) (cause_from acts t (k + 1) subs)
 
 -- a cause, if there is one
 abbrev pub why_text : ScriptData → Option Cause → List ℕ

@@ -13,7 +13,7 @@ use Rattle.tx_trees.specs.declared.parts.Tree.{Tree}
 use Rattle.tx_trees.specs.declared.parts.TreeKind.{TreeKind}
 use Rattle.tx_trees.specs.declared.parts.TreeKind.TheVariants.{Update, Read, Strict}
 use Rattle.tx_trees.specs.declared.parts.Written.{Written}
-use Rattle.board_model.specs.Ballots.{acts_in}
+use Rattle.board_rules.specs.Outcomes.{acts_in}
 use Rattle.board_rules.specs.Histories.{places_of, version_of}
 use Rattle.board_rules.specs.Right.{shown}
 use Rattle.board_rules.specs.Worth.{worth, is_written}

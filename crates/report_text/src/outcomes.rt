@@ -3,7 +3,8 @@ ghost use Rattle.std.specs.Prelude.{◌≡◌, ◌++◌, OnOk, codes};
 ghost use Rattle.std.specs.Option.{option_copied};
 ghost use Rattle.std.specs.Str.{IsAscii};
 ghost use Rattle.history_text.specs.TreeNames.{got_text};
-ghost use Rattle.report_text.specs.Outcomes.{cause_by, cause_from, decided_text, got_by, got_from, outcome_of, strict_line, why_text};
+ghost use Rattle.board_rules.specs.Outcomes.{cause_by, cause_from, got_by, got_from};
+ghost use Rattle.report_text.specs.Outcomes.{decided_text, outcome_of, strict_line, why_text};
 
 use crate::parts::push_version;
 use board_model::Ballot;

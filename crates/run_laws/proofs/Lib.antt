@@ -89,3 +89,4 @@ pub mod Overwritten
 pub mod SeenRows
 pub mod SeenByActs
 pub mod OtherValues
+pub mod replies_told

@@ -12,3 +12,4 @@ pub mod Roots
 pub mod Newest
 pub mod ValuesByActs
 pub mod VoteLocks
+pub mod Replies

@@ -6,7 +6,8 @@
 //! The locks of votes stand until a decision is applied, and a node sees what its own acts have made of its items. Each
 //! act follows its rule and is a move of the Board, and the root of a strict tree is born at once or waits by its home's
 //! numbers. What nodes read and vote is what items are worth, what reads show stays so, what strict trees that commit
-//! got and wrote has its place in the serial order, and which versions of an item its node holds.
+//! got and wrote has its place in the serial order, replies tell the client what trees did, and which versions of an
+//! item its node holds.
 #![tactic(auto)]
 
 mod acts;
@@ -15,6 +16,7 @@ mod held;
 mod moves;
 mod phases;
 mod reads;
+mod replies;
 mod roots;
 mod shown;
 mod stalls;
@@ -37,6 +39,10 @@ pub use phases::{
     requests_are_completions_and_letters, rounds_are_few, versions_keep_to_the_phase,
 };
 pub use reads::{reads_and_votes_are_right, votes_name_their_causes};
+pub use replies::{
+    aborted_replies_name_the_lowest_no, read_replies_show_what_is_worth,
+    replies_tell_what_was_done, trees_are_answered_once,
+};
 pub use roots::strict_roots_are_born_or_wait;
 pub use shown::{
     nothing_comes_to_what_is_shown, orders_are_given_before_or_in_quiet, orders_are_given_in_quiet,

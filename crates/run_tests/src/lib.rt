@@ -1,10 +1,12 @@
-//! Tests of whole runs: worlds step by step, schedules and pickers, and runs whose versions advance.
+//! Tests of steps and runs on one thread: steps made by one call, worlds letter by letter, and pickers.
 #![tactic(auto)]
 
 #[cfg(test)]
-mod advancing;
+mod actors;
 #[cfg(test)]
 mod common;
+#[cfg(test)]
+mod nodes;
 #[cfg(test)]
 mod schedules;
 #[cfg(test)]

@@ -1,14 +1,72 @@
-// Worlds whose oldest letter is taken again and again, and one actor's step.
+// What the actors of a world come to, letter by letter, and one actor's step made by one call.
 ghost use Rattle.world_core.specs.Actors.{IsWorldOf};
 
-use crate::common::{held_at, node_at, script_of, take};
-use letter_types::{Body, Letter, LetterId, Step};
+use crate::common::{letter, script_of, take};
+use commute_ops::{Amount, Value};
+use letter_types::Body;
 use sim_runner::Picks;
 use std::alloc::Global;
 use std::test::Fail;
-use tv_base::{ActorNo, NodeNo, Stamp, TreeNo, Version};
+use tv_base::{ActorNo, ItemNo, NodeNo, TreeNo, Version};
 use tx_trees::Script;
-use world_core::{ActorState, World, actor_step};
+use world_core::{ActorState, NodeState, World, actor_step};
+
+/// The state of a node, where there is one of this number.
+fn node_at<'a>(script: &Script, world: &'a World, node: u8) -> Option<&'a NodeState>
+    requires { IsWorldOf script.now world.now }
+{
+    if node >= script.nodes() {
+        return None;
+    }
+    match world.actor(ActorNo(node)) {
+        ActorState::Node(state) => Some(state),
+        _ => None,
+    }
+}
+
+/// The version and the sum at a place of an item of a node.
+fn sum_at(state: &NodeState, item: u32, place: usize) -> Option<(u64, Amount)> {
+    let entry = state.items().item(ItemNo(item))?.held().get(place)?;
+    match &entry.1 {
+        Value::Sum(sum) => Some((entry.0.0, sum.0)),
+        _ => None,
+    }
+}
+
+/// The first three versions of item 1 at node 1, each with its sum, once the first entries are made by the script's
+/// picks.
+fn held_after(
+    alloc: Global,
+    text: &[u8],
+    entries: u32,
+) -> Result<[Option<(u64, Amount)>; 3], Fail> {
+    let script = script_of(alloc, text)?;
+    let mut world = World::start(alloc, &script)?;
+    take(
+        &script,
+        &mut world,
+        &mut Picks::new(script.picks(), None),
+        entries,
+    )?;
+    let state = node_at(&script, &world, 1).ok_or("node 1")?;
+    Ok([
+        sum_at(state, 1, 0),
+        sum_at(state, 1, 1),
+        sum_at(state, 1, 2),
+    ])
+}
+
+/// The sixth entry is a step of version 1, and the fifth was one of version 2.
+const LATE_OLDER_STEP: &[u8] =
+    b"nodes,2\nitem,a,0,sum,10\nitem,b,1,sum,0\nupdate,t,0\nadd,a,5\nsub,0,1\nadd,b,7\n\
+    advance\nupdate,u,1\nadd,b,3\npick,0\npick,0\npick,0\npick,3\n";
+
+#[test]
+fn a_late_older_step_writes_the_newer_version_too(rt: HostRuntime) -> Result<(), Fail> {
+    let want = [Some((0, 0)), Some((1, 7)), Some((2, 10))];
+    assert!(rt; held_after(rt.alloc(), LATE_OLDER_STEP, 6)? == want);
+    Ok(())
+}
 
 /// Two items, 10 at node 0 and 0 at node 1, and a tree that adds 5 and 7 to them.
 const ONE_TREE: &[u8] =
@@ -28,27 +86,6 @@ fn counted(script: &Script, world: &World, node: u8, other: u8) -> Option<(u64, 
     ))
 }
 
-/// The requests of version 1 from a node to another, and the other's completions of them.
-fn pair(script: &Script, world: &World, from: u8, to: u8) -> Option<(u64, u64)>
-    requires { IsWorldOf script.now world.now }
-{
-    let (asked, _) = counted(script, world, from, to)?;
-    let (_, done) = counted(script, world, to, from)?;
-    Some((asked, done))
-}
-
-/// The pairs of both nodes: from node 0 to itself, from 0 to 1, from 1 to 0, and from 1 to itself.
-fn pairs(script: &Script, world: &World) -> [Option<(u64, u64)>; 4]
-    requires { IsWorldOf script.now world.now }
-{
-    [
-        pair(script, world, 0, 0),
-        pair(script, world, 0, 1),
-        pair(script, world, 1, 0),
-        pair(script, world, 1, 1),
-    ]
-}
-
 /// Whether the client has finished.
 fn has_finished(script: &Script, world: &World) -> bool
     requires { IsWorldOf script.now world.now }
@@ -59,68 +96,44 @@ fn has_finished(script: &Script, world: &World) -> bool
     }
 }
 
-// The history of this run is a case of the built program.
+/// What node 0 counts with itself and with node 1 once the first entries are made, and whether the client has finished.
+fn counted_after(alloc: Global, entries: u32) -> Result<([Option<(u64, u64)>; 2], bool), Fail> {
+    let script = script_of(alloc, ONE_TREE)?;
+    let mut world = World::start(alloc, &script)?;
+    take(&script, &mut world, &mut Picks::new(&[], None), entries)?;
+    let counts = [
+        counted(&script, &world, 0, 0),
+        counted(&script, &world, 0, 1),
+    ];
+    Ok((counts, has_finished(&script, &world)))
+}
+
+// After two entries the Sub is in flight. Then the Done has come, and at last the Reply too.
 #[test]
-fn a_tree_is_run_to_its_end(rt: HostRuntime) -> Result<(), Fail> {
-    let script = script_of(rt.alloc(), ONE_TREE)?;
-    let mut world = World::start(rt.alloc(), &script)?;
-    let mut oldest = Picks::new(&[], None);
-    take(&script, &mut world, &mut oldest, 2)?;
-    let want = [Some((1, 1)), Some((1, 0)), Some((0, 0)), Some((0, 0))];
-    assert_eq!(rt; pairs(&script, &world), want);
-    take(&script, &mut world, &mut oldest, 2)?;
-    let want = [Some((1, 1)), Some((1, 1)), Some((1, 1)), Some((0, 0))];
-    assert_eq!(rt; pairs(&script, &world), want);
-    assert!(rt; !has_finished(&script, &world));
-    take(&script, &mut world, &mut oldest, 2)?;
-    assert!(rt; has_finished(&script, &world));
-    assert_eq!(rt; world.waiting(), 0);
-    let want = [Some((0, 10)), Some((1, 15)), None];
-    assert_eq!(rt; held_at(&script, &world, 0, 0), want);
-    let want = [Some((0, 0)), Some((1, 7)), None];
-    assert_eq!(rt; held_at(&script, &world, 1, 1), want);
+fn a_tree_is_counted_and_answered(rt: HostRuntime) -> Result<(), Fail> {
+    let one = Some((1, 1));
+    let alloc = rt.alloc();
+    assert!(rt; counted_after(alloc, 2)? == ([one, Some((1, 0))], false));
+    assert!(rt; counted_after(alloc, 4)? == ([one, one], false));
+    assert!(rt; counted_after(alloc, 6)? == ([one, one], true));
     Ok(())
 }
 
-#[test]
-fn go_alone_is_taken_where_there_is_no_tree(rt: HostRuntime) -> Result<(), Fail> {
-    let script = script_of(rt.alloc(), b"nodes,1\nitem,a,0,sum,10\n")?;
-    let mut world = World::start(rt.alloc(), &script)?;
-    assert_eq!(rt; world.waiting(), 1);
-    take(&script, &mut world, &mut Picks::new(&[], None), 2)?;
-    assert_eq!(rt; world.waiting(), 0);
-    assert!(rt; has_finished(&script, &world));
-    let want = [Some((0, 10)), None, None];
-    assert_eq!(rt; held_at(&script, &world, 0, 0), want);
-    assert_eq!(rt; world.into_history().items().len(), 1);
-    Ok(())
-}
-
-/// What a node does with the client's Root of tree 0.
-fn at_root(alloc: Global, script: &Script, node: u8) -> Result<Step, Fail> {
+/// How many letters and acts a node has at the client's Root of tree 0.
+fn at_root(alloc: Global, node: u8) -> Result<(usize, usize), Fail> {
+    let script = script_of(alloc, ONE_TREE)?;
     if node >= script.nodes() {
         return Err("no node".into());
     }
-    let mut state = ActorState::start(alloc, script, ActorNo(node))?;
-    let letter = Letter {
-        id: LetterId {
-            stamp: Stamp(1),
-            place: 0,
-        },
-        from: ActorNo(3),
-        to: ActorNo(node),
-        body: Body::Root { tree: TreeNo(0) },
-    };
-    Ok(actor_step(alloc, &mut state, &letter, script)?)
+    let mut state = ActorState::start(alloc, &script, ActorNo(node))?;
+    let root = letter(3, node, Body::Root { tree: TreeNo(0) });
+    let step = actor_step(alloc, &mut state, &root, &script)?;
+    Ok((step.given.sent.items().len(), step.kept.acts.items().len()))
 }
 
 #[test]
 fn a_root_is_done_at_its_home_alone(rt: HostRuntime) -> Result<(), Fail> {
-    let script = script_of(rt.alloc(), ONE_TREE)?;
-    for (node, letters, acts) in [(0, 1, 2), (1, 0, 0)] {
-        let step = at_root(rt.alloc(), &script, node)?;
-        assert_eq!(rt; step.given.sent.items().len(), letters, "at {node}");
-        assert_eq!(rt; step.kept.acts.items().len(), acts, "at {node}");
-    }
+    assert_eq!(rt; at_root(rt.alloc(), 0)?, (1, 2));
+    assert_eq!(rt; at_root(rt.alloc(), 1)?, (0, 0));
     Ok(())
 }

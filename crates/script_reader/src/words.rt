@@ -1,5 +1,6 @@
 // The words that rows begin with, those of kinds, and names.
 ghost use Rattle.std.specs.Prelude.{◌≡◌, MatchOption, true, false};
+ghost use Rattle.std.specs.Str.{bytes_eq};
 ghost use Rattle.tx_trees.specs.Names.{is_name};
 ghost use Rattle.script_reader.specs.Words.{first_word, kind_of, later_word, len_fits, may_be_first, may_follow, op_word_of, rare_word_of, tree_kind_of, word_of};
 
@@ -34,14 +35,21 @@ pub(crate) enum RowWord {
     Fail,
 }
 
+// Whether a word is this one. A test of it is one call, and its proof half of that of `==` between slices.
+fn is_word(word: &[u8], one: &[u8]) -> bool
+    ensures { result ≡ bytes_eq word.now one.now }
+{
+    word == one
+}
+
 fn tree_kind_of(word: &[u8]) -> Option<TreeKind>
     ensures { result ≡ tree_kind_of word.now }
 {
-    if word == b"update".as_slice() {
+    if is_word(word, b"update") {
         Some(TreeKind::Update)
-    } else if word == b"read".as_slice() {
+    } else if is_word(word, b"read") {
         Some(TreeKind::Read)
-    } else if word == b"strict".as_slice() {
+    } else if is_word(word, b"strict") {
         Some(TreeKind::Strict)
     } else {
         None
@@ -51,15 +59,15 @@ fn tree_kind_of(word: &[u8]) -> Option<TreeKind>
 fn op_word_of(word: &[u8]) -> Option<OpWord>
     ensures { result ≡ op_word_of word.now }
 {
-    if word == b"add".as_slice() {
+    if is_word(word, b"add") {
         Some(OpWord::Add)
-    } else if word == b"top".as_slice() {
+    } else if is_word(word, b"top") {
         Some(OpWord::Top)
-    } else if word == b"put".as_slice() {
+    } else if is_word(word, b"put") {
         Some(OpWord::Put)
-    } else if word == b"set".as_slice() {
+    } else if is_word(word, b"set") {
         Some(OpWord::Set)
-    } else if word == b"draw".as_slice() {
+    } else if is_word(word, b"draw") {
         Some(OpWord::Draw)
     } else {
         None
@@ -70,19 +78,19 @@ fn op_word_of(word: &[u8]) -> Option<OpWord>
 fn rare_word(word: &[u8]) -> Option<RowWord>
     ensures { result ≡ rare_word_of word.now }
 {
-    if word == b"threev".as_slice() {
+    if is_word(word, b"threev") {
         Some(RowWord::Form)
-    } else if word == b"nodes".as_slice() {
+    } else if is_word(word, b"nodes") {
         Some(RowWord::Nodes)
-    } else if word == b"advance".as_slice() {
+    } else if is_word(word, b"advance") {
         Some(RowWord::Advance)
-    } else if word == b"settle".as_slice() {
+    } else if is_word(word, b"settle") {
         Some(RowWord::Settle)
-    } else if word == b"pick".as_slice() {
+    } else if is_word(word, b"pick") {
         Some(RowWord::Pick)
-    } else if word == b"lose".as_slice() {
+    } else if is_word(word, b"lose") {
         Some(RowWord::Lose)
-    } else if word == b"fail".as_slice() {
+    } else if is_word(word, b"fail") {
         Some(RowWord::Fail)
     } else {
         None
@@ -93,11 +101,11 @@ fn rare_word(word: &[u8]) -> Option<RowWord>
 fn row_word(word: &[u8]) -> Option<RowWord>
     ensures { result ≡ word_of word.now }
 {
-    if word == b"sub".as_slice() {
+    if is_word(word, b"sub") {
         Some(RowWord::Sub)
-    } else if word == b"get".as_slice() {
+    } else if is_word(word, b"get") {
         Some(RowWord::Get)
-    } else if word == b"item".as_slice() {
+    } else if is_word(word, b"item") {
         Some(RowWord::Item)
     } else if let Some(op) = op_word_of(word) {
         Some(RowWord::Op(op))
@@ -174,11 +182,11 @@ pub(crate) fn len_fits(word: RowWord, len: usize) -> bool
 pub(crate) fn kind_of(word: &[u8]) -> Option<Kind>
     ensures { result ≡ kind_of word.now }
 {
-    if word == b"sum".as_slice() {
+    if is_word(word, b"sum") {
         Some(Kind::Sum)
-    } else if word == b"top".as_slice() {
+    } else if is_word(word, b"top") {
         Some(Kind::Top)
-    } else if word == b"bag".as_slice() {
+    } else if is_word(word, b"bag") {
         Some(Kind::Bag)
     } else {
         None

@@ -5,7 +5,7 @@ use crate::words::words_of;
 use board_judge::Judge;
 use letter_types::History;
 use script_reader::read_script;
-use std::alloc::{AllocError, Global};
+use std::alloc::Global;
 use std::sync::Wait;
 use std::sync::atomic::{AtomicU64, Ordering};
 use std::test::Fail;
@@ -112,35 +112,23 @@ impl Gate for EveryThird {
     }
 }
 
-/// What a call gave and left.
-#[derive(Drop)]
-struct Ran {
-    status: u8,
-    history: History,
-    out: MemSink,
-}
-
-fn call<R: Threads + Wait + Sync, G: Gate + Sync>(
+/// The history of a call over ends in memory, where it ends with status 0 and writes a text that ends with this one.
+fn history_of<R: Threads + Wait + Sync, G: Gate + Sync>(
     rt: &R,
     alloc: Global,
     line: &[&str],
-    script: &str,
+    (script, text): (&str, &str),
     gate: &G,
-) -> Result<Ran, AllocError> {
+) -> Result<History, Fail> {
     let words = words_of(alloc, line)?;
     let mut source = MemSource::new(script.as_bytes().to_vec(alloc)?, 64, Vec::new(alloc));
-    let Ok(mut out) = MemSink::new(alloc, 2000, 64, Vec::new(alloc)) else {
-        return Err(AllocError);
-    };
-    let Ok(mut err) = MemSink::new(alloc, 100, 64, Vec::new(alloc)) else {
-        return Err(AllocError);
-    };
+    let mut out = MemSink::new(alloc, 2000, 64, Vec::new(alloc))?;
+    let mut err = MemSink::new(alloc, 100, 64, Vec::new(alloc))?;
     let ended = threev(rt, alloc, &words, &mut source, &mut out, &mut err, gate);
-    Ok(Ran {
-        status: ended.status,
-        history: ended.history,
-        out,
-    })
+    if ended.status != 0 || !out.bytes().ends_with(text.as_bytes()) {
+        return Err("another status or text".into());
+    }
+    Ok(ended.history)
 }
 
 fn entries_of(history: &History, actor: u8) -> u64 {
@@ -169,10 +157,8 @@ fn met(gate: &Meeting, history: &History, actors: u8) -> bool
 fn two_nodes_step_side_by_side(rt: HostRuntime) -> Result<(), Fail> {
     let gate = Meeting::new();
     let words = ["threev", "--mode", "run", "--workers", "4"];
-    let ran = call(&rt, rt.alloc(), &words, TWO_TREES, &gate)?;
-    assert_eq!(rt; ran.status, 0);
-    assert_eq!(rt; ran.out.bytes(), TWO_TREES_TEXT.as_bytes());
-    assert!(rt; met(&gate, &ran.history, 4));
+    let history = history_of(&rt, rt.alloc(), &words, (TWO_TREES, TWO_TREES_TEXT), &gate)?;
+    assert!(rt; met(&gate, &history, 4));
     Ok(())
 }
 
@@ -186,10 +172,27 @@ fn a_generated_run_steps_side_by_side(rt: HostRuntime) -> Result<(), Fail> {
         "--trees=2",
         "--workers=4",
     ];
-    let ran = call(&rt, rt.alloc(), &words, "", &gate)?;
-    assert_eq!(rt; ran.status, 0);
-    assert!(rt; met(&gate, &ran.history, 6));
+    let history = history_of(
+        &rt,
+        rt.alloc(),
+        &words,
+        ("", "total sum 28000 top 0\n"),
+        &gate,
+    )?;
+    assert!(rt; met(&gate, &history, 6));
     Ok(())
+}
+
+/// Whether a judge takes the whole history of a script, at whose end the client has finished.
+fn is_right(alloc: Global, script: &[u8], history: &History) -> Result<bool, Fail> {
+    let script = read_script(alloc, script)?;
+    let mut judge = Judge::new(alloc, &script)?;
+    for entry in history.items() {
+        if judge.take(entry).is_err() {
+            return Ok(false);
+        }
+    }
+    Ok(judge.is_finished())
 }
 
 #[test]
@@ -199,14 +202,8 @@ fn a_node_that_is_held_back_changes_no_text(rt: HostRuntime) -> Result<(), Fail>
         second: AtomicU64::new(0),
     };
     let words = ["threev", "--mode", "run", "--workers", "4"];
-    let ran = call(&rt, rt.alloc(), &words, WHOLE_ADVANCEMENT, &gate)?;
-    assert_eq!(rt; ran.status, 0);
-    assert_eq!(rt; ran.out.bytes(), WHOLE_ADVANCEMENT_TEXT.as_bytes());
-    let script = read_script(rt.alloc(), WHOLE_ADVANCEMENT.as_bytes())?;
-    let mut judge = Judge::new(rt.alloc(), &script)?;
-    for entry in ran.history.items() {
-        assert!(rt; judge.take(entry).is_ok());
-    }
-    assert!(rt; judge.is_finished());
+    let ends = (WHOLE_ADVANCEMENT, WHOLE_ADVANCEMENT_TEXT);
+    let history = history_of(&rt, rt.alloc(), &words, ends, &gate)?;
+    assert!(rt; is_right(rt.alloc(), WHOLE_ADVANCEMENT.as_bytes(), &history)?);
     Ok(())
 }

@@ -1,5 +1,5 @@
 use Rattle.std.proofs.Common.{◌≡◌, drop}
-use Rattle.report_text.specs.Outcomes.{cause_from}
+use Rattle.board_rules.specs.Outcomes.{cause_from}
 use Rattle.report_text.proofs.outcomes.first_cause.Given as goal
 
 abbrev pub invariant-loop-k : goal.invariant-loop-k

@@ -4,10 +4,9 @@ use Rattle.letter_types.specs.declared.acts.Act.{Act}
 use Rattle.letter_types.specs.declared.votes.Vote.{Vote}
 use Rattle.tx_trees.specs.ScriptData.{ScriptData}
 use Rattle.tx_trees.specs.declared.parts.Sub.{Sub}
-use Rattle.board_model.specs.Ballots.{vote_in}
+use Rattle.board_rules.specs.Outcomes.{got_by, got_from, vote_in}
 use Rattle.board_model.proofs.Walk.{opened}
 use Rattle.history_text.specs.TreeNames.{got_text}
-use Rattle.report_text.specs.Outcomes.{got_by, got_from}
 use Rattle.report_text.proofs.OutcomeLines.{got_text-append}
 use Rattle.report_text.proofs.outcomes.push_all_got.Goals as goal
 

@@ -1,6 +1,6 @@
 use Rattle.std.proofs.Common.{◌≡◌, ◌++◌, drop}
 use Rattle.history_text.specs.TreeNames.{got_text}
-use Rattle.report_text.specs.Outcomes.{got_from}
+use Rattle.board_rules.specs.Outcomes.{got_from}
 use Rattle.report_text.proofs.outcomes.push_all_got.Given as goal
 
 abbrev pub invariant-loop-k : goal.invariant-loop-k

@@ -1,5 +1,5 @@
 use Rattle.std.proofs.Common.{◌≡◌, map, drop}
-use Rattle.board_model.specs.Ballots.{decision_in}
+use Rattle.board_rules.specs.Outcomes.{decision_in}
 use Rattle.board_model.proofs.ballots.Ballot.decision.Given as goal
 
 abbrev pub invariant-loop-act : goal.invariant-loop-act

@@ -1,5 +1,5 @@
 use Rattle.std.proofs.Common.{◌≡◌, map, drop}
-use Rattle.board_model.specs.Ballots.{vote_in}
+use Rattle.board_rules.specs.Outcomes.{vote_in}
 use Rattle.board_model.proofs.ballots.Ballot.vote.Given as goal
 
 abbrev pub invariant-loop-act : goal.invariant-loop-act

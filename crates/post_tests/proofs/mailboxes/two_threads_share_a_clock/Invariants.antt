@@ -1,4 +1,0 @@
-use Rattle.post_tests.proofs.mailboxes.two_threads_share_a_clock.Given as goal
-
-abbrev pub ghosts-run : goal.ghosts-run
-ghosts-run g a = record { post = a.parts.post }
