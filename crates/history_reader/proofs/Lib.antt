@@ -23,4 +23,3 @@ pub mod SentTaken
 pub mod Spent
 pub mod Walked
 pub mod WalkEnds
-pub mod AddedFirst

@@ -1,6 +1,6 @@
 // The letters that are in flight, by the stamp of the entry that sent them and their place there.
-ghost use Rattle.std.specs.Prelude.{◌≡◌, [], ◌∷◌, ◌++◌, ◌+◌, ◌-◌, ◌<◌, ◌^◌, true, false, length, IfOk, IsNone, IsSome, OnOk, OnErr, slice_get};
-ghost use Rattle.history_reader.specs.inside.Finding.{addressed, addressee_of, go_left, left_without, letter_by, letter_for, letter_of, spent_at, spent_by, with_sent};
+ghost use Rattle.std.specs.Prelude.{◌≡◌, [], ◌∷◌, ◌++◌, ◌+◌, ◌-◌, ◌<◌, ◌^◌, true, false, length, IsSome, OnOk, OnErr, slice_get};
+ghost use Rattle.history_reader.specs.inside.Finding.{addressee_of, go_left, left_without, letter_by, letter_for, letter_of, spent_at, spent_by};
 
 use letter_types::{Body, Entry, Letter, LetterId, Letters, Outgoing, copy_letters, go};
 use std::alloc::Global;
@@ -49,41 +49,16 @@ impl InFlight {
     }
 
     // Takes the letter of an entry, where the entry may come next: its stamp is the next one, and the letter is in
-    // flight and addressed to its actor. What the entry sent is in flight then. None where it may not. Where no memory
-    // is found, all is as it was: what the entry sent is added before its letter is taken.
-    pub(crate) fn go_on(
-        &mut self,
-        alloc: Global,
-        client: ActorNo,
-        entry: &Entry,
-    ) -> Result<Option<Letter>, NoMemory>
+    // flight and addressed to its actor. None where it may not.
+    pub(crate) fn letter_for(&mut self, client: ActorNo, entry: &Entry) -> Option<Letter>
         requires { length self.old.senders + 1 < 2 ^ 64 }
-        ensures letter { IfOk result (λ letter. letter ≡ letter_for client.0 self.old entry.now) }
-        ensures left { IfOk result (λ letter. IsSome letter
-            → self.new ≡ with_sent entry.now (left_without entry.now.took.id self.old)) }
-        ensures none { IfOk result (λ letter. IsNone letter → length self.new.senders ≡ length self.old.senders) }
-        ensures err { OnErr result (self.new ≡ self.old) }
-    {
-        let count = self.count();
-        if entry.stamp.0 != count + 1 || entry.took.id.stamp.0 > count {
-            return Ok(None);
-        }
-        self.add(alloc, entry)?;
-        match self.take_for(client, entry) {
-            Some(letter) => Ok(Some(letter)),
-            None => {
-                let _last = self.senders.pop();
-                Ok(None)
-            }
-        }
-    }
-
-    // Takes the letter of an entry. None where it isn't in flight, or is addressed to another.
-    fn take_for(&mut self, client: ActorNo, entry: &Entry) -> Option<Letter>
-        ensures letter { result ≡ addressed entry.now.actor (letter_of client.0 self.old entry.now.took.id) }
+        ensures letter { result ≡ letter_for client.0 self.old entry.now }
         ensures left { IsSome result → self.new ≡ left_without entry.now.took.id self.old }
         ensures count { length self.new.senders ≡ length self.old.senders }
     {
+        if entry.stamp.0 != self.count() + 1 {
+            return None;
+        }
         let letter = self.take(client, entry.took.id)?;
         if letter.to == entry.actor {
             Some(letter)
@@ -117,10 +92,12 @@ impl InFlight {
         Some(go(client))
     }
 
-    // What an entry sent is in flight. Where no memory is found all is as it was.
-    fn add(&mut self, alloc: Global, entry: &Entry) -> Result<(), NoMemory>
-        ensures ok { OnOk result (self.new ≡ with_sent entry.now self.old) }
-        ensures err { OnErr result (self.new ≡ self.old) }
+    // What an entry sent is in flight. No memory leaves as many senders as there were.
+    pub(crate) fn add(&mut self, alloc: Global, entry: &Entry) -> Result<(), NoMemory>
+        ensures begun { self.new.begun ≡ self.old.begun }
+        ensures ok { OnOk result (self.new.senders ≡ self.old.senders
+            ++ record { from = entry.now.actor; sent = entry.now.sent } ∷ []) }
+        ensures err { OnErr result (self.new.senders ≡ self.old.senders) }
     {
         let sent = copy_letters(alloc, &entry.sent)?;
         self.senders.push(Sender {

@@ -85,15 +85,13 @@ impl<'a> Walk<'a> {
         }
     }
 
-    /// The next entry, with the letter that it took. None at the text's end, where the walk stays as it is, as it does
-    /// where no memory is found. It takes time in proportion to the entry's lines. Of a walk that stopped at a fault of
-    /// the text nothing more is promised.
+    /// The next entry, with the letter that it took. None at the text's end, where the walk stays as it is. It takes
+    /// time in proportion to the entry's lines. Of a walk that has failed nothing more is promised.
     pub fn next(&mut self) -> Result<Option<Entry>, Fault>
         ensures some { IfOk result (λ next. IfSome next (λ e. ComesBehind self.old e self.new)) }
         ensures none { IfOk result (λ next. IsNone next → (self.old.rest ≡ []) × (self.new ≡ self.old)) }
         ensures text { result ≡ Err Fault.Text → IsUnread self.old.script self.old.rest }
         ensures postal { result ≡ Err Fault.Postal → IsUnpostedAt self.old }
-        ensures memory { result ≡ Err Fault.NoMemory → self.new ≡ self.old }
         ensures script { self.new.script ≡ self.old.script }
     {
         if self.rest.is_empty() {
@@ -103,10 +101,10 @@ impl<'a> Walk<'a> {
             return Err(Fault::Text);
         };
         let Heard { entry, length } = heard;
-        let client = client(self.script);
-        let Some(letter) = self.letters.go_on(self.alloc, client, &entry)? else {
+        let Some(letter) = self.letters.letter_for(client(self.script), &entry) else {
             return Err(Fault::Postal);
         };
+        self.letters.add(self.alloc, &entry)?;
         self.rest = &self.rest[length..];
         Ok(Some(entry_with(entry, letter)))
     }

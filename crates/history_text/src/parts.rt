@@ -34,17 +34,6 @@ impl<'a> Parts<'a> {
         }
     }
 
-    /// The parts that are left, once more.
-    pub(crate) fn again(&self) -> Parts<'a>
-        ensures { result ≡ self.now }
-    {
-        Parts {
-            text: self.text,
-            byte: self.byte,
-            more: self.more,
-        }
-    }
-
     /// The next part. None exactly where none is left.
     #[tactic(auto, using(crate::proofs::Cuts::one_part, crate::proofs::Cuts::first_part))]
     pub fn next(&mut self) -> Option<&'a [u8]>

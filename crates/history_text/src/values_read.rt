@@ -158,21 +158,12 @@ fn kind_of(script: &Script, item: ItemNo) -> Kind
 }
 
 /// The values that are left, each behind its item and `=`. Running out of memory is the only error.
+#[tactic(auto, using(crate::proofs::Each::each_fails, crate::proofs::Each::one_more))]
 pub fn read_values(
     alloc: Global,
     script: &Script,
-    words: &Parts,
+    words: &mut Parts,
 ) -> Result<Option<Values>, NoMemory>
-    ensures { IfOk result (λ read. IsReadBack (got_words script.now) (AreGot script.now) words.now read) }
-{
-    let mut left = words.again();
-    let read = read_all(alloc, script, &mut left)?;
-    Ok(read)
-}
-
-// The same, word by word.
-#[tactic(auto, using(crate::proofs::Each::each_fails, crate::proofs::Each::one_more))]
-fn read_all(alloc: Global, script: &Script, words: &mut Parts) -> Result<Option<Values>, NoMemory>
     ensures { IfOk result (λ read. IsReadBack (got_words script.now) (AreGot script.now) words.old read) }
 {
     let mut values = Values::new(alloc);

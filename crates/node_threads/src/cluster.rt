@@ -6,7 +6,7 @@ ghost use Rattle.history_merge.specs.Histories.{HasReceiptEntry};
 ghost use Rattle.history_merge.specs.OwnLogs.{Delivered};
 
 use crate::cell::ActorCell;
-use crate::finishing::{closed_again, is_whole, logs_of, opened, room_for_cells};
+use crate::finishing::{check_whole, closed_again, logs_of, opened, room_for_cells};
 use actor_schedule::Dispatch;
 use crossbeam_utils::CachePadded;
 use history_merge::{ClusterName, Made, Recorder, gathered};
@@ -139,8 +139,10 @@ impl<'a, K: ClusterName, G: Gate> Cluster<'a, K, G> {
         if cell.number() != to {
             return Err((NoMemory, envelope));
         }
-        let out = cell.handle(self.alloc, &self.post, envelope, self.script, made)?;
-        Ok(out)
+        match cell.handle(self.alloc, &self.post, envelope, self.script, made) {
+            Ok(out) => Ok(out),
+            Err((NoMemory, envelope)) => Err((NoMemory, envelope)),
+        }
     }
 
     /// Hands the entries in that were made, and records all that are next (`Recorder::record`). Where no memory is found
@@ -192,7 +194,7 @@ impl<'a, K: ClusterName, G: Gate> Cluster<'a, K, G> {
         } = self;
         let cells = opened(cells, room.opened);
         let recorder = recorder.into_inner().into_inner();
-        if !is_whole(cells.as_slice(), recorder.count()) {
+        if let Err(NoMemory) = check_whole(cells.as_slice(), recorder.count()) {
             let cluster = Cluster {
                 alloc,
                 script,

@@ -1,7 +1,8 @@
 // The cells of a cluster that finishes: out of their locks, put back, and without their states.
-ghost use Rattle.std.specs.Prelude.{◌≡◌, ◌≤◌, ◌<◌, ◌↔◌, ◌^◌, length, map, sum_by, IfOk, SomeIff, IsTrue};
+ghost use Rattle.std.specs.Prelude.{◌≡◌, ◌≤◌, true, length, map, sum_by, IfOk, IfSome, OnOk};
+ghost use Rattle.tv_base.specs.declared.numbers.TheConstants.{MOST_ENTRIES};
 ghost use Rattle.history_merge.specs.Merging.{HasRoom, NumberedBy};
-ghost use Rattle.node_threads.specs.Cells.{HasAllEntries, cell_data};
+ghost use Rattle.node_threads.specs.Cells.{cell_data};
 
 use crate::cell::ActorCell;
 use crossbeam_utils::CachePadded;
@@ -69,7 +70,7 @@ pub(crate) fn closed_again<K: ClusterName>(
 
 // Whether each cell's number is its place: no clause ties a lock's place to what lies under it.
 fn are_in_order<K: ClusterName>(cells: &[ActorCell<K>]) -> bool
-    ensures { IsTrue result ↔ NumberedBy (λ c. c.number) 0 cells.now }
+    ensures { result ≡ true → NumberedBy (λ c. c.number) 0 cells.now }
 {
     for (place, cell) in cells.iter().enumerate() {
         if cell.number().0 as usize != place {
@@ -81,7 +82,7 @@ fn are_in_order<K: ClusterName>(cells: &[ActorCell<K>]) -> bool
 
 // How many entries the cells have together. None where that is past the largest number.
 fn count_entries<K: ClusterName>(cells: &[ActorCell<K>]) -> Option<usize>
-    ensures { let all = sum_by (λ c. length c.entries) cells.now in SomeIff result (all < 2 ^ 64) all }
+    ensures { IfSome result (λ count. count ≡ sum_by (λ c. length c.entries) cells.now) }
 {
     let mut count: usize = 0;
     for cell in cells {
@@ -92,10 +93,24 @@ fn count_entries<K: ClusterName>(cells: &[ActorCell<K>]) -> Option<usize>
 
 // Whether the cells are in order, and as many entries are recorded as they have, which may be no more than a history
 // takes.
-pub(crate) fn is_whole<K: ClusterName>(cells: &[ActorCell<K>], recorded: usize) -> bool
-    ensures { IsTrue result ↔ HasAllEntries cells.now recorded }
+pub(crate) fn check_whole<K: ClusterName>(
+    cells: &[ActorCell<K>],
+    recorded: usize,
+) -> Result<(), NoMemory>
+    ensures order { OnOk result (NumberedBy (λ c. c.number) 0 cells.now) }
+    ensures whole { OnOk result (recorded ≡ sum_by (λ c. length c.entries) cells.now) }
+    ensures few { OnOk result (recorded ≤ MOST_ENTRIES) }
 {
-    are_in_order(cells) && count_entries(cells) == Some(recorded) && recorded <= MOST_ENTRIES
+    if !are_in_order(cells) {
+        return Err(NoMemory);
+    }
+    if count_entries(cells) != Some(recorded) {
+        return Err(NoMemory);
+    }
+    if recorded > MOST_ENTRIES {
+        return Err(NoMemory);
+    }
+    Ok(())
 }
 
 // The actors' own logs, in the room for them.

@@ -1,9 +1,8 @@
 // What workers do with a cluster's letters.
-ghost use Rattle.std.specs.Prelude.{◌≡◌, ◌<◌, ◌-◌, ◌⊎◌, [], length, slice_get, IfErr, IfOk, IfSome, OnOk};
+ghost use Rattle.std.specs.Prelude.{◌≡◌, ◌<◌, [], IfErr, IfOk, IfSome};
 ghost use Rattle.actor_schedule.specs.Desks.{desk_data, empty_trays};
 ghost use Rattle.actor_schedule.specs.Stops.{AreOfPost, KeepsLetter};
 ghost use Rattle.actor_schedule.specs.declared.stop.Held.TheVariants as helds;
-ghost use Rattle.node_threads.specs.Benches.{Delivers, has_ended_by};
 
 use crate::cluster::Cluster;
 use actor_schedule::{Desk, Ending, Held};
@@ -48,9 +47,7 @@ fn or_stop(found: Result<(), NoMemory>) -> Result<(), (NoMemory, Held)>
 
 impl<K: ClusterName> Bench<K> {
     // Whether the client has finished with the entry that was made last.
-    fn has_finished(&self) -> bool
-        ensures { result ≡ has_ended_by (slice_get self.now.made.items (length self.now.made.items - 1)) }
-    {
+    fn has_finished(&self) -> bool {
         match self.made.back() {
             Some(last) => ends(&last.entry().acts),
             None => false,
@@ -76,12 +73,7 @@ impl<'a, K: ClusterName, G: Gate> Cluster<'a, K, G> {
         bench: &mut Bench<K>,
     ) -> Result<bool, (NoMemory, Held)>
         requires { envelope.post ≡ K.post }
-        ensures ok { OnOk result (Delivers K.post K.script envelope.letter bench.old.made.items bench.new.made.items
-            bench.old.desk.trays bench.new.desk.trays) }
-        ensures finished { IfOk result (λ f. f
-            ≡ has_ended_by (slice_get bench.new.made.items (length bench.new.made.items - 1))) }
-        ensures held { IfErr result (λ e. KeepsLetter K.post envelope e.1) }
-        ensures hand { bench.new.desk.hand ≡ bench.old.desk.hand }
+        ensures { IfErr result (λ e. KeepsLetter K.post envelope e.1) }
     {
         let out = match self.deliver(rt, envelope, &mut bench.made) {
             Ok(out) => out,
@@ -96,11 +88,7 @@ impl<'a, K: ClusterName, G: Gate> Cluster<'a, K, G> {
 
     // Puts what lies in the trays into the mailboxes, and hands the entries in where there are many. Where no memory is
     // found, what is left lies in the trays and among the entries.
-    fn put_by<R: Wait>(&self, rt: &R, bench: &mut Bench<K>) -> Result<(), NoMemory>
-        ensures trays { OnOk result (bench.new.desk.trays ≡ empty_trays K.post.actors) }
-        ensures hand { bench.new.desk.hand ≡ bench.old.desk.hand }
-        ensures made { (bench.new.made.items ≡ bench.old.made.items) ⊎ (bench.new.made.items ≡ []) }
-    {
+    fn put_by<R: Wait>(&self, rt: &R, bench: &mut Bench<K>) -> Result<(), NoMemory> {
         self.dispatch.flush(rt, &mut bench.desk)?;
         let count = bench.made.len();
         if count >= MOST_KEPT {

@@ -1,5 +1,5 @@
 -- Letters in flight, found by their ids.
-use Rattle.std.specs.Prelude.{if◌then◌else◌, ℕ, zero, suc, ◌+◌, ◌-◌, ◌==◌, Bool, true, false, ◌&&◌, not, List, [], ◌∷◌, ◌++◌, length, Option, Some, None, slice_get}
+use Rattle.std.specs.Prelude.{if◌then◌else◌, ℕ, zero, suc, ◌+◌, ◌-◌, ◌==◌, Bool, true, false, ◌&&◌, not, List, [], ◌∷◌, length, Option, Some, None, slice_get}
 use Rattle.tv_base.specs.declared.numbers.ActorNo.{ActorNo}
 use Rattle.letter_types.specs.declared.bodies.Body.{Body}
 use Rattle.letter_types.specs.declared.bodies.Body.TheVariants.{Go}
@@ -73,10 +73,6 @@ left_without_if false id letters =
 -- where the one of this id was taken
 abbrev pub left_without : LetterId → LettersLeft → LettersLeft
 left_without id letters = left_without_if (id.stamp.0 == 0) id letters
-
--- letters with those that an entry sent
-abbrev pub with_sent : Entry → LettersLeft → LettersLeft
-with_sent e letters = record { begun = letters.begun; senders = letters.senders ++ record { from = e.actor; sent = e.sent } ∷ [] }
 
 -- an entry with the letter that it took
 abbrev pub entry_with : Entry → Letter → Entry

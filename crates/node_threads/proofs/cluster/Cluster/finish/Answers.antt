@@ -8,4 +8,4 @@ use Rattle.node_threads.proofs.cluster.Cluster.finish.Goals as goal
 pub gathered-requires-clause-order : goal.gathered-requires-clause-order
 gathered-requires-clause-order g c =
     numbered_as (λ (x : CellData). x.number) (λ (l : LogData). cell_data l.number l.entries) 0 c.logs_of-logs.result.items
-    (subst (NumberedBy (λ (x : CellData). x.number) 0) (c.as_slice.ensures.value ∙ sym c.logs_of-logs.ensures) (c.is_whole.ensures.0 c.if-not-is_whole.false).order)
+    (subst (NumberedBy (λ (x : CellData). x.number) 0) (c.as_slice.ensures.value ∙ sym c.logs_of-logs.ensures) c.in_default-check_whole.ensures.order)
