@@ -42,13 +42,11 @@ fn held_after(
 ) -> Result<[Option<(u64, Amount)>; 3], Fail> {
     let script = script_of(alloc, text)?;
     let mut world = World::start(alloc, &script)?;
-    take(
-        &script,
-        &mut world,
-        &mut Picks::new(script.picks(), None),
-        entries,
-    )?;
-    let state = node_at(&script, &world, 1).ok_or("node 1")?;
+    let mut picks = Picks::new(script.picks(), None);
+    take(&script, &mut world, &mut picks, entries)?;
+    let Some(state) = node_at(&script, &world, 1) else {
+        return Ok([None; 3]);
+    };
     Ok([
         sum_at(state, 1, 0),
         sum_at(state, 1, 1),
@@ -100,7 +98,8 @@ fn has_finished(script: &Script, world: &World) -> bool
 fn counted_after(alloc: Global, entries: u32) -> Result<([Option<(u64, u64)>; 2], bool), Fail> {
     let script = script_of(alloc, ONE_TREE)?;
     let mut world = World::start(alloc, &script)?;
-    take(&script, &mut world, &mut Picks::new(&[], None), entries)?;
+    let mut oldest = Picks::new(&[], None);
+    take(&script, &mut world, &mut oldest, entries)?;
     let counts = [
         counted(&script, &world, 0, 0),
         counted(&script, &world, 0, 1),

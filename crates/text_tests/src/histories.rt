@@ -50,41 +50,36 @@ fn a_history_is_read_or_its_first_fault_is_named(rt: HostRuntime) -> Result<(), 
     Ok(())
 }
 
-/// What an item is worth at a version once a judge has taken the whole history, and whether the client has finished
-/// then. None where the judge refuses an entry, or the item has no sum.
-fn judged(
-    alloc: Global,
-    script: &Script,
-    item: ItemNo,
-    version: Version,
-) -> Result<Option<(Amount, bool)>, Fail> {
-    let history = read_history(alloc, script, SIX).map_err(|_| "no history")?;
-    let mut judge = Judge::new(alloc, script)?;
-    for entry in history.items() {
-        if judge.take(entry).is_err() {
-            return Ok(None);
-        }
+/// An item that starts with 10, and a tree that adds 5 to it.
+const ONE_ROOT: &[u8] = b"nodes,1\nitem,a,0,sum,10\nupdate,t,0\nadd,a,5\n";
+
+/// The lines of its first three entries.
+const THREE: &[u8] = b"entry 1 client took 0.0\nsent n0 root t\n\
+    entry 2 n0 took 1.0\nsent client reply t version 1\nact born t version 1\nact did t 0\n\
+    entry 3 client took 2.0\nsent coordinator nudge\nact finished\n";
+
+/// What the item is worth in version 1 once a judge has taken these entries, and whether the client has finished then.
+fn judged(alloc: Global) -> Result<(Amount, bool), Fail> {
+    let script = read_script(alloc, ONE_ROOT)?;
+    if script.items().is_empty() {
+        return Err("the script has no item".into());
     }
-    if item.0 as usize >= script.items().len() {
-        return Ok(None);
-    }
-    match judge.worth(item, version)? {
-        Value::Sum(sum) => Ok(Some((sum.0, judge.is_finished()))),
-        _ => Ok(None),
+    let history = read_history(alloc, &script, THREE).map_err(|_| "no history")?;
+    let [one, two, three] = history.items() else {
+        return Err("another history".into());
+    };
+    let mut judge = Judge::new(alloc, &script)?;
+    judge.take(one).map_err(|_| "entry 1")?;
+    judge.take(two).map_err(|_| "entry 2")?;
+    judge.take(three).map_err(|_| "entry 3")?;
+    match judge.worth(ItemNo(0), Version(1))? {
+        Value::Sum(sum) => Ok((sum.0, judge.is_finished())),
+        _ => Err("the item has no sum".into()),
     }
 }
 
 #[test]
 fn a_judge_knows_what_items_are_worth(rt: HostRuntime) -> Result<(), Fail> {
-    let alloc = rt.alloc();
-    let script = read_script(alloc, ONE_TREE)?;
-    assert_eq!(rt;
-        judged(alloc, &script, ItemNo(0), Version(1))?,
-        Some((15, true))
-    );
-    assert_eq!(rt;
-        judged(alloc, &script, ItemNo(1), Version(0))?,
-        Some((0, true))
-    );
+    assert_eq!(rt; judged(rt.alloc())?, (15, true));
     Ok(())
 }
