@@ -1,15 +1,14 @@
-// What the actors of a world come to, letter by letter, and one actor's step made by one call.
+// What the actors of a world come to, letter by letter.
 ghost use Rattle.world_core.specs.Actors.{IsWorldOf};
 
-use crate::common::{letter, script_of, take};
+use crate::common::{script_of, take};
 use commute_ops::{Amount, Value};
-use letter_types::Body;
 use sim_runner::Picks;
 use std::alloc::Global;
 use std::test::Fail;
-use tv_base::{ActorNo, ItemNo, NodeNo, TreeNo, Version};
+use tv_base::{ActorNo, ItemNo, NodeNo, Version};
 use tx_trees::Script;
-use world_core::{ActorState, NodeState, World, actor_step};
+use world_core::{ActorState, NodeState, World};
 
 /// The state of a node, where there is one of this number.
 fn node_at<'a>(script: &Script, world: &'a World, node: u8) -> Option<&'a NodeState>
@@ -115,24 +114,5 @@ fn a_tree_is_counted_and_answered(rt: HostRuntime) -> Result<(), Fail> {
     assert!(rt; counted_after(alloc, 2)? == ([one, Some((1, 0))], false));
     assert!(rt; counted_after(alloc, 4)? == ([one, one], false));
     assert!(rt; counted_after(alloc, 6)? == ([one, one], true));
-    Ok(())
-}
-
-/// How many letters and acts a node has at the client's Root of tree 0.
-fn at_root(alloc: Global, node: u8) -> Result<(usize, usize), Fail> {
-    let script = script_of(alloc, ONE_TREE)?;
-    if node >= script.nodes() {
-        return Err("no node".into());
-    }
-    let mut state = ActorState::start(alloc, &script, ActorNo(node))?;
-    let root = letter(3, node, Body::Root { tree: TreeNo(0) });
-    let step = actor_step(alloc, &mut state, &root, &script)?;
-    Ok((step.given.sent.items().len(), step.kept.acts.items().len()))
-}
-
-#[test]
-fn a_root_is_done_at_its_home_alone(rt: HostRuntime) -> Result<(), Fail> {
-    assert_eq!(rt; at_root(rt.alloc(), 0)?, (1, 2));
-    assert_eq!(rt; at_root(rt.alloc(), 1)?, (0, 0));
     Ok(())
 }

@@ -1,7 +1,7 @@
 use Rattle.std.proofs.Common.{◌∙◌, ap}
 use Rattle.pair_counters.specs.Counts.{no_counts}
-use Rattle.step_tests.proofs.Fresh.{fresh_ready, one_item}
-use Rattle.step_tests.proofs.nodes.first_node.Goals as goal
+use Rattle.run_tests.proofs.Fresh.{fresh_ready, one_item}
+use Rattle.run_tests.proofs.nodes.first_node.Goals as goal
 
 pub returns : goal.returns
 returns c =
