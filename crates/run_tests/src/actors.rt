@@ -1,12 +1,17 @@
-// Steps of the client and of both coordinators, made by one call each. Runs prepare a step and do it apart.
+// Steps of actors, made by one call each. Runs prepare a step and do it apart.
 use crate::common::{letter, script_of};
 use advance_coord::Coordinator;
 use client_rows::Client;
 use coord_restart::Restarting;
-use letter_types::{Body, Step};
+use letter_types::{Body, Letter, LetterId, Step};
 use std::alloc::Global;
 use std::test::Fail;
-use tv_base::NoMemory;
+use tv_base::{ActorNo, NoMemory, Stamp, TreeNo};
+use tx_trees::Script;
+use world_core::{ActorState, actor_step};
+
+/// Two trees of a root alone.
+const TWO_TREES: &[u8] = b"nodes,2\nupdate,s,1\nupdate,t,0\n";
 
 /// How many letters a step sends, and how many are kept of it.
 fn sent(step: &Step) -> (usize, usize) {
@@ -15,7 +20,7 @@ fn sent(step: &Step) -> (usize, usize) {
 
 /// What the client does at Go: both trees' roots go out.
 fn by_client(alloc: Global) -> Result<(usize, usize), Fail> {
-    let script = script_of(alloc, b"nodes,2\nupdate,s,1\nupdate,t,0\n")?;
+    let script = script_of(alloc, TWO_TREES)?;
     let mut client = Client::new(alloc, &script)?;
     let step = client.on(alloc, &letter(3, 3, Body::Go), &script)?;
     Ok(sent(&step))
@@ -35,8 +40,36 @@ fn by_restarting(alloc: Global) -> Result<(usize, usize), NoMemory> {
     Ok(sent(&step))
 }
 
+/// What a node does at the Root of tree 0, whose home is node 1: a Reply there, and nothing elsewhere.
+fn by_node(alloc: Global, script: &Script, node: u8) -> Result<(usize, usize), Fail> {
+    if node >= script.nodes() {
+        return Err("no node".into());
+    }
+    let mut state = ActorState::start(alloc, script, ActorNo(node))?;
+    let root = Letter {
+        id: LetterId {
+            stamp: Stamp(1),
+            place: 0,
+        },
+        from: ActorNo(3),
+        to: ActorNo(node),
+        body: Body::Root { tree: TreeNo(0) },
+    };
+    let step = actor_step(alloc, &mut state, &root, script)?;
+    Ok(sent(&step))
+}
+
 #[test]
-fn actors_step_by_one_call(rt: HostRuntime) -> Result<(), Fail> {
+fn a_node_steps_by_one_call(rt: HostRuntime) -> Result<(), Fail> {
+    let script = script_of(rt.alloc(), TWO_TREES)?;
+    for (node, want) in [(0, (0, 0)), (1, (1, 1))] {
+        assert_eq!(rt; by_node(rt.alloc(), &script, node)?, want);
+    }
+    Ok(())
+}
+
+#[test]
+fn others_step_by_one_call(rt: HostRuntime) -> Result<(), Fail> {
     let alloc = rt.alloc();
     assert_eq!(rt; by_client(alloc)?, (2, 2));
     assert_eq!(rt; by_coordinator(alloc)?, (2, 2));

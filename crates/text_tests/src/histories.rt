@@ -69,9 +69,10 @@ fn judged(alloc: Global) -> Result<(Amount, bool), Fail> {
         return Err("another history".into());
     };
     let mut judge = Judge::new(alloc, &script)?;
-    judge.take(one).map_err(|_| "entry 1")?;
-    judge.take(two).map_err(|_| "entry 2")?;
-    judge.take(three).map_err(|_| "entry 3")?;
+    let taken = [judge.take(one), judge.take(two), judge.take(three)];
+    if taken != [Ok(()); 3] {
+        return Err("an entry is refused".into());
+    }
     match judge.worth(ItemNo(0), Version(1))? {
         Value::Sum(sum) => Ok((sum.0, judge.is_finished())),
         _ => Err("the item has no sum".into()),
