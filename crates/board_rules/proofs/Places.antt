@@ -15,7 +15,7 @@ places_of-append (e ∷ a) b =
     ap (λ (xs : List Place). places_at e ++ xs) (places_of-append a b)
     ∙ sym (append_assoc (places_at e) (places_of a) (places_of b))
 
-option_or_assoc : {T : Type 0} (a b c : Option T) → option_or (option_or a b) c ≡ option_or a (option_or b c)
+pub option_or_assoc : {T : Type 0} (a b c : Option T) → option_or (option_or a b) c ≡ option_or a (option_or b c)
 option_or_assoc None b c = refl
 option_or_assoc (Some x) b c = refl
 

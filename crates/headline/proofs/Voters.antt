@@ -54,6 +54,7 @@ use Rattle.tree_laws.proofs.NodeLoads.{strict_there}
 use Rattle.tree_laws.proofs.Turns.{kind_version, work_version}
 use Rattle.run_laws.proofs.EveryApt.{all_apt}
 use Rattle.run_laws.proofs.KeptWhy.{keeps_rises}
+use Rattle.run_laws.proofs.StrictKinds.{kind_of_strict}
 
 -- The version that is updated never falls.
 raise_by : (turns : Turns) (v : ℕ) (test : Bool) → nat_lt turns.update.0 v ≡ test
@@ -125,11 +126,6 @@ both : (u t j k : ℕ) (test : Bool) → ((u == t) && (j == k)) ≡ test → 1 �
 both u t j k true is some = (grind (arith, nat_tests), grind (arith, nat_tests))
 both u t j k false is some = absurd (omega (arith, some))
 
-kind_strict : (s : ScriptData) (t : ℕ) → is_strict_at s t ≡ true → tree_kind_at s t ≡ Some Strict
-kind_strict s t strict =
-    let it = strict_there s t strict in
-    let kind : tree_kind_at s t ≡ Some it.tree.kind = rw (it.at, tree_kind_at) refl in kind ∙ ap (λ (k : TreeKind). Some k) it.kind
-
 -- a node does the letter that asks for it
 at_root : (s : ScriptData) (past : List Entry) (e : Entry) (p : ℕ) (r : Letter) (t k : ℕ) (u : TreeNo) → IsValid s → IsStepRun s (e ∷ past)
     → Does s past e p r → is_strict_at s t ≡ true → node_of s t k ≡ p → r.body ≡ Root u → u.0 ≡ t → IsRaised s (e ∷ past) t k
@@ -139,7 +135,7 @@ at_root s past e p r t k u valid run d strict node is ut =
     let v : Version = c.node.turns.update in
     let dated : DoneIn zs (work_version s c (Root u)) (Root u) =
     subst (λ (b : Body). DoneIn zs (work_version s c b) b) is (dated_here s past e p r valid (all_apt s past valid run.1) run d) in
-    let turn : kind_version c (tree_kind_at s u.0) ≡ v = ap (kind_version c) (ap (tree_kind_at s) ut ∙ kind_strict s t strict) in
+    let turn : kind_version c (tree_kind_at s u.0) ≡ v = ap (kind_version c) (ap (tree_kind_at s) ut ∙ kind_of_strict s t strict) in
     let born : version_in u.0 zs ≡ Some v =
     version_is (version_in u.0 zs) v (subst (λ (w : Version). is_version (version_in u.0 zs) w ≡ true) turn dated) in
     record {
@@ -157,7 +153,7 @@ at_sub s past e p r t k u j v valid run d strict node is ut =
     let dated : DoneIn zs (work_version s c (SubLetter u j v)) (SubLetter u j v) =
     subst (λ (b : Body). DoneIn zs (work_version s c b) b) is (dated_here s past e p r valid (all_apt s past valid run.1) run d) in
     let born : version_in u.0 zs ≡ Some v = version_is (version_in u.0 zs) v dated in
-    let kind : tree_kind_at s u.0 ≡ Some Strict = ap (tree_kind_at s) ut ∙ kind_strict s t strict in
+    let kind : tree_kind_at s u.0 ≡ Some Strict = ap (tree_kind_at s) ut ∙ kind_of_strict s t strict in
     let turns : (node_in s (e ∷ past) p).turns ≡ raised_to v c.node.turns =
     ap (λ (x : Core). x.node.turns) d.core
     ∙ ap (λ (b : Body). (core_row s p c r.from.0 b).state.node.turns) is

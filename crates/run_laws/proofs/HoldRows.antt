@@ -42,6 +42,7 @@ use Rattle.tree_laws.proofs.RunConflicts.{wanted_tree}
 use Rattle.tree_laws.proofs.Holding.{wanted_mark}
 use Rattle.world_model.proofs.Epochs.{order_each, ask_each}
 use Rattle.letter_types.specs.Steps.{Out}
+use Rattle.run_laws.proofs.StrictKinds.{strict_by_kind}
 
 -- no letter tells a decision on this tree
 abbrev pub IsNoDecision : ℕ → Body → Type 0
@@ -98,9 +99,6 @@ pub decided_table : (s : ScriptData) (c : Core) (o : TreeOut) (a : Option Answer
 decided_table s c o None = refl
 decided_table s c o (Some a) = refl
 
-strict_kind : (s : ScriptData) (t : ℕ) → tree_kind_at s t ≡ Some Strict → is_strict_at s t ≡ true
-strict_kind s t is = rw (is, is_strict_at) refl
-
 -- A root.
 root_by : (s : ScriptData) (p from : ℕ) (t : TreeNo) (c : Core) (l : Lock) → tree_kind_at s t.0 ≡ Some Strict
     → VoteTakes t c.node.turns.update (ops_of s t.0 0) c.locks c.node.items l
@@ -113,7 +111,7 @@ root_by s p from t c l is (New new none) =
     let vote : Vote = vote_of c.locks c.node.items t v os in
     let o : TreeOut = tree_part s p from v (nat_lt c.node.turns.update.0 v.0) (voting vote c.node.items) body c.node in
     let d : Core = record c { locks = locks_by vote t os c.locks; refusals = noted_vote body vote c.refusals } in
-    Taken t v os (wanted_tree t (wanted_by os) l new) (strict_kind s t.0 is) new none
+    Taken t v os (wanted_tree t (wanted_by os) l new) (strict_by_kind s t.0 is) new none
     (λ xs done. subst (λ (kind : Option TreeKind). is_version (version_in t.0 xs) (kind_version c kind) ≡ true) is done)
     (decided_table s d o o.answered) (decided_low s d o o.answered)
 
@@ -147,7 +145,7 @@ sub_by s p from t k v c l is (New new none) =
     let raises : Bool = nat_lt c.node.turns.update.0 v.0 in
     let o : TreeOut = tree_part s p from v raises (voting vote c.node.items) body c.node in
     let d : Core = record c { locks = locks_by vote t os c.locks; refusals = noted_vote body vote c.refusals } in
-    Taken t v os (wanted_tree t (wanted_by os) l new) (strict_kind s t.0 is) new none (λ xs done. done)
+    Taken t v os (wanted_tree t (wanted_by os) l new) (strict_by_kind s t.0 is) new none (λ xs done. done)
     (decided_table s d o o.answered) (decided_low s d o o.answered ∙ raised_low raises v.0 c.node.turns)
 
 sub_holds : (s : ScriptData) (p from : ℕ) (t : TreeNo) (k : SubNo) (v : Version) (kind : Option TreeKind) (c : Core) (l : Lock)

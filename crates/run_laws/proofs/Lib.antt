@@ -83,6 +83,7 @@ pub mod RowActs
 pub mod VoteLocks
 pub mod Agreed
 pub mod HeldItems
+pub mod StrictKinds
 pub mod HoldRows
 pub mod Newest
 pub mod Overwritten

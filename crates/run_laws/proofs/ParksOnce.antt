@@ -91,7 +91,7 @@ parked_uncalled t k h u j (ForHolder g) is = absurd (cc is)
 no_holder : (u t j k g h : ℕ) → (g == h) ≡ false → one_if ((u == t) && ((j == k) && (g == h))) ≡ 0
 no_holder u t j k g h is = grind (arith, nat_tests)
 
-told_by : (a b : Bool) → one_if (a && b) + one_if (a && not b) ≡ 0 → a ≡ false
+pub told_by : (a b : Bool) → one_if (a && b) + one_if (a && not b) ≡ 0 → a ≡ false
 told_by true true is = absurd (omega (arith, is))
 told_by true false is = absurd (omega (arith, is))
 told_by false b is = refl

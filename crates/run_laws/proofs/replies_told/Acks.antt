@@ -13,26 +13,14 @@ use Rattle.tree_home.specs.declared.homes.Answered.{Answered}
 use Rattle.tree_home.specs.declared.homes.Held.{Held}
 use Rattle.tree_home.specs.declared.homes.OpenTree.{OpenTree}
 use Rattle.tx_trees.specs.ScriptData.{ScriptData}
-use Rattle.tx_trees.specs.declared.parts.TreeKind.{TreeKind}
 use Rattle.tx_trees.specs.declared.parts.TreeKind.TheVariants.{Update, Read, Strict}
 use Rattle.world_model.specs.declared.refusal.Refusal.{Refusal}
 use Rattle.world_model.specs.Core.{Refusals}
 use Rattle.world_model.specs.Named.{is_strict_at, tree_kind_at}
 use Rattle.world_model.specs.Strict.{answer_by, refusals_after}
+use Rattle.run_laws.proofs.StrictKinds.{strict_by_kind}
 use Rattle.run_laws.proofs.replies_told.Homes.{put_cases}
 use Rattle.run_laws.proofs.replies_told.Told.{Answers, HeldTold, OpenTold, SaidNo, Told}
-
--- A strict tree's kind.
-pub strict_by : (s : ScriptData) (t : ℕ) → tree_kind_at s t ≡ Some Strict → is_strict_at s t ≡ true
-strict_by s t is = rw (is, is_strict_at) refl
-
-pub strict_kind : (s : ScriptData) (t : ℕ) → is_strict_at s t ≡ true → tree_kind_at s t ≡ Some Strict
-strict_kind s t is = by (tree_kind_at s t) refl where
-  by : (kind : Option TreeKind) → tree_kind_at s t ≡ kind → tree_kind_at s t ≡ Some Strict
-  by (Some Strict) at = at
-  by (Some Update) at = let isnt : is_strict_at s t ≡ false = rw (at, is_strict_at) refl in absurd (cc (is, isnt))
-  by (Some Read) at = let isnt : is_strict_at s t ≡ false = rw (at, is_strict_at) refl in absurd (cc (is, isnt))
-  by None at = let isnt : is_strict_at s t ≡ false = rw (at, is_strict_at) refl in absurd (cc (is, isnt))
 
 -- what is held of tree t changes
 held_put : (s : ScriptData) (does : List Act) (vs : ℕ → Option Version) (hs : OpenTrees) (holds : HeldAnswers) (rs : Refusals) (t : ℕ) (x : Option Held)
@@ -143,7 +131,7 @@ acked_answers s does vs hs holds rs t a is it = by (holds t.0) refl is where
         gathered = old.gathered;
         noes = it.noes t.0;
         strict = λ so. old.decided;
-        plain = λ so. let strict = strict_by s t.0 kind in absurd (cc (so, strict));
+        plain = λ so. let strict = strict_by_kind s t.0 kind in absurd (cc (so, strict));
       })
 
   last_by : (h : Held) → holds t.0 ≡ Some h → (test : Bool) → (if test then None else Some h.answered) ≡ Some a

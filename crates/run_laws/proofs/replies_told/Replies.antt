@@ -35,7 +35,7 @@ use Rattle.board_rules.specs.Outcomes.{acts_in, cause_by, cause_from, decision_i
 use Rattle.board_rules.specs.Histories.{places_of}
 use Rattle.run_laws.proofs.EveryApt.{all_apt}
 use Rattle.run_laws.specs.Replies.{AnswersAsDecided, AnswersByActs, IsLowestNo, IsRightReply, NamesCause, NamesLowestNo, RepliesNameNoes, RepliesTell, ReplyNamesNo}
-use Rattle.run_laws.proofs.replies_told.Acks.{strict_by}
+use Rattle.run_laws.proofs.StrictKinds.{strict_by_kind}
 use Rattle.run_laws.proofs.replies_told.Runs.{SentTold, all_sent, versions_before}
 use Rattle.run_laws.proofs.replies_told.Said.{acts_before, said_in}
 use Rattle.run_laws.proofs.replies_told.Senders.{FromHome, SentFromHome, all_from_home}
@@ -187,7 +187,7 @@ answers_by s does vs t v answer (Some Read) is it =
     it.says ∙ ap (λ (o : Option Refusal). answer_by o it.whole) (it.plain plain)
     ∙ ap Whole (gathered_read s does t it.least 0 (subs_at s t) it.whole.values is it.gathered)
 answers_by s does vs t v answer (Some Strict) is it =
-    as_decided s does t answer it.least it.whole.values is it.gathered it.noes (it.strict (strict_by s t is))
+    as_decided s does t answer it.least it.whole.values is it.gathered it.noes (it.strict (strict_by_kind s t is))
     (λ none. it.says ∙ ap (λ (o : Option Refusal). answer_by o it.whole) none) (λ r some. it.says ∙ ap (λ (o : Option Refusal). answer_by o it.whole) some)
 answers_by s does vs t v answer None is it = absurd (it.kind is)
 

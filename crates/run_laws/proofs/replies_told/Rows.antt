@@ -43,7 +43,8 @@ use Rattle.world_model.specs.Votes.{vote_of}
 use Rattle.board_rules.specs.Outcomes.{decision_in}
 use Rattle.tree_laws.proofs.Answering.{home_there}
 use Rattle.tree_laws.proofs.Turns.{each_told, kind_version, releases_none}
-use Rattle.run_laws.proofs.replies_told.Acks.{acked_answers, acked_told, strict_by, strict_kind}
+use Rattle.run_laws.proofs.replies_told.Acks.{acked_answers, acked_told}
+use Rattle.run_laws.proofs.StrictKinds.{kind_of_strict, strict_by_kind}
 use Rattle.run_laws.proofs.replies_told.Homes.{Given, begun_told, given, holding_told, last_closes, plain_noted, refused_minds, refused_told, strict_noted}
 use Rattle.run_laws.proofs.replies_told.Said.{decided_here, decision_new, said_here, said_in, said_new, said_stays, told_undecided, turned_said}
 use Rattle.run_laws.proofs.replies_told.Told.{Answers, FitsKind, Gathered, HeldTold, Minds, OutTold, Slot, Told, below_same, body_more, gathered_more, quiet, speaks, told_more}
@@ -132,7 +133,7 @@ strict_settles s does vs c t k values hs o (Some a) is homes answer strict versi
     (decided_here t (none_refuses t c.refusals) []) in
     let held : HeldTold s (now ++ more) vs t.0 (c.refusals t.0) (held_for n a) = record {
       names = ap (λ (u : TreeNo). u.0) tree;
-      strict = strict_kind s t.0 strict;
+      strict = kind_of_strict s t.0 strict;
       version = version g.home g.there ∙ ap Some (sym g.version);
       gathered = gathered_more s now more t.0 (c.refusals t.0) (c.refusals t.0) 0 (subs_at s t.0) a.values (below_same (c.refusals t.0)) g.values;
       decided = decision;
@@ -322,7 +323,7 @@ plain_minds s t (DidNotice values) kind o k is plain fits = tt
 plain_minds s t (Yes values) kind o k is plain fits = tt
 plain_minds s t (No cause) (Some Update) o k is plain fits = absurd (cc fits)
 plain_minds s t (No cause) (Some Read) o k is plain fits = absurd fits
-plain_minds s t (No cause) (Some Strict) o k is plain fits = let strict = strict_by s t is in absurd (cc (strict, plain))
+plain_minds s t (No cause) (Some Strict) o k is plain fits = let strict = strict_by_kind s t is in absurd (cc (strict, plain))
 plain_minds s t (No cause) None o k is plain fits = absurd fits
 
 note_row : (s : ScriptData) (does : List Act) (vs : ℕ → Option Version) (from : ℕ) (t : TreeNo) (k : SubNo) (v : Version) (notice : Notice) (c : Core) (strict : Bool)

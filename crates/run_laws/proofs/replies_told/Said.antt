@@ -3,6 +3,7 @@ use Rattle.std.proofs.Common.{◌≡◌, ℕ, ◌+◌, ◌==◌, ◌&&◌, Bool,
 use Rattle.std.specs.Prelude.{if◌then◌else◌}
 use Rattle.std.specs.Option.{option_or}
 use Rattle.std.proofs.lemmas.Bool.Decides.{nat_tests}
+use Rattle.tv_base.proofs.Truths.{same_test}
 use Rattle.tv_base.specs.declared.numbers.SubNo.{SubNo}
 use Rattle.tv_base.specs.declared.numbers.TreeNo.{TreeNo}
 use Rattle.letter_types.specs.declared.acts.Act.{Act}
@@ -12,7 +13,7 @@ use Rattle.letter_types.specs.declared.bodies.Notice.TheVariants.{Did as DidNoti
 use Rattle.letter_types.specs.declared.entries.Entry.{Entry}
 use Rattle.board_rules.specs.Outcomes.{acts_in, decision_by, decision_in}
 use Rattle.board_rules.specs.Histories.{Place, places_at, places_of}
-use Rattle.board_rules.proofs.Places.{places_more}
+use Rattle.board_rules.proofs.Places.{option_or_assoc, places_more}
 use Rattle.world_model.specs.Counts.{one_if, tally}
 use Rattle.world_model.specs.Done.{turned_if}
 use Rattle.world_model.specs.Notices.{act_of}
@@ -21,6 +22,7 @@ use Rattle.tree_laws.specs.Applied.{decided_as, has_decided}
 use Rattle.tree_laws.specs.Turns.{has_turn, turns}
 use Rattle.tree_laws.proofs.Acts.{acts_more, of_act}
 use Rattle.tree_laws.proofs.AptVersions.{before}
+use Rattle.run_laws.proofs.ParksOnce.{told_by}
 
 -- what the act tells of subtransaction k of tree t
 abbrev pub said_by : ℕ → ℕ → Act → Option Notice
@@ -35,19 +37,15 @@ said_in t k [] = None
 said_in t k (a ∷ does) = option_or (said_by t k a) (said_in t k does)
 
 -- More acts behind.
-or_assoc : {T : Type 0} (a b c : Option T) → option_or (option_or a b) c ≡ option_or a (option_or b c)
-or_assoc None b c = refl
-or_assoc (Some x) b c = refl
-
 said_append : (t k : ℕ) (does more : List Act) → said_in t k (does ++ more) ≡ option_or (said_in t k does) (said_in t k more)
 said_append t k [] more = refl
 said_append t k (a ∷ does) more =
-    ap (λ (o : Option Notice). option_or (said_by t k a) o) (said_append t k does more) ∙ sym (or_assoc (said_by t k a) (said_in t k does) (said_in t k more))
+    ap (λ (o : Option Notice). option_or (said_by t k a) o) (said_append t k does more) ∙ sym (option_or_assoc (said_by t k a) (said_in t k does) (said_in t k more))
 
 decision_append : (t : ℕ) (does more : List Act) → decision_in t (does ++ more) ≡ option_or (decision_in t does) (decision_in t more)
 decision_append t [] more = refl
 decision_append t (a ∷ does) more =
-    ap (λ (o : Option Bool). option_or (decision_by t a) o) (decision_append t does more) ∙ sym (or_assoc (decision_by t a) (decision_in t does) (decision_in t more))
+    ap (λ (o : Option Bool). option_or (decision_by t a) o) (decision_append t does more) ∙ sym (option_or_assoc (decision_by t a) (decision_in t does) (decision_in t more))
 
 pub said_stays : (t k : ℕ) (does more : List Act) (n : Notice) → said_in t k does ≡ Some n → said_in t k (does ++ more) ≡ Some n
 said_stays t k does more n is = said_append t k does more ∙ ap (λ (o : Option Notice). option_or o (said_in t k more)) is
@@ -79,11 +77,8 @@ told_undecided t u k (DidNotice values) more = refl
 told_undecided t u k (Yes values) more = refl
 told_undecided t u k (No cause) more = refl
 
-same_tree : (t : ℕ) → (t == t) ≡ true
-same_tree t = grind (arith, nat_tests)
-
 pub decided_here : (t : TreeNo) (b : Bool) (more : List Act) → decision_in t.0 (acts.Decided t b ∷ more) ≡ Some b
-decided_here t b more = rw (same_tree t.0) refl
+decided_here t b more = rw (same_test t.0) refl
 
 -- Where no act is counted, none tells.
 unsaid_by : (t k : ℕ) (u j : ℕ) (n : Notice) (rest : Option Notice) (test : Bool) → ((u == t) && (j == k)) ≡ test → one_if ((u == t) && (j == k)) ≡ 0 → rest ≡ None
@@ -100,15 +95,10 @@ unsaid t k (acts.Voted u j vote ∷ does) none =
 unsaid t k (acts.Finished ∷ does) none = unsaid t k does (omega (arith, none))
 unsaid t k (_ ∷ does) none = unsaid t k does (omega (arith, none))
 
-no_truth : (a b : Bool) → one_if (a && b) + one_if (a && not b) ≡ 0 → a ≡ false
-no_truth true true none = absurd (omega (arith, none))
-no_truth true false none = absurd (omega (arith, none))
-no_truth false b none = refl
-
 undecided : (t : ℕ) (does : List Act) → tally (has_decided t true) does + tally (has_decided t false) does ≡ 0 → decision_in t does ≡ None
 undecided t [] none = refl
 undecided t (acts.Decided u commit ∷ does) none =
-    let other : (u.0 == t) ≡ false = no_truth (u.0 == t) commit (omega (arith, none)) in rw other (undecided t does (omega (arith, none)))
+    let other : (u.0 == t) ≡ false = told_by (u.0 == t) commit (omega (arith, none)) in rw other (undecided t does (omega (arith, none)))
 undecided t (acts.Finished ∷ does) none = undecided t does (omega (arith, none))
 undecided t (_ ∷ does) none = undecided t does (omega (arith, none))
 

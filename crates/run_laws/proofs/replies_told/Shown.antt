@@ -36,6 +36,7 @@ use Rattle.board_rules.specs.Histories.{Place, places_at, places_of, version_of}
 use Rattle.board_rules.specs.Moves.{AtEachAct, OneByOne}
 use Rattle.board_rules.specs.Right.{IsShown, shown, with_worths}
 use Rattle.board_rules.specs.Worth.{worth}
+use Rattle.board_rules.proofs.TreeSubs.{found_ops}
 use Rattle.run_laws.specs.Stays.{Shows}
 use Rattle.run_laws.proofs.EveryApt.{all_apt}
 use Rattle.run_laws.proofs.ShownStays.{shown_stays}
@@ -101,9 +102,6 @@ at_version : (s : ScriptData) (h : List Entry) (os : List SubOp) (values : Gets)
     → IsShown (worth s h) os values found → values ≡ shown s h v.0 os
 at_version s h os values found v is it = subst (λ (o : Option Version). IsShown (worth s h) os values o) is it
 
-ops_here : (s : ScriptData) (t k : ℕ) (sub : Sub) → sub_at s t k ≡ Some sub → ops_of s t k ≡ sub.ops
-ops_here s t k sub at = rw (at, ops_of) refl
-
 gathered_worths : (s : ScriptData) (h : List Entry) (t : ℕ) (o : Option Refusal) (k : ℕ) (subs : List Sub) (values : Gets) (v : Version) → tree_kind_at s t ≡ Some Read
     → reads s t ≡ true → version_of h t ≡ Some v → Each (λ (x : Place). Shows (worth s h) s h x.act) (places_of h)
     → ((i : ℕ) (sub : Sub) → slice_get subs i ≡ Some sub → ops_of s t (k + i) ≡ sub.ops)
@@ -139,7 +137,7 @@ shows_by s past t v answer (Some Read) is all it =
     let plain : is_strict_at s t ≡ false = rw (is, is_strict_at) refl in
     it.says ∙ ap (λ (o : Option Refusal). answer_by o it.whole) (it.plain plain)
     ∙ ap Whole (gathered_worths s (reverse past) t it.least 0 (subs_at s t) it.whole.values v is (reads_by s t (slice_get s.trees t) refl is) it.version all
-    (λ i sub at. let same : 0 + i ≡ i = omega arith in ap (ops_of s t) same ∙ ops_here s t i sub at) it.gathered)
+    (λ i sub at. let same : 0 + i ≡ i = omega arith in ap (ops_of s t) same ∙ found_ops s t i sub at) it.gathered)
 shows_by s past t v answer (Some Update) is all it = tt
 shows_by s past t v answer (Some Strict) is all it = tt
 shows_by s past t v answer None is all it = tt
