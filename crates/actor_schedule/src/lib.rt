@@ -1,4 +1,5 @@
-//! Mailboxes of actors, which of these are ready to be served, and the workers that look for them.
+//! Mailboxes of actors, each under a lock of its own, the desks of workers, which actors are ready to be served, and
+//! how workers find them, sleep, are notified and end.
 #![tactic(auto)]
 
 mod desk;

@@ -1,4 +1,4 @@
--- Below a low version nothing counted is outstanding.
+-- Below a low version nothing counted is outstanding. And the balance.
 use Rattle.std.proofs.Common.{◌≡◌, ◌⊎◌, inl, inr, ℕ, ◌+◌, ◌-◌, ◌<◌, ◌≤◌, Bool, true, false, List, [], ◌∷◌, sym, ap, subst, ◌∙◌, arith, Some}
 use Rattle.letter_types.specs.declared.bodies.Body.{Body}
 use Rattle.letter_types.specs.declared.entries.Entry.{Entry}

@@ -1,4 +1,5 @@
--- What operations see of their items is what the items are worth.
+-- What operations see of their items is what the items are worth: so of values that are shown, and of draws that find
+-- too little.
 use Rattle.std.proofs.Common.{◌≡◌, ℕ, ◌+◌, ◌<◌, ◌==◌, Bool, true, false, List, [], ◌∷◌, length, ltb, refl, sym, ap, subst, ◌∙◌, arith, Option, Some, None, drop, get_or}
 use Rattle.std.specs.Prelude.{cond, is_some, slice_get}
 use Rattle.std.specs.Bool.{Decides}

@@ -1,4 +1,4 @@
--- Which acts are moves, by the causes that votes name; and which votes and reads are right.
+-- Which acts are moves, by the causes that votes name; and which votes and reads are right, by their values.
 use Rattle.std.proofs.Common.{◌≡◌, ◌==◌, ℕ, Bool, true, false, List, [], ◌∷◌, ◌++◌, refl, sym, ap, subst, ◌∙◌, Option, Some, None, eqb-true}
 use Rattle.std.specs.Prelude.{is_some, Decides}
 use Rattle.std.specs.Option.{option_or}

@@ -1,4 +1,5 @@
--- In a valid script the operations on an item may be applied one after another, from its initial value on.
+-- In a valid script the operations on an item may be applied one after another, from its initial value on. So what it
+-- is worth keeps to the bound.
 use Rattle.std.proofs.Common.{◌≡◌, ℕ, zero, suc, ◌+◌, ◌<◌, ◌≤◌, Bool, true, false, IsTrue, List, [], ◌∷◌, refl, ℤ, ap, sym, ◌∙◌, subst, arith}
 use Rattle.std.specs.Prelude.{if◌then◌else◌, cond, fold, int_lt, ◌==◌, ◌||◌, ◌+ℤ◌, ◌-ℤ◌, unsigned_abs, Option, Some, None, slice_get, pos}
 use Rattle.std.specs.Int.{int_max}

@@ -1,4 +1,4 @@
--- One member more, and where the pass stops.
+-- The values of all items, carried along the serial order: one member more, and where the pass stops.
 use Rattle.std.proofs.Common.{◌≡◌, ℕ, zero, suc, ◌<◌, ◌≤◌, ◌+◌, Bool, true, cond, IsTrue, List, [], ◌∷◌, ◌++◌, length, take, drop, get_or, refl, ap, sym, ◌∙◌, subst, arith}
 use Rattle.std.specs.Prelude.{fold, filter, nat_le}
 use Rattle.std.proofs.lemmas.Bool.Decides.{nat_tests}

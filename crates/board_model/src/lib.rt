@@ -1,4 +1,5 @@
-//! What a history says of trees and items: versions, wholeness, the serial order and worth.
+//! What a history says of trees and items, worked out for the report: versions, wholeness, the serial order, the values
+//! of all items along it, and the votes of trees.
 #![tactic(auto)]
 
 mod balances;

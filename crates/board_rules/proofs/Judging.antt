@@ -1,4 +1,4 @@
--- What is accepted entry by entry keeps all rules; an entry breaks one rule first.
+-- What is accepted entry by entry keeps all rules; an entry breaks one rule first. And the first act that isn't a move.
 use Rattle.std.proofs.Common.{◌≡◌, inl, inr, ℕ, ◌<◌, ◌≤◌, List, [], ◌∷◌, ◌++◌, length, take, refl, sym, ap, subst, ◌∙◌, arith, append_assoc, append-nil, Some}
 use Rattle.std.specs.Prelude.{◌↔◌, slice_get}
 use Rattle.std.proofs.lemmas.List.{take-append-le, take_all}

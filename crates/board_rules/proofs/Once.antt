@@ -1,4 +1,4 @@
--- Lists in which each thing occurs once, and the order in which things are there.
+-- Lists in which each thing occurs once, by a test of equality, and who is ahead of whom there; and both after a test.
 use Rattle.std.proofs.Common.{◌≡◌, ◌⊎◌, inl, inr, ◌==◌, ◌&&◌, ℕ, Bool, true, false, List, [], ◌∷◌, ◌++◌, refl, sym, ap, ◌∙◌}
 use Rattle.std.specs.Prelude.{◌||◌, cond, filter, fold}
 use Rattle.std.specs.List.{list_any}

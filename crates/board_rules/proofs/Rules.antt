@@ -1,4 +1,5 @@
--- What a finished list of acts gives the order of acts: each follows its rule.
+-- What a finished list of acts gives the order of acts: each follows its rule. And what the rule of an act at its
+-- position gives.
 use Rattle.std.proofs.Common.{◌≡◌, ℕ, Bool, true, List, subst, Some, take}
 use Rattle.std.specs.Prelude.{slice_get}
 use Rattle.script_parts.specs.ScriptData.{ScriptData, node_of, ops_of, updates}

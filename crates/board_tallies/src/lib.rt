@@ -1,5 +1,6 @@
 //! The Board of an accepted history, kept in tallies while its acts come one by one: so a program judges a history
-//! without keeping it. It knows nothing of locks, values and causes.
+//! without keeping it. Whether an act is a move, but for the cause of a vote, and keeps to the script; what it changes,
+//! noted and taken back. It knows nothing of locks, values and causes.
 #![tactic(auto)]
 
 mod board;

@@ -1,4 +1,4 @@
-//! The client, which submits a script's rows.
+//! The client, which submits a script's rows: what it submits, hears and waits for.
 #![tactic(auto)]
 
 mod change;

@@ -1,4 +1,5 @@
-//! Values of three kinds, the operations on them that may change places, and numbers as texts.
+//! Values of three kinds, the operations on them that may change places, the law that they may, and the values of gets;
+//! numbers and amounts as texts.
 #![tactic(auto)]
 
 mod bag;

@@ -1,4 +1,5 @@
--- What holds of what nodes told, by its three parts.
+-- What holds of what nodes told, by its three parts: each told, some pass a test, the least low version. And one place
+-- of a list between the others.
 use Rattle.std.proofs.Common.{◌≡◌, ◌≤◌, ◌-◌, ◌^◌, ◌∙◌, ap, sym, ℕ, zero, suc, ◌&&◌, [], ◌∷◌, ◌++◌, arith, Some, None, length, take, drop, Option}
 use Rattle.std.specs.Prelude.{◌+◌, ◌<◌, ◌||◌, min, is_some, slice_set}
 use Rattle.std.specs.List.{list_all, list_any}

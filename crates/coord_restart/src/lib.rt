@@ -1,4 +1,5 @@
-//! The coordinator that may forget its state: all but its epoch. It goes on from what the nodes and the client tell.
+//! The coordinator that may forget its state: all but its epoch. It goes on from what the nodes and the client tell,
+//! and its orders carry the epoch.
 #![tactic(auto)]
 
 mod change;

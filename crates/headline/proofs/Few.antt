@@ -1,4 +1,5 @@
--- Of each item at most three versions are held, after each part of a history.
+-- An item's versions ascend from the low version to at most the update version, so of each item at most three are held,
+-- after each part of a history.
 use Rattle.std.proofs.Common.{◌≡◌, inl, inr, ℕ, ◌+◌, ◌-◌, ◌<◌, ◌≤◌, List, [], ◌∷◌, length, take, drop, reverse, refl, ap, ◌∙◌, arith, Option, Some, None}
 use Rattle.std.specs.Prelude.{slice_get}
 use Rattle.std.proofs.lemmas.Bool.{cases_lt}

@@ -1,5 +1,6 @@
-//! What is promised of every run. Laws of the Board and its gates, of what reads show and of what nodes hold, each for
-//! every run; and the headline of a run whose client has finished, as one record of them.
+//! What is promised of every run. It is one of the Board and keeps to its rows, its reads are right and stay so, and
+//! nodes hold at most three versions and in the end the balances: laws of each for every run, the headline of a run
+//! whose client has finished, as one record of them, and what is so besides once no letter is left.
 #![tactic(auto)]
 
 mod board;

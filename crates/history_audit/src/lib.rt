@@ -1,6 +1,7 @@
-//! The audit of a printed history: its text is read entry by entry, and judged by what each entry may be after those
-//! before it. What it means that a text is accepted or refused is its verdict, by the first entry that fails; a text has
-//! one. In mode audit a script and a printed history are read from a source, and the history is judged.
+//! The audit of a printed history: its text is read entry by entry, by a walk, and judged by what each entry may be
+//! after those before it. What it means that a text is accepted or refused is its verdict, by the first entry that
+//! fails; a text has one. In mode audit a script and a printed history are read from a source, in its two parts, the
+//! history is judged, and a line is made of it.
 #![tactic(auto)]
 
 mod auditor;

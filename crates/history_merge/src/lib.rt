@@ -1,4 +1,5 @@
-//! Actors' own logs, and the one history that their entries are recorded in by stamp.
+//! Actors' own logs, whose entries are a run of their tables, and the one history that the entries of all are recorded
+//! in by stamp, which is a run; whether a history goes to its end.
 #![tactic(auto)]
 
 mod ending;

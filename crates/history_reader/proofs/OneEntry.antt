@@ -1,4 +1,4 @@
--- A text begins with one entry.
+-- A text begins with one entry, but for what the letter that was taken says.
 use Rattle.std.proofs.Common.{◌≡◌, ◌∙◌, ◌++◌, List, ℕ, drop, refl, sym, ap, arith}
 use Rattle.std.specs.Prelude.{codes, decimal}
 use Rattle.std.specs.List.{AllByRecursion}

@@ -1,4 +1,4 @@
--- What is read of a number is the one that is printed so.
+-- What is read of a number or an amount is the one that is printed so.
 use Rattle.std.proofs.Common.{◌≡◌, ◌<◌, ◌≤◌, ◌^◌, ◌∙◌, ◌∷◌, [], List, true, false, ℕ, suc, length, refl, sym, ap, arith}
 use Rattle.std.specs.Prelude.{◌==◌, ◌||◌, not, decimal, ℤ, pos, negsuc, Option, None}
 use Rattle.std.specs.Fmt.{signed_decimal}

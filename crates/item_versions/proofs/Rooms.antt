@@ -1,4 +1,5 @@
--- Why an item's places are enough, what is below a version, and which value needed memory.
+-- Why an item's places are enough, what is below a version or left when one is taken out, and which value needed
+-- memory: a bag that is seen is held.
 use Rattle.std.specs.Prelude.{IsTrue, ◌||◌, if◌then◌else◌, Some}
 use Rattle.std.specs.List.{remove}
 use Rattle.std.proofs.Common.{◌≡◌, ℕ, ◌+◌, ◌<◌, ◌≤◌, true, false, [], ◌∷◌, ◌++◌, length, take, leb, refl, ap, ◌∙◌, arith}

@@ -1,4 +1,5 @@
--- Items in their places, and items that are yet to take them.
+-- Items in their places, by number, and items that are yet to take them: the table with what is staged, and what holds
+-- of each item.
 use Rattle.std.specs.List.{AllByRecursion}
 use Rattle.std.proofs.Common.{◌==◌, subst, ◌≡◌, ◌<◌, ◌≤◌, [], ◌∷◌, ◌++◌, length, set, refl, ap, sym, ◌∙◌, arith, Some, None, inl, inr}
 use Rattle.std.proofs.lemmas.Bool.{cases_eq, cond_both, eq-eqb, ne_eqb}

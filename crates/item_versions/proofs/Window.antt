@@ -1,4 +1,4 @@
--- Items whose versions lie in a window have room for each version of it, and stay in a window.
+-- Items whose versions lie in a window have room for each version of it, stay in a window, and may be collected.
 use Rattle.std.specs.List.{AllByRecursion, filter}
 use Rattle.std.proofs.Common.{◌≡◌, ℕ, Bool, true, ◌+◌, ◌<◌, ◌≤◌, [], ◌∷◌, ◌++◌, length, ltb, refl, inl, inr, arith, Option, Some, None}
 use Rattle.std.proofs.lemmas.Bool.{cases_lt, cond_both, lt-ltb, le-ltb}

@@ -1,4 +1,5 @@
-//! Items that keep their values by version, and tables of them.
+//! Items that keep their values by version, at most three, in places of their own: what is seen, room, update,
+//! collection; tables of them; staging of updates and of values; windows of versions.
 #![tactic(auto)]
 
 mod item;

@@ -1,4 +1,5 @@
-//! Letters, acts, entries and histories, and when a history's letters went as letters do.
+//! Letters, notices, answers, acts, votes, steps, entries and histories, and when a history's letters went as letters
+//! do.
 #![tactic(auto)]
 
 mod acts;

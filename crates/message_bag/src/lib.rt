@@ -1,4 +1,4 @@
-//! Mailboxes of letters in flight, which can lie behind a lock.
+//! Mailboxes of letters in flight, in order of arrival, which can lie behind a lock.
 #![tactic(auto)]
 
 ghost use Rattle.std.specs.Prelude.{◌≡◌, ◌<◌, ◌%◌, ◌↔◌, [], ◌∷◌, ◌++◌, length, option_to_list, OnOk, OnErr, IfErr, IfSome, IsNone, IsTrue, Some, remove, slice_get};

@@ -1,5 +1,5 @@
-//! An example of 3V's parts as libraries: a script of meter readings is built by calls, run on one thread and on four,
-//! and what its monthly report read is printed, with what each item is worth.
+//! An example of 3V's parts as libraries: a script of meter readings is built by calls, with a picker of its own, run
+//! on one thread and on four, and what its monthly report read is printed, with what each item is worth.
 #![tactic(auto)]
 
 mod month;

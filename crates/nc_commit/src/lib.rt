@@ -1,4 +1,4 @@
-//! Votes of strict trees, and what a node makes of the decision on one.
+//! Votes of subtransactions of strict trees, and what a node makes of the decision on a tree.
 #![tactic(auto)]
 
 mod decisions;

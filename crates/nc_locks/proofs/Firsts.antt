@@ -1,4 +1,4 @@
--- The first of the locks that pass a test.
+-- The first of the locks that pass a test, and of those that pass either of two.
 use Rattle.std.proofs.Common.{◌≡◌, ℕ, Bool, true, false, not, ◌&&◌, ◌||◌, eqb, ltb, leb, List, [], ◌∷◌, refl, ap, subst, sym, ◌∙◌, arith, cond, Option, Some, None, inl, inr}
 use Rattle.std.specs.Ordering.{is_eq}
 use Rattle.std.proofs.lemmas.Bool.{and_from, and_parts, cases_Bool}

@@ -1,4 +1,4 @@
--- One turn of each loop.
+-- One turn of each loop over locks.
 use Rattle.std.proofs.Common.{◌≡◌, ℕ, ◌+◌, ◌<◌, Bool, true, false, not, ◌&&◌, ◌||◌, eqb, List, [], ◌∷◌, ◌++◌, length, map, if◌then◌else◌, take, drop, get_or, zero, suc, refl, ap, subst, sym, ◌∙◌, add-one, drop-cons, Option, Some, None, Result, Ok, Err}
 use Rattle.std.specs.List.{filter}
 use Rattle.std.specs.Option.{option_or}

@@ -1,4 +1,5 @@
-//! Locks of trees on items: marks of update trees, and looks and holds of strict trees.
+//! Locks of trees on items: marks of update trees, and looks and holds of strict trees; what a tree meets that needs
+//! some.
 #![tactic(auto)]
 
 mod laws;

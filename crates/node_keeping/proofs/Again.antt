@@ -1,4 +1,4 @@
--- A called letter is kept again, last.
+-- A called letter is kept again: it comes to a place that was put last.
 use Rattle.std.proofs.Common.{◌≡◌, ℕ, Bool, true, false, List, [], ◌∷◌, ◌++◌, refl, ap, subst, sym, ◌∙◌, cond, Option, Some, None, MutBor}
 use Rattle.std.specs.Prelude.{IsSome}
 use Rattle.std.specs.List.Sorted.{IsStrictlySortedBy}

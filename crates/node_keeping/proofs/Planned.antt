@@ -1,4 +1,4 @@
--- A plan by the letter's body is a plan of the letter.
+-- A plan by the letter's body is a plan of the letter, if the script's coordinator has it.
 use Rattle.std.proofs.Common.{◌≡◌, ◌&&◌, Bool, true, false, refl, sym, subst, ap, ◌∙◌, Option, Result}
 use Rattle.std.specs.Prelude.{IfOk}
 use Rattle.tv_base.specs.declared.numbers.NoMemory.{NoMemory}

@@ -1,4 +1,4 @@
--- A walk over the places with one key.
+-- A walk over the places with one key, which are those of a subtransaction, finds its first called letter.
 use Rattle.std.proofs.Common.{◌≡◌, ℕ, Bool, true, false, ◌&&◌, ◌||◌, eqb, List, [], ◌∷◌, refl, ap, sym, ◌∙◌, cond, Option, Some, None}
 use Rattle.std.specs.List.{AllByRecursion}
 use Rattle.std.specs.Ordering.{is_eq, nat_cmp}

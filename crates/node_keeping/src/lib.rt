@@ -1,5 +1,7 @@
-//! What a node with strict trees can't do at once: which letters are apt there, which of them it has to keep until it can
-//! do them, the letters that it keeps, and how a node and these change in a step that is prepared.
+//! What a node with strict trees can't do at once: which letters are apt at a core, and which of them it has to keep
+//! until it can do them; what a plan is: nothing, it keeps the letter, or it does a step; the letters that it keeps,
+//! which of them a Wake calls, and which are woken; a node of a core and these letters, and the one call that changes
+//! both in a step that is prepared.
 #![tactic(auto)]
 
 mod arrivals;

@@ -1,4 +1,4 @@
-//! What a node does with the coordinator's letters.
+//! What a node does with the letters of either coordinator, prepared.
 #![tactic(auto)]
 
 mod orders;

@@ -1,4 +1,5 @@
-//! Actors behind locks of their own, and workers that hand letters to them.
+//! Runs on threads: actors' cells, each behind a lock of its own, a cluster of cells and mailboxes, and workers that
+//! hand letters to them.
 #![tactic(auto)]
 
 mod cell;

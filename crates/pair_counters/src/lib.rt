@@ -1,4 +1,4 @@
-//! Requests to and completions from other nodes, counted by version.
+//! Requests to and completions from other nodes, counted by version, in three rows that are used in turn.
 #![tactic(auto)]
 
 mod counters;

@@ -1,4 +1,4 @@
--- The row where the operations may be made.
+-- The row where the operations may be made. A read leaves the items.
 use Rattle.std.proofs.Common.{◌≡◌, ℕ, true, false, List, [], ◌∷◌, refl, ap, sym, ◌∙◌, Result, Ok, Err}
 use Rattle.std.specs.Prelude.{IfOk}
 use Rattle.tv_base.specs.declared.numbers.NoMemory.{NoMemory}

@@ -1,4 +1,4 @@
-//! The step of a subtransaction of a read tree.
+//! A node's step for a subtransaction of a read tree.
 #![tactic(auto)]
 
 mod faces;

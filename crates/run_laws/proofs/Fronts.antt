@@ -1,4 +1,5 @@
--- The acts before an act: those before its entry, and those of its entry that come first.
+-- The acts before an act: those before its entry, and those of its entry that come first. What holds of acts by their
+-- positions holds of them one after the other.
 use Rattle.std.proofs.Common.{◌≡◌, ℕ, zero, suc, ◌+◌, ◌≤◌, ◌==◌, ◌||◌, Bool, true, false, List, [], ◌∷◌, ◌++◌, map, length, take, refl, sym, ap, subst, ◌∙◌, append-nil, append_assoc, arith, Option, Some, None}
 use Rattle.std.specs.Prelude.{if◌then◌else◌, is_some, slice_get}
 use Rattle.std.specs.List.{list_any}

@@ -1,4 +1,5 @@
--- The acts of an entry that last: those of subtransactions, and those that let locks go.
+-- The acts of an entry that last: those of subtransactions, and those that let locks go. Folds and numbers of them
+-- alone.
 use Rattle.std.proofs.Common.{◌≡◌, ℕ, ◌+◌, Bool, true, false, List, [], ◌∷◌, ◌++◌, refl, ap, ◌∙◌, arith, Option, Some, None}
 use Rattle.std.specs.Prelude.{if◌then◌else◌, filter, fold, nat_lt}
 use Rattle.std.proofs.lemmas.List.{append-nil}

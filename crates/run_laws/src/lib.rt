@@ -6,8 +6,8 @@
 //! The locks of votes stand until a decision is applied, and a node sees what its own acts have made of its items. Each
 //! act follows its rule and is a move of the Board, and the root of a strict tree is born at once or waits by its home's
 //! numbers. What nodes read and vote is what items are worth, what reads show stays so, what strict trees that commit
-//! got and wrote has its place in the serial order, replies tell the client what trees did, and which versions of an
-//! item its node holds.
+//! got and wrote has its place in the serial order, and takes effect at all of its nodes or at none; replies tell the
+//! client what trees did, and above its low version a node holds an item in the versions in which its acts write it.
 #![tactic(auto)]
 
 mod acts;

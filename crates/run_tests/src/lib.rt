@@ -1,4 +1,5 @@
-//! Tests of steps and runs on one thread: steps made by one call, worlds letter by letter, and pickers.
+//! Tests of steps and runs on one thread: steps of `nodes` and of other `actors` made by one call, `worlds` letter by
+//! letter, and pickers (`schedules`); all use `common`.
 #![tactic(auto)]
 
 #[cfg(test)]

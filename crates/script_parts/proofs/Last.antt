@@ -1,4 +1,4 @@
--- The last of a list, by its place.
+-- The last of a list, and a change of it, by its place.
 use Rattle.std.proofs.Common.{◌≡◌, ◌-◌, ℕ, suc, zero, List, [], ◌∷◌, ◌++◌, length, get_or, refl, sym, ap, ◌∙◌, arith}
 use Rattle.std.specs.Prelude.{None, Some, Result, Ok, Err, OnErr, slice_get}
 use Rattle.std.proofs.Math.ListN.{set}

@@ -1,5 +1,5 @@
--- Of no tree that is open an answer is held, also after a subtransaction or a notice; and what a tree is that is
--- answered.
+-- Of no tree that is open an answer is held, also after a subtransaction or a notice; and a tree that is answered is
+-- the notice's, and isn't open any more.
 use Rattle.std.proofs.Common.{◌≡◌, ℕ, Bool, true, false, length, refl, ap, sym, subst, ◌∙◌, Option, Some, None, inl, inr}
 use Rattle.std.specs.Prelude.{IsSome, is_some, not, if◌then◌else◌}
 use Rattle.std.proofs.lemmas.Bool.{cases_eq}

@@ -1,4 +1,4 @@
--- A strict tree is decided: the step is its row, and the node may do it.
+-- A strict tree is decided: the step is its row, and the node may do it. Which nodes a tree visits.
 use Rattle.std.proofs.Common.{◌≡◌, ℕ, zero, suc, ◌<◌, ◌≤◌, Bool, true, false, List, [], ◌∷◌, ◌++◌, length, refl, ap, sym, subst, ◌∙◌, arith, Some, None, inl, inr}
 use Rattle.std.specs.Prelude.{All, if◌then◌else◌}
 use Rattle.std.specs.List.{AllByRecursion}

@@ -1,4 +1,5 @@
-//! What a node does for strict trees: votes, notices of them, decisions on them, and marks of update trees that go.
+//! What a node does for strict trees, prepared: votes, notices of them, decisions on them and their acknowledgements,
+//! and marks of update trees that go; and how a step of any tree becomes one of its core.
 #![tactic(auto)]
 
 mod answers;

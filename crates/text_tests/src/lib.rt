@@ -1,4 +1,5 @@
-//! Tests of what is read, written and judged by calls that no run of the program makes.
+//! Tests of `scripts` that are written back and compared, and of `histories` that are read back and judged, by calls
+//! that no run of the program makes.
 #![tactic(auto)]
 
 #[cfg(test)]

@@ -1,4 +1,5 @@
-//! Tests of the whole program over ends in memory, and of threads that really run side by side.
+//! Tests of the whole program over `ends` and `gates` in memory, which use `words`, and of threads that really run side
+//! by side (`letters`).
 #![tactic(auto)]
 
 #[cfg(test)]

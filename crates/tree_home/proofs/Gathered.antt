@@ -1,4 +1,5 @@
--- What is gathered of notices, how many are missing, and a tree that has one more.
+-- What is gathered of notices, how many are missing, and a tree that has one more. The version of an answer, and that
+-- it names its tree.
 use Rattle.std.proofs.Common.{◌≡◌, ℕ, zero, suc, ◌+◌, ◌<◌, ◌≤◌, List, [], ◌∷◌, ◌++◌, length, set, refl, ap, subst, ◌∙◌, arith, append_assoc, append-nil, Bool, true, false, Option, Some, None, sym}
 use Rattle.std.specs.Prelude.{if◌then◌else◌, IsSome, IsNone, IsTrue, nat_le, slice_get, ◌↔◌, slice_set}
 use Rattle.std.proofs.lemmas.Bool.{leb-false, leb-true}

@@ -1,5 +1,5 @@
 //! Trees at their home: the notices of a tree's subtransactions are gathered until the tree can be answered, and an
-//! answer is held where it has to wait for acknowledgements.
+//! answer is held where it has to wait for acknowledgements, each in an ordered map.
 #![tactic(auto)]
 
 mod homes;

@@ -1,4 +1,5 @@
--- The client submits rows until a settle row has to wait, finishes once all is over, and finishes once.
+-- The client submits rows until a settle row has to wait, finishes once all is over, and finishes once. Its places for
+-- answers.
 use Rattle.std.proofs.Common.{◌≡◌, ◌⊎◌, inl, inr, ℕ, zero, suc, ◌+◌, ◌≤◌, ◌==◌, ◌&&◌, ◌||◌, Bool, true, false, not, List, ◌∷◌, ◌++◌, length, get_or, set, take, drop, refl, sym, ap, subst, ◌∙◌, arith, append_assoc, append-nil, length-drop, Some, []}
 use Rattle.std.specs.Prelude.{if◌then◌else◌, min, nat_le, slice_get, ◌-◌, ◌^◌, nat_lt}
 use Rattle.std.proofs.Math.Seq.{take-add}

@@ -1,4 +1,4 @@
--- What a subtransaction and the client send, by whom it asks for.
+-- What a subtransaction and the client send, by what it asks for.
 use Rattle.std.proofs.Common.{◌≡◌, ◌≢◌, ℕ, zero, suc, ◌+◌, ◌<◌, ◌≤◌, ◌==◌, ◌&&◌, Bool, true, false, List, ◌∷◌, take, drop, ◌++◌, refl, sym, ap, subst, ◌∙◌, arith, Some, []}
 use Rattle.std.specs.Prelude.{nat_lt, slice_get}
 use Rattle.std.proofs.lemmas.Bool.Decides.{nat_tests}

@@ -1,4 +1,5 @@
--- In every run of apt letters, of each subtransaction as many Wakes are in flight to a node as letters are called there.
+-- In every run of apt letters, of each subtransaction as many Wakes are in flight to a node as letters are called
+-- there. So each Wake brings one.
 use Rattle.std.proofs.Common.{◌≡◌, ◌≢◌, ◌⊎◌, inl, inr, ℕ, ◌+◌, ◌<◌, ◌≤◌, ◌==◌, ◌&&◌, Bool, true, false, List, [], ◌∷◌, refl, sym, ap, subst, ◌∙◌, arith, Some}
 use Rattle.std.specs.Prelude.{if◌then◌else◌, IsSome}
 use Rattle.std.proofs.lemmas.Bool.{cases_eq}

@@ -1,7 +1,8 @@
-//! Laws of trees in every valid script. In runs of apt letters: stages, turns, decisions, versions and bounds, as
-//! definitions and lemmas alone. Of nodes with strict trees, of their steps and of every run: a node's locks are what the
-//! acts say, locks of two trees never conflict, what a tree meets is the conflict that the acts name, letters are kept for
-//! a named reason alone, each letter is meant for its addressee, and a Wake finds the letter that it calls.
+//! Laws of trees in every valid script. In runs of apt letters: stages, turns, decisions, versions and bounds of trees,
+//! the client, and what nodes see of their items, as definitions and lemmas alone. Of nodes with strict trees, of their
+//! steps and of every run: a node's locks are what the acts say, and what the look back over all acts finds; locks of
+//! two trees never conflict; what a tree meets is the conflict that the look back names; letters are kept for a named
+//! reason alone; each letter is meant for its addressee, and a Wake finds the letter that it calls.
 #![tactic(auto)]
 
 mod keeping;

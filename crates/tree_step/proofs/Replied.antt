@@ -1,4 +1,4 @@
--- The answer to the client, after what a step of a tree's letter sends.
+-- The answer to the client, after what a step of a tree's letter sends: a step with it is that of the row with it.
 use Rattle.std.proofs.Common.{◌≡◌, ℕ, ◌<◌, ◌≤◌, List, ◌++◌, length, take, refl, ap, sym, subst, ◌∙◌, arith}
 use Rattle.std.specs.Prelude.{All, if◌then◌else◌}
 use Rattle.std.proofs.Math.Seq.{take-append_seam, take-length}

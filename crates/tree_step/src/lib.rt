@@ -1,5 +1,7 @@
-//! What a node keeps, how it changes in a step, and what doing a subtransaction counts, sends and answers, whatever kind
-//! of tree it is of.
+//! What a node keeps, its parts, and its core: these parts with its locks, the answers that it holds, the noes and the
+//! epoch of which it has heard. Whether a letter is due; what doing a subtransaction counts, sends and tells, and what
+//! a home makes of a notice, whatever kind of tree it is of, prepared; and the one call each that changes the parts,
+//! and the core.
 #![tactic(auto)]
 
 mod asked;

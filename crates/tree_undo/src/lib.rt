@@ -1,4 +1,5 @@
-//! Trees that are undone: a tree one of whose subtransactions fails, written out so that it leaves no trace.
+//! Trees that are undone: a tree one of whose subtransactions fails, written out so that it leaves no trace; that what
+//! it adds comes to nothing.
 #![tactic(auto)]
 
 mod laws;

@@ -1,4 +1,4 @@
--- Numbers that a test takes or leaves.
+-- Numbers that a test takes or leaves, and one that stops at its type's end.
 use Rattle.std.proofs.Common.{Bool, arith, false, if◌then◌else◌, not, refl, true, ℕ, ◌+◌, ◌==◌, ◌≡◌, ◌≤◌}
 use Rattle.std.proofs.lemmas.Bool.Decides.{nat_tests}
 use Rattle.tv_base.specs.Outside.{one_more}

@@ -1,4 +1,4 @@
--- The first bytes of a text.
+-- The first bytes of an ASCII text are an ASCII text.
 use Rattle.std.proofs.Common.{ℕ, List, take}
 use Rattle.std.specs.Str.{IsAscii}
 use Rattle.std.proofs.lemmas.Str.{IsAscii-take}

@@ -1,4 +1,4 @@
--- Tests that hold: of a number and itself, and each of two where both do.
+-- Tests that hold: of a number and itself, and each of two where both do. (What `std.proofs.lemmas.Bool` lacks.)
 use Rattle.std.proofs.Common.{◌≡◌, ◌≤◌, ◌==◌, ◌&&◌, nat_le, ℕ, Bool, true, refl, false, ◌||◌}
 use Rattle.std.proofs.lemmas.Bool.{and_parts, eq-eqb, leb-true}
 

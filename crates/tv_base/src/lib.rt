@@ -1,4 +1,6 @@
-//! The numbers, lists and names that every other crate speaks of, and the outside: sources, sinks and gates.
+//! The numbers, lists and names that every other crate speaks of, and the outside: numbers with names of their own and
+//! the limits of several crates, `NoMemory`, the list type `Seq`, `Name`, `Text`; draws; sources, sinks and gates, in
+//! memory and over std's readers and writers; reading all and writing all.
 #![tactic(auto)]
 
 mod adapters;

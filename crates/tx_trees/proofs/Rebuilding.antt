@@ -1,5 +1,5 @@
 -- A valid script is built again from its own rows: each of its records meets no condition of refusal, since every limit
--- that holds of the whole script holds of what is before the record.
+-- that holds of the whole script holds of what is before the record. And what rows name and count.
 use Rattle.std.proofs.Common.{◌≡◌, ◌<◌, ◌≤◌, ◌+◌, ◌*◌, ℕ, Bool, true, false, List, [], ◌∷◌, ◌++◌, length, map, refl, sym, ap, ◌∙◌, subst, arith, length-append, append_assoc, cond, suc, zero, drop, take}
 use Rattle.std.specs.Prelude.{◌==◌, ◌&&◌, not, IsTrue, Option, Some, None, Result, Ok, nat_eq, nat_le, nat_lt, position, slice_get, unsigned_abs}
 use Rattle.std.specs.List.{AllByRecursion, IsDistinct, list_any, position_or_len}

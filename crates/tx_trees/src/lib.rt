@@ -1,5 +1,6 @@
-//! Scripts: the nodes, items, trees, rows and picks that a run is made of. A script is valid by its type. What it is
-//! made of is in `script_parts`, and is passed on from there.
+//! Scripts: the nodes, items, trees, rows and picks that a run is made of. A script is valid by its type, and is built
+//! record by record, trees that fail included, or again from its own rows. What it is made of is in `script_parts`, and
+//! is passed on from there, so crates above name `tx_trees` alone.
 #![tactic(auto)]
 
 mod name_index;

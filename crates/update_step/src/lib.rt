@@ -1,4 +1,4 @@
-//! The step of a subtransaction of an update tree.
+//! A node's step for a subtransaction of an update tree.
 #![tactic(auto)]
 
 mod faces;

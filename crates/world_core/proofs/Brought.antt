@@ -1,4 +1,5 @@
--- The letter that another brings to its node is addressed to the node, and asks for what it is kept as.
+-- The letter that another brings to its node, as a Wake does, is addressed to the node, and asks for what it is kept
+-- as.
 use Rattle.std.proofs.Common.{◌≡◌, ℕ, ◌==◌, ◌&&◌, Bool, true, false, List, [], ◌∷◌, refl, sym, ap, ◌∙◌, subst, arith, cond, Some, None}
 use Rattle.std.proofs.lemmas.Bool.Decides.{nat_tests}
 use Rattle.tv_base.specs.declared.numbers.SubNo.{SubNo}

@@ -1,4 +1,5 @@
--- A step of a node's parts that leaves the homes is a step of its core; so are orders, and what is asked of a node.
+-- A step of a node's parts that leaves the homes is a step of its core; so are orders of both coordinators, and what is
+-- asked of a node.
 use Rattle.std.proofs.Common.{◌≡◌, ℕ, ◌<◌, ◌≤◌, ◌||◌, Bool, true, false, refl, sym, subst, ap, ◌∙◌, Option, Some, None, arith}
 use Rattle.std.specs.Prelude.{if◌then◌else◌, nat_lt}
 use Rattle.std.proofs.lemmas.Bool.{le-ltb, lt-ltb}

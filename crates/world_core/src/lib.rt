@@ -1,5 +1,5 @@
-//! What a node does with any letter, put together of its steps; the actors' states and steps; and the world that runs a
-//! script one letter at a time.
+//! What a node does with any letter, put together of its steps: which letter is brought, what is planned of it, what is
+//! kept and what is woken; the actors' states and steps; and the world that runs a script one letter at a time.
 #![tactic(auto)]
 
 mod actor;

@@ -1,5 +1,5 @@
 -- Whatever letters a node takes: what it keeps is addressed to it, and is kept as what it asks for. So its Wakes go to
--- itself.
+-- itself. A core that keeps a letter changes its versions alone.
 use Rattle.std.proofs.Common.{◌≡◌, ℕ, ◌<◌, ◌==◌, Bool, true, false, List, ◌∷◌, ◌++◌, refl, arith, Option, Some, None, []}
 use Rattle.std.specs.Prelude.{if◌then◌else◌, nat_lt}
 use Rattle.std.proofs.lemmas.Bool.{and_parts}

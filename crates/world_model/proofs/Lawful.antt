@@ -1,4 +1,4 @@
--- What the laws of phases and of counting need of the trees of a script.
+-- How many nudges were taken.
 use Rattle.std.proofs.Common.{ℕ, ◌+◌, List, ◌∷◌, []}
 use Rattle.letter_types.specs.declared.bodies.Body.{Body}
 use Rattle.letter_types.specs.declared.bodies.Body.TheVariants.{Go, Nudge}

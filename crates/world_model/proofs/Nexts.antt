@@ -1,4 +1,4 @@
--- What an entry of a run does, by cases.
+-- What an entry of a run does, by cases: what the client, the coordinator and a node that obeys an order make.
 use Rattle.std.proofs.Common.{◌≡◌, ℕ, List, ◌∷◌, []}
 use Rattle.tv_base.specs.declared.numbers.Version.{Version}
 use Rattle.letter_types.specs.declared.bodies.Body.{Body}

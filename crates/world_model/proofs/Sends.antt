@@ -1,4 +1,4 @@
--- What is sent, under a number that looks at bodies.
+-- What is sent, by what it asks for, under a number that looks at bodies.
 use Rattle.std.proofs.Common.{◌≡◌, ℕ, ◌+◌, ◌==◌, ◌&&◌, Bool, true, false, List, ◌∷◌, refl, arith, []}
 use Rattle.std.specs.Prelude.{if◌then◌else◌, nat_lt}
 use Rattle.tv_base.specs.declared.numbers.SubNo.{SubNo}

@@ -1,4 +1,6 @@
-//! The tables put together, and what a run is.
+//! What actors do: one table for each, of which that of a node has a file for each kind of row; what a run is, in both
+//! its shapes, and the bridge between them; schedules; to whom letters go, and how much is counted, whatever letters
+//! come. It has definitions, lemmas and laws alone.
 #![tactic(auto)]
 
 ghost use Rattle.std.specs.Prelude.{List, reverse};

@@ -1,4 +1,5 @@
--- The steps of a sum or a top are what its deeds are worth, whatever versions they come in.
+-- The steps of a sum or a top are what its deeds are worth, whatever versions they come in. The deeds of one version
+-- are one action on any value below.
 use Rattle.std.proofs.Common.{◌≡◌, ℕ, zero, suc, ◌<◌, ◌≤◌, Bool, true, false, IsTrue, List, [], ◌∷◌, ◌++◌, refl, ℤ, max, map, ap, sym, ◌∙◌, arith}
 use Rattle.std.specs.Prelude.{if◌then◌else◌, ◌==◌, ◌||◌, ◌+ℤ◌, ◌-ℤ◌, cond, filter, fold, nat_lt, nat_le, pos}
 use Rattle.std.specs.Int.{int_max}

@@ -1,4 +1,4 @@
--- What is kept of a bag shows what it is worth at each version.
+-- What is kept of a bag, its puts ascending, shows what it is worth at each version.
 use Rattle.std.proofs.Common.{◌≡◌, ℕ, zero, suc, ◌+◌, ◌<◌, ◌≤◌, Bool, true, false, List, [], ◌∷◌, ◌++◌, length, take, drop, get_or, refl, ℤ, max, ap, sym, ◌∙◌, arith, Some}
 use Rattle.std.specs.Prelude.{if◌then◌else◌, ◌==◌, ◌≤ℤ◌, fold, nat_le, int_le, slice_get}
 use Rattle.std.specs.List.{insert, remove}

@@ -1,4 +1,5 @@
--- What is kept of an item shows what it is worth, before any deed and with each deed more.
+-- What is kept of an item shows what it is worth, before any deed and with each deed more. One deed more edits one
+-- action.
 use Rattle.std.proofs.Common.{◌≡◌, ℕ, zero, suc, Bool, true, false, IsTrue, List, [], ◌∷◌, ◌++◌, refl, ℤ, ap, sym, ◌∙◌, subst, Some, None}
 use Rattle.std.specs.Prelude.{if◌then◌else◌, ◌==◌, ◌||◌, fold}
 use Rattle.std.proofs.lemmas.List.Sums.{fold-append}

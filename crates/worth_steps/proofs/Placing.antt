@@ -1,4 +1,4 @@
--- Where a version has its place among the steps, and what stands there.
+-- Where a version has its place among the steps, what stands there, and the edit in place.
 use Rattle.std.proofs.Common.{◌≡◌, ℕ, zero, suc, ◌+◌, ◌-◌, ◌<◌, ◌≤◌, Bool, true, false, List, [], ◌∷◌, ◌++◌, length, take, drop, refl, ℤ, max, ap, sym, ◌∙◌, subst, arith, get_or, Option, Some, None}
 use Rattle.std.specs.Prelude.{if◌then◌else◌, ◌==◌, nat_le, nat_lt, slice_get}
 use Rattle.std.specs.List.Sorted.{IsNonDecreasingBy, IsPartitionPoint}

@@ -1,4 +1,5 @@
--- Values worked out one after the other, and steps that change places with those above.
+-- Values worked out again above an edit, one after the other, and steps that change places with those above: so what
+-- takes the edit back.
 use Rattle.std.proofs.Common.{◌≡◌, ℕ, suc, ◌+◌, ◌-◌, ◌<◌, ◌≤◌, List, [], ◌∷◌, ◌++◌, length, take, drop, refl, ℤ, ap, sym, ◌∙◌, arith, get_or, Option, Some, None}
 use Rattle.std.specs.Prelude.{slice_get, slice_set}
 use Rattle.std.specs.List.{insert}

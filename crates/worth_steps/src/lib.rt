@@ -1,4 +1,5 @@
-//! What an item is worth at any version, kept version by version while deeds of any versions come in any order.
+//! What an item is worth at any version, kept version by version while deeds of any versions come in any order, and
+//! taken back.
 #![tactic(auto)]
 
 mod change;
