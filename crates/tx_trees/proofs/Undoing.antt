@@ -9,7 +9,7 @@ use Rattle.tv_base.proofs.Truths.{at_most, left_true, right_true}
 use Rattle.tv_base.proofs.Chosen.{if_zero}
 use Rattle.commute_ops.specs.declared.kinds.Op.TheVariants as ops
 use Rattle.script_parts.specs.Adding.{any_from, are_crowded, are_many, failed_tree, is_heavy, last_may_fail, last_of, last_subs, last_tree_subs, may_fail, on_last, with_failed}
-use Rattle.script_parts.specs.Counts.{all_ops, all_subs, if_update, one_put, one_strict, ops_puts, strict_trees, subs_ops, subs_puts, trees_puts, update_subs}
+use Rattle.script_parts.specs.Counts.{all_ops, all_subs, if_update, one_put, ops_puts, strict_trees, subs_ops, subs_puts, trees_puts, update_subs}
 use Rattle.commute_ops.specs.declared.kinds.TheConstants.{MOST_AMOUNT}
 use Rattle.script_parts.specs.Amounts.{magnitude}
 use Rattle.script_parts.specs.Forms.{most_amount}
@@ -20,10 +20,11 @@ use Rattle.script_parts.specs.inside.Totals.{AreTotals}
 use Rattle.script_parts.specs.Names.{is_name}
 use Rattle.script_parts.specs.Rebuilt.{written_subs}
 use Rattle.script_parts.specs.inside.Passing.{MayFail, MayUndo}
-use Rattle.script_parts.specs.ScriptData.{ScriptData, is_update}
+use Rattle.script_parts.specs.ScriptData.{ScriptData, is_update, is_strict}
 use Rattle.script_parts.specs.Undone.{goes_from, inverse, inverses_from, is_add, is_undone_sub, negated, negated_deed, ops_add, staying, staying_from, stays, subs_add, undoes, undone}
 use Rattle.script_parts.specs.Valid.{AreSubs, AreWithin, HasFailed, IsOp, IsTree, IsValid, MayAllHaveFailed, MayHaveFailed, as_written, load, ops_load, subs_load, tree_names, trees_load}
 use Rattle.std.specs.Global.{Vec}
+use Rattle.tv_base.specs.Sums.{one_if}
 use Rattle.tx_trees.specs.declared.script.Script.TheInside.{Inside}
 use Rattle.script_parts.specs.declared.parts.Deed.{Deed}
 use Rattle.script_parts.specs.declared.parts.Deed.TheVariants as deeds
@@ -186,7 +187,7 @@ module _ (ts : List Tree) (k : ℕ) (t : Tree) (last : last_of ts ≡ Some t) wh
   failed_loads x = sum-replaced (λ (u : Tree). subs_load x u.subs) (trees_load x) (load_total x).trees (failed_tree k) ts t last
 
   pub failed_strict : strict_trees (on_last (failed_tree k) ts) ≡ strict_trees ts
-  failed_strict = omega (arith, sum-replaced (λ (u : Tree). one_strict u.kind) strict_trees strict-sum (failed_tree k) ts t last)
+  failed_strict = omega (arith, sum-replaced (λ (u : Tree). one_if (is_strict u.kind)) strict_trees strict-sum (failed_tree k) ts t last)
 
   pub failed_updates : t.kind ≡ trees.Update → update_subs (on_last (failed_tree k) ts) + length t.subs ≡ update_subs ts + length (undone t.subs k)
   failed_updates is =
