@@ -110,9 +110,7 @@ pub record IsItem (nodes : ℕ) (r : ItemRow) : Type 0 where
 abbrev pub NamesInOrder : ℕ → ℕ → List ScriptRow → Type 0
 NamesInOrder k n [] = k ≡ n
 NamesInOrder k n (rows.Tree t ∷ rs) = (t.0 ≡ k) × NamesInOrder (k + 1) n rs
-NamesInOrder k n (rows.Advance ∷ rs) = NamesInOrder k n rs
-NamesInOrder k n (rows.Settle ∷ rs) = NamesInOrder k n rs
-NamesInOrder k n (rows.Lose ∷ rs) = NamesInOrder k n rs
+NamesInOrder k n (_ ∷ rs) = NamesInOrder k n rs
 
 abbrev pub item_names : List ItemRow → List (List ℕ)
 item_names items = map (λ r. r.name) items
