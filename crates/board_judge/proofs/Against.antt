@@ -6,12 +6,13 @@ use Rattle.std.specs.List.{AllByRecursion}
 use Rattle.std.specs.Option.{option_map, option_or}
 use Rattle.std.proofs.lemmas.Bool.Decides.{nat_tests}
 use Rattle.std.proofs.lemmas.List.{drop_all}
+use Rattle.tv_base.specs.Sums.{one_if}
 use Rattle.tv_base.specs.declared.numbers.TreeNo.{TreeNo}
 use Rattle.letter_types.specs.declared.votes.Cause.{Cause}
 use Rattle.letter_types.specs.declared.votes.Cause.TheVariants.{Conflict, Newer}
 use Rattle.nc_locks.specs.declared.modes.Mode.{Mode}
 use Rattle.nc_locks.specs.declared.modes.Mode.TheVariants.{Mark, Look, Hold}
-use Rattle.script_parts.specs.Counts.{has_strict, one_strict, strict_trees}
+use Rattle.script_parts.specs.Counts.{has_strict, strict_trees}
 use Rattle.script_parts.specs.Deeds.{overwrites}
 use Rattle.script_parts.specs.ScriptData.{ScriptData, is_strict, is_update}
 use Rattle.script_parts.specs.declared.parts.SubOp.{SubOp}
@@ -200,7 +201,7 @@ none_newer s xs p v n o le is =
 counted : (trees : List Tree) (t : ℕ) → (elim (slice_get trees t) [ Some tree ↦ is_strict tree.kind | None ↦ false ]) ≡ true → 0 < strict_trees trees
 counted [] t is = absurd (cc is)
 counted (tree ∷ trees) zero is = (let one = by tree.kind is in omega (arith, one)) where
-  by : (k : TreeKind) → is_strict k ≡ true → one_strict k ≡ 1
+  by : (k : TreeKind) → is_strict k ≡ true → one_if (is_strict k) ≡ 1
   by Strict is = refl
   by Update is = absurd (cc is)
   by Read is = absurd (cc is)

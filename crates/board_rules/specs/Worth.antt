@@ -1,5 +1,6 @@
 -- What an item is worth at a version: its initial value, folded over the deeds of the serial order up to there.
 use Rattle.std.specs.Prelude.{if◌then◌else◌, ℕ, Bool, true, false, ◌==◌, ◌&&◌, ◌||◌, ◌+◌, pos, List, [], ◌∷◌, fold, Option, Some, None, slice_get}
+use Rattle.std.specs.List.{list_any}
 use Rattle.commute_ops.specs.declared.value.Value.{Value}
 use Rattle.commute_ops.specs.declared.value.Value.TheVariants.{Sum}
 use Rattle.commute_ops.specs.Ops.{value_start}
@@ -19,12 +20,10 @@ use Rattle.board_rules.specs.Serial.{is_version, serial_in}
 
 -- the value of item x after the operations on it
 abbrev pub after_ops : ℕ → List SubOp → Value → Value
-after_ops x [] w = w
-after_ops x (o ∷ os) w = after_ops x os (if o.item.0 == x then after_deed o.deed w else w)
+after_ops x os w = fold (λ v o. if o.item.0 == x then after_deed o.deed v else v) w os
 
 abbrev pub after_subs : ℕ → List Sub → Value → Value
-after_subs x [] w = w
-after_subs x (k ∷ ks) w = after_subs x ks (after_ops x k.ops w)
+after_subs x ks w = fold (λ v k. after_ops x k.ops v) w ks
 
 -- the value of item x after tree t
 abbrev pub after_tree : ScriptData → ℕ → Value → ℕ → Value
@@ -50,18 +49,14 @@ worth s h x v = worth_in s (places_of h) x v
 -- the deed changes its item
 abbrev pub changes : Deed → Bool
 changes deeds.Get = false
-changes (deeds.Apply op) = true
-changes (deeds.Set n) = true
-changes (deeds.Draw n) = true
+changes _ = true
 
 -- a change of item x is among these
 abbrev pub ops_change : ℕ → List SubOp → Bool
-ops_change x [] = false
-ops_change x (o ∷ os) = ((o.item.0 == x) && changes o.deed) || ops_change x os
+ops_change x os = list_any (λ o. (o.item.0 == x) && changes o.deed) os
 
 abbrev pub subs_change : ℕ → List Sub → Bool
-subs_change x [] = false
-subs_change x (k ∷ ks) = ops_change x k.ops || subs_change x ks
+subs_change x ks = list_any (λ k. ops_change x k.ops) ks
 
 -- a tree of this kind writes, whatever it was born as: an update tree does, and a strict tree that was decided to
 -- commit

@@ -2,11 +2,12 @@
 use Rattle.std.proofs.Common.{◌≡◌, ℕ, ◌+◌, Bool, true, false, List, [], ◌∷◌, ◌++◌, refl, ap, ◌∙◌, arith}
 use Rattle.std.specs.Prelude.{if◌then◌else◌, filter, Option, Some, None}
 use Rattle.std.proofs.lemmas.Bool.Decides.{nat_tests}
+use Rattle.tv_base.specs.Sums.{one_if}
 use Rattle.tv_base.specs.declared.numbers.Version.{Version}
 use Rattle.letter_types.specs.declared.acts.Act.{Act}
 use Rattle.letter_types.specs.declared.entries.Entry.{Entry}
-use Rattle.tx_trees.specs.Counts.{has_strict, one_strict, strict_trees}
-use Rattle.tx_trees.specs.ScriptData.{ScriptData}
+use Rattle.tx_trees.specs.Counts.{has_strict, strict_trees}
+use Rattle.tx_trees.specs.ScriptData.{ScriptData, is_strict}
 use Rattle.tx_trees.specs.declared.parts.Tree.{Tree}
 use Rattle.tx_trees.specs.declared.parts.TreeKind.{TreeKind}
 use Rattle.tx_trees.specs.declared.parts.TreeKind.TheVariants.{Update, Read, Strict}
@@ -18,7 +19,7 @@ use Rattle.report_text.specs.inside.Lines.{trees_lines, history_of_votes}
 use Rattle.report_text.specs.Outcomes.{outcome_of}
 use Rattle.report_text.specs.Report.{tree_line}
 
-one_line : (tree : Tree) (kind : TreeKind) (born : Option Version) (text x y : List ℕ) → one_strict kind ≡ 0
+one_line : (tree : Tree) (kind : TreeKind) (born : Option Version) (text x y : List ℕ) → one_if (is_strict kind) ≡ 0
     → tree_line tree kind born (λ (v : ℕ). text) x ≡ tree_line tree kind born (λ (v : ℕ). text) y
 one_line tree Update None text x y none = refl
 one_line tree Update (Some v) text x y none = refl

@@ -1,36 +1,27 @@
 -- The summary of a run: what its script has, by the seed that made it, and what its items are worth in all.
 use Rattle.std.specs.Prelude.{ℕ, ◌+◌, ℤ, pos, ◌+ℤ◌, List, [], ◌∷◌, ◌++◌, length, codes}
 use Rattle.std.specs.Fmt.{signed_decimal}
+use Rattle.tv_base.specs.Sums.{one_if, tally}
 use Rattle.commute_ops.specs.declared.kinds.Kind.{Kind}
 use Rattle.commute_ops.specs.declared.kinds.Kind.TheVariants.{Sum as SumKind, Top as TopKind}
 use Rattle.commute_ops.specs.declared.value.Value.{Value}
 use Rattle.commute_ops.specs.declared.value.Value.TheVariants.{Sum, Top, Bag}
 use Rattle.letter_types.specs.declared.entries.Entry.{Entry}
 use Rattle.tx_trees.specs.Adding.{all_subs}
-use Rattle.tx_trees.specs.Counts.{if_update}
-use Rattle.tx_trees.specs.ScriptData.{ScriptData}
+use Rattle.tx_trees.specs.ScriptData.{ScriptData, is_read, is_update}
 use Rattle.tx_trees.specs.declared.parts.ItemRow.{ItemRow}
 use Rattle.tx_trees.specs.declared.parts.Tree.{Tree}
-use Rattle.tx_trees.specs.declared.parts.TreeKind.{TreeKind}
-use Rattle.tx_trees.specs.declared.parts.TreeKind.TheVariants.{Update, Read, Strict}
 use Rattle.board_rules.specs.Worth.{worth}
 use Rattle.history_text.specs.Values.{count_text}
 use Rattle.report_text.specs.Report.{advances}
 
 -- how many trees are update trees
 abbrev pub update_trees : List Tree → ℕ
-update_trees [] = 0
-update_trees (t ∷ ts) = if_update t.kind 1 + update_trees ts
-
-abbrev pub one_read : TreeKind → ℕ
-one_read Update = 0
-one_read Read = 1
-one_read Strict = 0
+update_trees ts = tally (λ t. one_if (is_update t.kind)) ts
 
 -- how many trees are read trees
 abbrev pub read_trees : List Tree → ℕ
-read_trees [] = 0
-read_trees (t ∷ ts) = one_read t.kind + read_trees ts
+read_trees ts = tally (λ t. one_if (is_read t.kind)) ts
 
 -- the number of a sum or a top; a bag has none
 abbrev pub number_of : Value → ℤ

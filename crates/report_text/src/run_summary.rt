@@ -1,9 +1,10 @@
 // The summary of a run.
 ghost use Rattle.std.specs.Prelude.{◌≡◌, ◌++◌, ◌<◌, ◌≤◌, ◌^◌, IfOk, OnOk, length, unsigned_abs};
 ghost use Rattle.commute_ops.specs.declared.kinds.TheConstants.{MOST_AMOUNT};
+ghost use Rattle.tv_base.specs.Sums.{one_if};
 ghost use Rattle.tx_trees.specs.Adding.{all_subs};
-ghost use Rattle.tx_trees.specs.Counts.{if_update};
-ghost use Rattle.report_text.specs.Summary.{counts_line, number_of, one_read, kind_worth, part_of, read_trees, summary_of, totals_line, trees_counts, update_trees};
+ghost use Rattle.tx_trees.specs.ScriptData.{is_read, is_update};
+ghost use Rattle.report_text.specs.Summary.{counts_line, number_of, kind_worth, part_of, read_trees, summary_of, totals_line, trees_counts, update_trees};
 ghost use Rattle.report_text.specs.inside.Totals.{AreAmounts, kind_total};
 
 use crate::check_text::count_subs;
@@ -148,7 +149,7 @@ fn count_updates(trees: &[Tree]) -> u64
 
 // One for an update tree.
 fn one_update(kind: TreeKind) -> u64
-    ensures one { result ≡ if_update kind 1 }
+    ensures one { result ≡ one_if (is_update kind) }
     ensures small { result ≤ 1 }
 {
     match kind {
@@ -171,7 +172,7 @@ fn count_reads(trees: &[Tree]) -> u64
 
 // One for a read tree.
 fn one_read(kind: TreeKind) -> u64
-    ensures one { result ≡ one_read kind }
+    ensures one { result ≡ one_if (is_read kind) }
     ensures small { result ≤ 1 }
 {
     match kind {

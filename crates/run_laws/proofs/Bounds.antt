@@ -12,7 +12,7 @@ use Rattle.letter_types.specs.declared.bodies.Body.TheVariants.{Go, Root, Sub as
 use Rattle.letter_types.specs.declared.entries.Entry.{Entry}
 use Rattle.letter_types.specs.declared.entries.Letter.{Letter}
 use Rattle.letter_types.specs.declared.entries.Outgoing.{Outgoing}
-use Rattle.script_parts.specs.Counts.{has_strict, if_update, one_strict, strict_trees, update_subs, is_lossy}
+use Rattle.script_parts.specs.Counts.{has_strict, if_update, strict_trees, update_subs, is_lossy}
 use Rattle.script_parts.specs.ScriptData.{is_strict, is_update, updates}
 use Rattle.script_parts.specs.declared.parts.Tree.{Tree}
 use Rattle.script_parts.specs.declared.parts.TreeKind.{TreeKind}
@@ -493,21 +493,13 @@ update_only s n t tree Update at is none most = omega (arith, most, subs_at_here
 update_only s n t tree Strict at is none most = omega (arith, none (kind_updates s t tree at ∙ ap is_update is))
 update_only s n t tree Read at is none most = omega (arith, none (kind_updates s t tree at ∙ ap is_update is))
 
-strict_sum : (ts : List Tree) → tally (λ (t : Tree). if_strict t.kind (length t.subs)) ts ≡ strict_subs ts
-strict_sum [] = refl
-strict_sum (t ∷ ts) = omega (arith, strict_sum ts)
-
-update_sum : (ts : List Tree) → tally (λ (t : Tree). if_update t.kind (length t.subs)) ts ≡ update_subs ts
-update_sum [] = refl
-update_sum (t ∷ ts) = omega (arith, update_sum ts)
-
 decisions_all : (s : ScriptData) (past : List Entry) → IsValid s → IsStepRun s past → taken_in is_decision past ≤ strict_subs s.trees
 decisions_all s past valid run =
     let all = taken_same is_decision (λ b. over 0 (λ t. decide_of t b) s.trees) s past valid run (decision_by_tree s) ∙ taken_over decide_of s.trees past in
     let each = by_trees s (λ t. taken_in (decide_of t) past) (λ (tree : Tree). if_strict tree.kind (length tree.subs)) (λ t tree at.
     strict_only s (taken_in (decide_of t) past) t tree tree.kind at refl (λ none. taken_none (decide_of t) s past valid run (decide_other s t none))
     (decides_few s past t valid run (tree_lt s.trees t tree at))) in
-    omega (arith, all, each, strict_sum s.trees)
+    omega (arith, all, each)
 
 acks_all : (s : ScriptData) (past : List Entry) → IsValid s → IsStepRun s past → taken_in is_ack past ≤ strict_subs s.trees
 acks_all s past valid run =
@@ -515,7 +507,7 @@ acks_all s past valid run =
     let each = by_trees s (λ t. taken_in (ack_of t) past) (λ (tree : Tree). if_strict tree.kind (length tree.subs)) (λ t tree at.
     strict_only s (taken_in (ack_of t) past) t tree tree.kind at refl (λ none. taken_none (ack_of t) s past valid run (ack_other s t none))
     (acks_few s past t valid run (tree_lt s.trees t tree at))) in
-    omega (arith, all, each, strict_sum s.trees)
+    omega (arith, all, each)
 
 releases_all : (s : ScriptData) (past : List Entry) → IsValid s → IsStepRun s past → taken_in is_release past ≤ update_subs s.trees
 releases_all s past valid run =
@@ -523,7 +515,7 @@ releases_all s past valid run =
     let each = by_trees s (λ t. taken_in (release_of t) past) (λ (tree : Tree). if_update tree.kind (length tree.subs)) (λ t tree at.
     update_only s (taken_in (release_of t) past) t tree tree.kind at refl (λ none. taken_none (release_of t) s past valid run (release_other s t none))
     (releases_few s past t valid run (tree_lt s.trees t tree at))) in
-    omega (arith, all, each, update_sum s.trees)
+    omega (arith, all, each)
 
 -- Wakes.
 over_times : {X : Type 0} (i n : ℕ) (f : ℕ → ℕ) (xs : List X) → ((k : ℕ) → i ≤ k → k < i + length xs → f k ≤ n) → over i f xs ≤ n * length xs
@@ -541,26 +533,17 @@ over_one n f [] first none = omega arith
 over_one n f (x ∷ xs) first none =
     omega (arith, first, over_zero 1 f xs (λ k le lt. none k (omega (arith, le)) (omega (arith, lt))))
 
-one_of_kind : (kind : TreeKind) → one_if (is_strict kind) ≡ one_strict kind
-one_of_kind Strict = refl
-one_of_kind Update = refl
-one_of_kind Read = refl
-
-strict_count : (ts : List Tree) → tally (λ (t : Tree). one_strict t.kind) ts ≡ strict_trees ts
-strict_count [] = refl
-strict_count (t ∷ ts) = omega (arith, strict_count ts)
-
 strict_most : (s : ScriptData) → over 0 (λ h. one_if (is_strict_at s h)) s.trees ≤ strict_trees s.trees
 strict_most s =
-    let each = by_trees s (λ h. one_if (is_strict_at s h)) (λ (tree : Tree). one_strict tree.kind) (λ t tree at.
-    omega (arith, ap one_if (kind_strict s t tree at), one_of_kind tree.kind)) in
-    omega (arith, each, strict_count s.trees)
+    let each = by_trees s (λ h. one_if (is_strict_at s h)) (λ (tree : Tree). one_if (is_strict tree.kind)) (λ t tree at.
+    omega (arith, ap one_if (kind_strict s t tree at))) in
+    omega (arith, each)
 
 -- of a tree, by its kind
 wakes_of : (s : ScriptData) (past : List Entry) (t : ℕ) (tree : Tree) (kind : TreeKind) → IsValid s → IsStepRun s past
     → slice_get s.trees t ≡ Some tree → tree.kind ≡ kind
     → over 0 (λ k. sent_in (wake_of t k) past) (subs_at s t)
-    ≤ strict_trees s.trees * if_update kind (length tree.subs) + advances_in s.rows * one_strict kind
+    ≤ strict_trees s.trees * if_update kind (length tree.subs) + advances_in s.rows * one_if (is_strict kind)
 wakes_of s past t tree Update valid run at is =
     let up : updates s t ≡ true = kind_updates s t tree at ∙ ap is_update is in
     let all = over_times 0 (strict_trees s.trees) (λ k. sent_in (wake_of t k) past) (subs_at s t) (λ k le kt.
@@ -584,7 +567,7 @@ wakes_of s past t tree Read valid run at is =
           read_wakes s past t k valid run (sub_node_below s t k valid (omega (arith, kt))) none other),
     )
 
-kinds_sum : (n a : ℕ) (ts : List Tree) → tally (λ (t : Tree). n * if_update t.kind (length t.subs) + a * one_strict t.kind) ts
+kinds_sum : (n a : ℕ) (ts : List Tree) → tally (λ (t : Tree). n * if_update t.kind (length t.subs) + a * one_if (is_strict t.kind)) ts
     ≡ n * update_subs ts + a * strict_trees ts
 kinds_sum n a [] = omega arith
 kinds_sum n a (t ∷ ts) = omega (arith, kinds_sum n a ts)
@@ -595,7 +578,7 @@ wakes_all s past valid run =
     let all = taken_same is_wake (λ b. over 0 (λ t. over 0 (λ k. wake_of t k b) (subs_at s t)) s.trees) s past valid run (wake_by_tree s)
     ∙ taken_over (λ t b. over 0 (λ k. wake_of t k b) (subs_at s t)) s.trees past in
     let each = by_trees s (λ t. taken_in (λ b. over 0 (λ k. wake_of t k b) (subs_at s t)) past)
-    (λ (tree : Tree). strict_trees s.trees * if_update tree.kind (length tree.subs) + advances_in s.rows * one_strict tree.kind) (λ t tree at.
+    (λ (tree : Tree). strict_trees s.trees * if_update tree.kind (length tree.subs) + advances_in s.rows * one_if (is_strict tree.kind)) (λ t tree at.
     omega (
       arith,
       taken_over (wake_of t) (subs_at s t) past,
@@ -609,7 +592,7 @@ wakes_all s past valid run =
 no_strict_subs : (ts : List Tree) → strict_trees ts ≡ 0 → strict_subs ts ≡ 0
 no_strict_subs [] none = refl
 no_strict_subs (t ∷ ts) none = omega (arith, by t.kind (omega (arith, none)), no_strict_subs ts (omega (arith, none))) where
-  by : (kind : TreeKind) → one_strict kind ≡ 0 → if_strict kind (length t.subs) ≡ 0
+  by : (kind : TreeKind) → one_if (is_strict kind) ≡ 0 → if_strict kind (length t.subs) ≡ 0
   by Strict is = absurd (omega (arith, is))
   by Update is = refl
   by Read is = refl

@@ -18,8 +18,8 @@ use Rattle.letter_types.specs.declared.votes.Vote.TheVariants.{Yes, No}
 use Rattle.nc_locks.specs.declared.modes.Lock.{Lock}
 use Rattle.nc_locks.specs.Locks.{Wanted, has_lock, wanted_locks, with_locks, without}
 use Rattle.nc_locks.proofs.Always.{freed_are_gone, taken_stand}
-use Rattle.script_parts.specs.Counts.{has_strict, one_strict, strict_trees}
-use Rattle.script_parts.specs.ScriptData.{ScriptData, ops_of, updates}
+use Rattle.script_parts.specs.Counts.{has_strict, strict_trees}
+use Rattle.script_parts.specs.ScriptData.{ScriptData, ops_of, updates, is_strict}
 use Rattle.script_parts.specs.Valid.{IsValid}
 use Rattle.script_parts.specs.declared.parts.Tree.{Tree}
 use Rattle.script_parts.specs.declared.parts.TreeKind.{TreeKind}
@@ -58,7 +58,7 @@ some_strict : (ts : List Tree) (n : ℕ) (tree : Tree) → slice_get ts n ≡ So
 some_strict [] n tree at is = absurd (cc at)
 some_strict (t ∷ ts) zero tree at is =
     let same : t ≡ tree = cc at in
-    let one : one_strict t.kind ≡ 1 = ap (λ (x : Tree). one_strict x.kind) same ∙ ap one_strict is in
+    let one : one_if (is_strict t.kind) ≡ 1 = ap (λ (x : Tree). one_if (is_strict x.kind)) same ∙ ap (λ (kind : TreeKind). one_if (is_strict kind)) is in
     omega (arith, one)
 some_strict (t ∷ ts) (suc n) tree at is = omega (arith, some_strict ts n tree at is)
 

@@ -3,9 +3,11 @@ use Rattle.std.proofs.Common.{◌≡◌, ◌+◌, ◌*◌, ◌%◌, ◌≤◌, �
 use Rattle.std.specs.Prelude.{◌==◌, if◌then◌else◌, unsigned_abs}
 use Rattle.std.specs.List.{AllByRecursion}
 use Rattle.std.proofs.lemmas.Int.{ints}
+use Rattle.tv_base.specs.Sums.{one_if}
 use Rattle.tx_trees.specs.Adding.{all_ops, all_subs}
 use Rattle.tx_trees.specs.Amounts.{magnitude}
-use Rattle.tx_trees.specs.Counts.{one_put, one_strict, strict_trees, subs_ops, subs_puts, trees_puts}
+use Rattle.tx_trees.specs.Counts.{one_put, strict_trees, subs_ops, subs_puts, trees_puts}
+use Rattle.tx_trees.specs.ScriptData.{is_strict}
 use Rattle.tx_trees.specs.Valid.{subs_load, trees_load}
 use Rattle.tx_trees.specs.declared.parts.Sub.{Sub}
 use Rattle.tx_trees.specs.declared.parts.Tree.{Tree}
@@ -91,11 +93,11 @@ subs_puts_none y kind home x n =
       none : {m : ℕ} → m ≡ 0 → m ≤ 0
       none e = omega (arith, e)
 
-kind_choice : (b : Bool) → one_strict (if b then kinds.Read else kinds.Update) ≡ 0
+kind_choice : (b : Bool) → one_if (is_strict (if b then kinds.Read else kinds.Update)) ≡ 0
 kind_choice true = refl
 kind_choice false = refl
 
-pub not_strict : (d : ℕ) → one_strict (kind_by d) ≡ 0
+pub not_strict : (d : ℕ) → one_if (is_strict (kind_by d)) ≡ 0
 not_strict d = kind_choice (d % 4 == 0)
 
 size_most : (x : ℕ) → size_after x ≤ 4

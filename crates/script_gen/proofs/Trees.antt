@@ -11,9 +11,10 @@ use Rattle.tv_base.proofs.ByPlace.{slice_get-old}
 use Rattle.tv_base.specs.declared.numbers.NodeNo.{NodeNo}
 use Rattle.tv_base.specs.declared.numbers.SubNo.{SubNo}
 use Rattle.commute_ops.specs.declared.kinds.Kind.{Kind}
+use Rattle.tv_base.specs.Sums.{one_if}
 use Rattle.tx_trees.specs.Adding.{all_ops, all_subs, has_no_tree_left, item_kind_at, last_count, last_kind, last_node, last_of, last_sub, last_subs, names_tree, node_at, on_last_sub, push_op, push_sub, touch, with_op, with_sub, with_tree}
 use Rattle.tx_trees.specs.Amounts.{magnitude}
-use Rattle.tx_trees.specs.Counts.{one_put, one_strict, strict_trees, subs_ops, subs_puts, trees_puts, update_subs, if_update}
+use Rattle.tx_trees.specs.Counts.{one_put, strict_trees, subs_ops, subs_puts, trees_puts, update_subs, if_update}
 use Rattle.tx_trees.specs.Forms.{most_amount}
 use Rattle.tx_trees.specs.Passing.{MayAddOp, MayAddSub, MayAddTree}
 use Rattle.tx_trees.specs.Ranges.{draws_negative}
@@ -93,7 +94,7 @@ tree_may s j d room =
     let few : j < 20000 = room.few in
     let count : length s.trees ≡ j = room.count in
     let left : has_no_tree_left 4 (kind_by d) s.trees ≡ false
-    = tree_limits (length s.trees) (all_subs s.trees) (strict_trees s.trees + one_strict (kind_by d)) (update_subs s.trees + if_update (kind_by d) 1)
+    = tree_limits (length s.trees) (all_subs s.trees) (strict_trees s.trees + one_if (is_strict (kind_by d))) (update_subs s.trees + if_update (kind_by d) 1)
     (omega arith) (omega (arith, room.subs)) (omega (arith, room.strict, not_strict d)) in
     record {
       place = subst (λ (n : ℕ). nat_le n (home_by d) ≡ false) (sym room.nodes) (lt-leb 4 (home_by d) (omega arith));
@@ -116,14 +117,14 @@ sub_limits len subs z u few less none =
     let e : nat_lt 1000000 (z * u) ≡ false = le-ltb 1000000 (z * u) (nothing_times z u none) in
     rw (a, c, e) refl
 
-sub_may : (s : ScriptData) (j : ℕ) (t : Tree) (parent node : ℕ) → HasRoomForTree j s → one_strict t.kind ≡ 0 → length t.subs ≤ 3 → parent < length t.subs → node < 4
+sub_may : (s : ScriptData) (j : ℕ) (t : Tree) (parent node : ℕ) → HasRoomForTree j s → one_if (is_strict t.kind) ≡ 0 → length t.subs ≤ 3 → parent < length t.subs → node < 4
     → MayAddSub (with_begun s j t) parent (let q : NodeNo = record { 0 = node } in q)
 sub_may s j t parent node room plain few less at =
     let trees : List Tree = s.trees ++ t ∷ [] in
     let last : last_of trees ≡ Some t = last_of-seam s.trees t in
     let count : last_subs trees ≡ length t.subs = last_subs_is trees t last in
     let subs : all_subs trees ≡ all_subs s.trees + length t.subs = sum-push (λ (one : Tree). length one.subs) all_subs all_subs-sum s.trees t in
-    let strict : strict_trees trees ≡ strict_trees s.trees + one_strict t.kind = sum-push (λ (one : Tree). one_strict one.kind) strict_trees strict-sum s.trees t in
+    let strict : strict_trees trees ≡ strict_trees s.trees + one_if (is_strict t.kind) = sum-push (λ (one : Tree). one_if (is_strict one.kind)) strict_trees strict-sum s.trees t in
     record {
       place = subst (λ (n : ℕ). nat_le n node ≡ false) (sym room.nodes) (lt-leb 4 node at);
       begun = refl;
@@ -207,13 +208,13 @@ op_limits a b c none less puts =
     let ec : nat_lt 64 c ≡ false = le-ltb 64 c (omega (arith, puts)) in
     rw (ea, eb, ec) refl
 
-none_strict : (kind : TreeKind) (b : Bool) → one_strict kind ≡ 0 → (is_strict kind && b) ≡ false
+none_strict : (kind : TreeKind) (b : Bool) → one_if (is_strict kind) ≡ 0 → (is_strict kind && b) ≡ false
 none_strict kinds.Update b e = refl
 none_strict kinds.Read b e = refl
 none_strict kinds.Strict b e = absurd (cc e)
 
 op_may : (s : ScriptData) (j : ℕ) (name : List ℕ) (kind : TreeKind) (ss : List Sub) (p : SubNo) (q : NodeNo) (k : ℕ) (deed : Deed) → HasRoomForTree j s
-    → one_strict kind ≡ 0 → subs_ops ss ≤ 3 → subs_load k ss ≤ 2997 → subs_puts k ss ≡ 0 → k < 32 → q.0 ≡ k % 4
+    → one_if (is_strict kind) ≡ 0 → subs_ops ss ≤ 3 → subs_load k ss ≤ 2997 → subs_puts k ss ≡ 0 → k < 32 → q.0 ≡ k % 4
     → deed_fits kind (generated_item_row k).kind deed ≡ true → magnitude deed ≤ 999 → one_put deed ≡ 0 → draws_negative deed ≡ false
     → MayAddOp (with_begun s j (let t : Tree = record { name = name; kind = kind; subs = ss ++ (let b : Sub = record { parent = p; node = q; ops = [] } in b) ∷ []; written = None } in t)) k deed
 op_may s j name kind ss p q k deed room plain few small none less at fits size put rises =

@@ -2,9 +2,11 @@
 use Rattle.std.proofs.Common.{◌≡◌, ◌<◌, ◌≤◌, ◌+◌, ℕ, List, [], ◌∷◌, ◌++◌, length, refl, sym, ap, ◌∙◌, arith, length-append}
 use Rattle.std.specs.Prelude.{◌==◌, if◌then◌else◌}
 use Rattle.std.proofs.lemmas.Grind.{common_steps}
+use Rattle.tv_base.specs.Sums.{one_if}
 use Rattle.script_parts.specs.Adding.{last_kind, last_subs, on_last, on_last_sub, push_op, push_sub}
 use Rattle.script_parts.specs.Amounts.{magnitude}
-use Rattle.script_parts.specs.Counts.{all_ops, all_subs, if_update, one_put, one_strict, ops_puts, strict_trees, subs_ops, subs_puts, trees_puts, update_subs}
+use Rattle.script_parts.specs.Counts.{all_ops, all_subs, if_update, one_put, ops_puts, strict_trees, subs_ops, subs_puts, trees_puts, update_subs}
+use Rattle.script_parts.specs.ScriptData.{is_strict}
 use Rattle.script_parts.specs.Valid.{ops_load, subs_load, trees_load}
 use Rattle.script_parts.specs.declared.parts.Sub.{Sub}
 use Rattle.script_parts.specs.declared.parts.SubOp.{SubOp}
@@ -55,7 +57,7 @@ op_total = record {
 pub all_subs-sum : IsSum (λ (t : Tree). length t.subs) all_subs
 all_subs-sum = record { none = refl; one_more = λ t ts. refl }
 
-pub strict-sum : IsSum (λ (t : Tree). one_strict t.kind) strict_trees
+pub strict-sum : IsSum (λ (t : Tree). one_if (is_strict t.kind)) strict_trees
 strict-sum = record { none = refl; one_more = λ t ts. refl }
 
 pub update-sum : IsSum (λ (t : Tree). if_update t.kind (length t.subs)) update_subs
@@ -114,7 +116,7 @@ pub subs-sub : (ts : List Tree) (x : Sub) → 0 < length ts → all_subs (on_las
 subs-sub ts x some = sum-on_last (λ (t : Tree). length t.subs) all_subs all_subs-sum (push_sub x) 1 ts some (λ t _. omega (arith, length-append t.subs (x ∷ [])))
 
 pub strict-sub : (ts : List Tree) (x : Sub) → 0 < length ts → strict_trees (on_last (push_sub x) ts) ≡ strict_trees ts
-strict-sub ts x some = omega (arith, sum-on_last (λ (t : Tree). one_strict t.kind) strict_trees strict-sum (push_sub x) 0 ts some (λ t _. omega arith))
+strict-sub ts x some = omega (arith, sum-on_last (λ (t : Tree). one_if (is_strict t.kind)) strict_trees strict-sum (push_sub x) 0 ts some (λ t _. omega arith))
 
 pub update-sub : (ts : List Tree) (x : Sub) → 0 < length ts → update_subs (on_last (push_sub x) ts) ≡ update_subs ts + if_update (last_kind ts) 1
 update-sub ts x some =
@@ -127,7 +129,7 @@ pub subs-op : (ts : List Tree) (o : SubOp) → 0 < length ts → all_subs (on_la
 subs-op ts o some = omega (arith, sum-on_last (λ (t : Tree). length t.subs) all_subs all_subs-sum (on_last_sub (push_op o)) 0 ts some (λ t _. omega (arith, length-on_last (push_op o) t.subs)))
 
 pub strict-op : (ts : List Tree) (o : SubOp) → 0 < length ts → strict_trees (on_last (on_last_sub (push_op o)) ts) ≡ strict_trees ts
-strict-op ts o some = omega (arith, sum-on_last (λ (t : Tree). one_strict t.kind) strict_trees strict-sum (on_last_sub (push_op o)) 0 ts some (λ t _. omega arith))
+strict-op ts o some = omega (arith, sum-on_last (λ (t : Tree). one_if (is_strict t.kind)) strict_trees strict-sum (on_last_sub (push_op o)) 0 ts some (λ t _. omega arith))
 
 pub update-op : (ts : List Tree) (o : SubOp) → 0 < length ts → update_subs (on_last (on_last_sub (push_op o)) ts) ≡ update_subs ts
 update-op ts o some =

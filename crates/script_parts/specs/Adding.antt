@@ -5,10 +5,11 @@ use Rattle.std.specs.Str.{bytes_eq}
 use Rattle.commute_ops.specs.declared.kinds.Kind.{Kind}
 use Rattle.commute_ops.specs.declared.kinds.Kind.TheVariants.{Sum as SumKind}
 use Rattle.tv_base.specs.declared.numbers.NodeNo.{NodeNo}
+use Rattle.tv_base.specs.Sums.{one_if}
 pub use Rattle.script_parts.specs.Counts.{advances_in, all_ops, all_subs, loses_in}
 pub use Rattle.script_parts.specs.Valid.{last_of}
 use Rattle.script_parts.specs.Amounts.{magnitude}
-use Rattle.script_parts.specs.Counts.{if_update, one_put, one_strict, ops_in, strict_trees, subs_ops, trees_puts, update_subs}
+use Rattle.script_parts.specs.Counts.{if_update, one_put, ops_in, strict_trees, subs_ops, trees_puts, update_subs}
 use Rattle.script_parts.specs.Forms.{most_amount}
 use Rattle.script_parts.specs.Names.{is_name}
 use Rattle.script_parts.specs.Ranges.{is_in_range, may_start}
@@ -92,8 +93,8 @@ are_spread nodes trees = nat_lt 320000 (nodes * trees)
 abbrev pub has_no_tree_left : ℕ → TreeKind → List Tree → Bool
 has_no_tree_left nodes kind ts =
     nat_le 20000 (length ts) || are_spread nodes (length ts + 1) || nat_le 100000 (all_subs ts)
-    || nat_lt 1000 (strict_trees ts + one_strict kind)
-    || are_many (strict_trees ts + one_strict kind) (update_subs ts + if_update kind 1)
+    || nat_lt 1000 (strict_trees ts + one_if (is_strict kind))
+    || are_many (strict_trees ts + one_if (is_strict kind)) (update_subs ts + if_update kind 1)
 
 abbrev pub adds_tree : ScriptData → List ℕ → TreeKind → NodeNo → Result ScriptData Why
 adds_tree s name kind node =

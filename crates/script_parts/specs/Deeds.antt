@@ -15,8 +15,7 @@ with_set n (Bag ns) = Bag ns
 -- a sum lowered by n; other values stay
 abbrev pub with_drawn : ℤ → Value → Value
 with_drawn n (Sum old) = Sum (record { 0 = old.0 -ℤ n })
-with_drawn n (Top old) = Top old
-with_drawn n (Bag ns) = Bag ns
+with_drawn n w = w
 
 -- the value after a deed
 abbrev pub after_deed : Deed → Value → Value
@@ -29,14 +28,9 @@ after_deed (deeds.Draw n) w = with_drawn n w
 abbrev pub overwrites : Deed → Bool
 overwrites (deeds.Set n) = true
 overwrites (deeds.Draw n) = true
-overwrites deeds.Get = false
-overwrites (deeds.Apply op) = false
+overwrites _ = false
 
 -- the value that is found, where it is less than what is drawn
 abbrev pub found_short : Deed → Value → Option ℤ
 found_short (deeds.Draw n) (Sum found) = if int_lt found.0 n then Some found.0 else None
-found_short (deeds.Draw n) (Top found) = None
-found_short (deeds.Draw n) (Bag ns) = None
-found_short (deeds.Set n) w = None
-found_short deeds.Get w = None
-found_short (deeds.Apply op) w = None
+found_short _ _ = None

@@ -12,9 +12,7 @@ use Rattle.script_parts.specs.declared.parts.Form.{Form}
 -- an operation that lowers by a negative amount
 abbrev pub draws_negative : Deed → Bool
 draws_negative (deeds.Draw a) = is_negative a
-draws_negative (deeds.Apply op) = false
-draws_negative deeds.Get = false
-draws_negative (deeds.Set a) = false
+draws_negative _ = false
 
 abbrev pub is_in_range : Form → Deed → Bool
 is_in_range form deed = nat_le (magnitude deed) (most_amount form) && not (draws_negative deed)
@@ -22,8 +20,7 @@ is_in_range form deed = nat_le (magnitude deed) (most_amount form) && not (draws
 -- a bag starts empty
 abbrev pub starts_full : Kind → ℤ → Bool
 starts_full kinds.Bag a = not (unsigned_abs a == 0)
-starts_full kinds.Sum a = false
-starts_full kinds.Top a = false
+starts_full _ a = false
 
 abbrev pub may_start : Form → Kind → ℤ → Bool
 may_start form kind a = nat_le (unsigned_abs a) (most_amount form) && not (starts_full kind a)

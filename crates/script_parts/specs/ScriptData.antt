@@ -45,22 +45,19 @@ ops_of s t k = elim (sub_at s t k) [ Some sub ↦ sub.ops | None ↦ [] ]
 
 abbrev pub is_update : TreeKind → Bool
 is_update Update = true
-is_update Read = false
-is_update Strict = false
+is_update _ = false
 
 abbrev pub is_strict : TreeKind → Bool
 is_strict Strict = true
-is_strict Update = false
-is_strict Read = false
+is_strict _ = false
 
 -- tree t is there, and is an update tree
 abbrev pub updates : ScriptData → ℕ → Bool
 updates s t = elim (slice_get s.trees t) [ Some tree ↦ is_update tree.kind | None ↦ false ]
 
 abbrev pub is_read : TreeKind → Bool
-is_read Update = false
 is_read Read = true
-is_read Strict = false
+is_read _ = false
 
 -- tree t is there, and is a read tree
 abbrev pub reads : ScriptData → ℕ → Bool

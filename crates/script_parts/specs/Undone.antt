@@ -1,7 +1,7 @@
 -- What a tree of `add` operations becomes once one of its subtransactions fails: those that the failed one sent don't
 -- run, and what the others do is undone.
-use Rattle.std.specs.Prelude.{ℕ, Bool, true, false, not, if◌then◌else◌, ◌+◌, ◌==◌, ◌&&◌, ◌||◌, List, [], ◌∷◌, ◌++◌, length, get_or, take, map, pos, ◌-ℤ◌, count_by}
-use Rattle.commute_ops.specs.declared.kinds.Op.{Op}
+use Rattle.std.specs.Prelude.{ℕ, Bool, true, false, not, if◌then◌else◌, ◌+◌, ◌==◌, ◌&&◌, ◌||◌, List, [], ◌∷◌, ◌++◌, fold, length, get_or, take, map, pos, ◌-ℤ◌, count_by}
+use Rattle.std.specs.List.{list_all}
 use Rattle.commute_ops.specs.declared.kinds.Op.TheVariants as ops
 use Rattle.script_parts.specs.declared.parts.Deed.{Deed}
 use Rattle.script_parts.specs.declared.parts.Deed.TheVariants as deeds
@@ -15,8 +15,7 @@ goes_next failed goes x = not (length goes == 0) && (x.parent.0 == failed || get
 
 -- which subtransactions go, where this is known of those before these
 abbrev pub goes_from : ℕ → List Bool → List Sub → List Bool
-goes_from failed goes [] = goes
-goes_from failed goes (x ∷ xs) = goes_from failed (goes ++ goes_next failed goes x ∷ []) xs
+goes_from failed goes subs = fold (λ known x. known ++ goes_next failed known x ∷ []) goes subs
 
 -- how many of those before subtransaction k stay, which is its new number
 abbrev pub new_number : List Bool → ℕ → ℕ
@@ -34,23 +33,10 @@ staying failed goes k x = record {
 abbrev pub stays : ℕ → List Bool → ℕ → Sub → List Sub
 stays failed goes k x = if get_or goes k false then [] else staying failed goes k x ∷ []
 
--- those from number k on that stay, in order
-abbrev pub staying_from : ℕ → List Bool → ℕ → List Sub → List Sub
-staying_from failed goes k [] = []
-staying_from failed goes k (x ∷ xs) =
-    stays failed goes k x ++ staying_from failed goes (k + 1) xs
-
--- an amount with the other sign
-abbrev pub negated_op : Op → Op
-negated_op (ops.Add a) = ops.Add (pos 0 -ℤ a)
-negated_op (ops.Top a) = ops.Top a
-negated_op (ops.Put a) = ops.Put a
-
+-- an `add` with the other sign; any other deed as it is
 abbrev pub negated_deed : Deed → Deed
-negated_deed (deeds.Apply op) = deeds.Apply (negated_op op)
-negated_deed deeds.Get = deeds.Get
-negated_deed (deeds.Set a) = deeds.Set a
-negated_deed (deeds.Draw a) = deeds.Draw a
+negated_deed (deeds.Apply (ops.Add a)) = deeds.Apply (ops.Add (pos 0 -ℤ a))
+negated_deed deed = deed
 
 abbrev pub negated : SubOp → SubOp
 negated o = record { item = o.item; deed = negated_deed o.deed }
@@ -71,15 +57,14 @@ is_undone_sub failed goes k x = not (get_or goes k false) && (not (k == failed) 
 abbrev pub undoes : ℕ → List Bool → ℕ → Sub → List Sub
 undoes failed goes k x = if is_undone_sub failed goes k x then inverse failed goes x ∷ [] else []
 
--- what undoes those from number k on, in order
-abbrev pub inverses_from : ℕ → List Bool → ℕ → List Sub → List Sub
-inverses_from failed goes k [] = []
-inverses_from failed goes k (x ∷ xs) =
-    undoes failed goes k x ++ inverses_from failed goes (k + 1) xs
+-- what there is for each, by its number, of those from number k on, in order
+abbrev pub each_from : (ℕ → Sub → List Sub) → ℕ → List Sub → List Sub
+each_from f k [] = []
+each_from f k (x ∷ xs) = f k x ++ each_from f (k + 1) xs
 
 -- those that stay, and then what undoes them
 abbrev pub with_inverses : ℕ → List Bool → List Sub → List Sub
-with_inverses failed goes subs = staying_from failed goes 0 subs ++ inverses_from failed goes 0 subs
+with_inverses failed goes subs = each_from (stays failed goes) 0 subs ++ each_from (undoes failed goes) 0 subs
 
 -- the undone form of a tree of which this subtransaction fails
 abbrev pub undone : List Sub → ℕ → List Sub
@@ -88,17 +73,11 @@ undone subs failed = with_inverses failed (goes_from failed [] subs) subs
 -- an operation is an `add`
 abbrev pub is_add : Deed → Bool
 is_add (deeds.Apply (ops.Add a)) = true
-is_add (deeds.Apply (ops.Top a)) = false
-is_add (deeds.Apply (ops.Put a)) = false
-is_add deeds.Get = false
-is_add (deeds.Set a) = false
-is_add (deeds.Draw a) = false
+is_add _ = false
 
 -- all operations are `add`
 abbrev pub ops_add : List SubOp → Bool
-ops_add [] = true
-ops_add (o ∷ os) = is_add o.deed && ops_add os
+ops_add os = list_all (λ o. is_add o.deed) os
 
 abbrev pub subs_add : List Sub → Bool
-subs_add [] = true
-subs_add (x ∷ xs) = ops_add x.ops && subs_add xs
+subs_add ss = list_all (λ s. ops_add s.ops) ss

@@ -7,6 +7,7 @@ use Rattle.commute_ops.specs.declared.kinds.Kind.TheVariants.{Sum as SumKind, To
 use Rattle.commute_ops.specs.declared.kinds.Op.{Op}
 use Rattle.commute_ops.specs.declared.kinds.Op.TheVariants.{Add, Top, Put}
 use Rattle.commute_ops.specs.declared.kinds.TheConstants.{MOST_AMOUNT}
+use Rattle.tv_base.specs.Sums.{tally}
 pub use Rattle.script_parts.specs.Amounts.{magnitude, op_magnitude}
 use Rattle.script_parts.specs.Counts.{advances_in, all_ops, all_subs, loses_in, ops_in, strict_trees, trees_puts, update_subs}
 use Rattle.script_parts.specs.Forms.{most_amount, most_nodes}
@@ -47,16 +48,13 @@ deed_fits _ _ _ = false
 
 -- the magnitudes of all amounts on item x
 abbrev pub ops_load : ℕ → List SubOp → ℕ
-ops_load x [] = 0
-ops_load x (o ∷ os) = (if o.item.0 == x then magnitude o.deed else 0) + ops_load x os
+ops_load x os = tally (λ o. if o.item.0 == x then magnitude o.deed else 0) os
 
 abbrev pub subs_load : ℕ → List Sub → ℕ
-subs_load x [] = 0
-subs_load x (s ∷ ss) = ops_load x s.ops + subs_load x ss
+subs_load x ss = tally (λ s. ops_load x s.ops) ss
 
 abbrev pub trees_load : ℕ → List Tree → ℕ
-trees_load x [] = 0
-trees_load x (t ∷ ts) = subs_load x t.subs + trees_load x ts
+trees_load x ts = tally (λ t. subs_load x t.subs) ts
 
 -- the magnitude of the initial value
 abbrev pub initial_load : Option ItemRow → ℕ
@@ -112,9 +110,7 @@ pub record IsItem (nodes : ℕ) (r : ItemRow) : Type 0 where
 abbrev pub NamesInOrder : ℕ → ℕ → List ScriptRow → Type 0
 NamesInOrder k n [] = k ≡ n
 NamesInOrder k n (rows.Tree t ∷ rs) = (t.0 ≡ k) × NamesInOrder (k + 1) n rs
-NamesInOrder k n (rows.Advance ∷ rs) = NamesInOrder k n rs
-NamesInOrder k n (rows.Settle ∷ rs) = NamesInOrder k n rs
-NamesInOrder k n (rows.Lose ∷ rs) = NamesInOrder k n rs
+NamesInOrder k n (_ ∷ rs) = NamesInOrder k n rs
 
 abbrev pub item_names : List ItemRow → List (List ℕ)
 item_names items = map (λ r. r.name) items

@@ -1,8 +1,10 @@
 // How a record counts against the limits of a script.
 ghost use Rattle.std.specs.Prelude.{◌≡◌, ◌<◌, ◌==◌, length};
 ghost use Rattle.std.specs.List.{list_any};
+ghost use Rattle.tv_base.specs.Sums.{one_if};
 ghost use Rattle.script_parts.specs.Adding.{are_many, are_spread, has_touched, last_kind, touch};
-ghost use Rattle.script_parts.specs.Counts.{if_update, one_put, one_strict};
+ghost use Rattle.script_parts.specs.Counts.{if_update, one_put};
+ghost use Rattle.script_parts.specs.ScriptData.{is_strict};
 
 use crate::kinds::is_strict;
 use crate::parts::{Deed, Sub, SubOp, Tree, TreeKind};
@@ -30,7 +32,7 @@ pub fn are_spread(nodes: u8, trees: u32) -> bool
 
 /// How many strict trees a tree of this kind is.
 pub fn one_strict(kind: TreeKind) -> u32
-    ensures { result ≡ one_strict kind }
+    ensures { result ≡ one_if (is_strict kind) }
 {
     match kind {
         TreeKind::Strict => 1,

@@ -1,13 +1,13 @@
 -- How many entries a run has.
-use Rattle.std.specs.Prelude.{if◌then◌else◌, ℕ, ◌+◌, ◌-◌, ◌*◌, List, [], ◌∷◌, length}
+use Rattle.std.specs.Prelude.{if◌then◌else◌, ℕ, ◌+◌, ◌-◌, ◌*◌, List, length}
 use Rattle.letter_types.specs.declared.entries.Entry.{Entry}
 use Rattle.letter_types.specs.Letters.{own}
+use Rattle.tv_base.specs.Sums.{tally}
 use Rattle.tx_trees.specs.Counts.{has_strict, loses_in, strict_trees, update_subs}
 use Rattle.tx_trees.specs.declared.parts.Tree.{Tree}
 use Rattle.tx_trees.specs.declared.parts.TreeKind.{TreeKind}
-use Rattle.tx_trees.specs.declared.parts.TreeKind.TheVariants.{Read, Strict, Update}
 use Rattle.tx_trees.specs.Adding.{advances_in, all_subs}
-use Rattle.tx_trees.specs.ScriptData.{ScriptData}
+use Rattle.tx_trees.specs.ScriptData.{ScriptData, is_strict}
 use Rattle.world_model.specs.Coordinator.{start_coordinator}
 use Rattle.world_model.specs.Runs.{after}
 use Rattle.world_model.specs.Tables.{coordinator_table}
@@ -27,14 +27,11 @@ entries_of s rounds =
 
 -- so many for a strict tree
 abbrev pub if_strict : TreeKind → ℕ → ℕ
-if_strict Strict n = n
-if_strict Update n = 0
-if_strict Read n = 0
+if_strict kind n = if is_strict kind then n else 0
 
 -- how many subtransactions the strict trees have
 abbrev pub strict_subs : List Tree → ℕ
-strict_subs [] = 0
-strict_subs (t ∷ ts) = if_strict t.kind (length t.subs) + strict_subs ts
+strict_subs ts = tally (λ t. if_strict t.kind (length t.subs)) ts
 
 -- the further entries of a run with strict trees, at most: marks of an update tree are let go at each node that it visits;
 -- each node that a strict tree visits is told what was decided, and tells that it was applied; a subtransaction of an

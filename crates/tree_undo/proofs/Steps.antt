@@ -2,7 +2,7 @@
 use Rattle.std.proofs.Common.{◌≡◌, ◌+◌, ◌<◌, ◌∙◌, ◌∷◌, ◌++◌, [], ℕ, suc, Bool, List, length, drop, get_or, sym, ap, arith, append_assoc, add-one, drop-cons, ◌≤◌}
 use Rattle.tx_trees.specs.declared.parts.Sub.{Sub}
 use Rattle.tx_trees.proofs.UndoneTrees.{marks_len}
-use Rattle.tx_trees.specs.Undone.{goes_from, goes_next, inverses_from, staying_from, stays, undoes}
+use Rattle.tx_trees.specs.Undone.{each_from, goes_from, goes_next, stays, undoes}
 
 -- the rest of a list, from one of its places on
 rest_is : (xs : List Sub) (i : ℕ) (x : Sub) → i < length xs → x ≡ get_or xs i x → drop i xs ≡ x ∷ drop (i + 1) xs
@@ -16,20 +16,20 @@ marked failed goes more all xs i x lt here is so_far =
 
 -- one more that stays, or doesn't
 pub stayed : (failed : ℕ) (goes : List Bool) (out new all xs : List Sub) (i : ℕ) (x : Sub) → i < length xs → x ≡ get_or xs i x → new ≡ out ++ stays failed goes i x
-    → out ++ staying_from failed goes i (drop i xs) ≡ all → new ++ staying_from failed goes (i + 1) (drop (i + 1) xs) ≡ all
+    → out ++ each_from (stays failed goes) i (drop i xs) ≡ all → new ++ each_from (stays failed goes) (i + 1) (drop (i + 1) xs) ≡ all
 stayed failed goes out new all xs i x lt here is so_far =
-    ap (λ (y : List Sub). y ++ staying_from failed goes (i + 1) (drop (i + 1) xs)) is
-    ∙ append_assoc out (stays failed goes i x) (staying_from failed goes (i + 1) (drop (i + 1) xs))
-    ∙ sym (ap (λ (y : List Sub). out ++ staying_from failed goes i y) (rest_is xs i x lt here))
+    ap (λ (y : List Sub). y ++ each_from (stays failed goes) (i + 1) (drop (i + 1) xs)) is
+    ∙ append_assoc out (stays failed goes i x) (each_from (stays failed goes) (i + 1) (drop (i + 1) xs))
+    ∙ sym (ap (λ (y : List Sub). out ++ each_from (stays failed goes) i y) (rest_is xs i x lt here))
     ∙ so_far
 
 -- one more that is undone, or isn't
 pub undid : (failed : ℕ) (goes : List Bool) (out new all xs : List Sub) (i : ℕ) (x : Sub) → i < length xs → x ≡ get_or xs i x → new ≡ out ++ undoes failed goes i x
-    → out ++ inverses_from failed goes i (drop i xs) ≡ all → new ++ inverses_from failed goes (i + 1) (drop (i + 1) xs) ≡ all
+    → out ++ each_from (undoes failed goes) i (drop i xs) ≡ all → new ++ each_from (undoes failed goes) (i + 1) (drop (i + 1) xs) ≡ all
 undid failed goes out new all xs i x lt here is so_far =
-    ap (λ (y : List Sub). y ++ inverses_from failed goes (i + 1) (drop (i + 1) xs)) is
-    ∙ append_assoc out (undoes failed goes i x) (inverses_from failed goes (i + 1) (drop (i + 1) xs))
-    ∙ sym (ap (λ (y : List Sub). out ++ inverses_from failed goes i y) (rest_is xs i x lt here))
+    ap (λ (y : List Sub). y ++ each_from (undoes failed goes) (i + 1) (drop (i + 1) xs)) is
+    ∙ append_assoc out (undoes failed goes i x) (each_from (undoes failed goes) (i + 1) (drop (i + 1) xs))
+    ∙ sym (ap (λ (y : List Sub). out ++ each_from (undoes failed goes) i y) (rest_is xs i x lt here))
     ∙ so_far
 
 pub few_marks : (failed : ℕ) (goes marks : List Bool) (xs ss : List Sub) → goes ≡ marks → marks ≡ goes_from failed [] xs → xs ≡ ss → length ss ≤ 64 → length goes ≤ 64

@@ -11,7 +11,7 @@ use Rattle.tx_trees.specs.declared.parts.Deed.TheVariants as deeds
 use Rattle.tx_trees.specs.declared.parts.Sub.{Sub}
 use Rattle.tx_trees.specs.declared.parts.SubOp.{SubOp}
 use Rattle.tree_undo.specs.Balance.{added, sum_of_ops, sum_of_subs}
-use Rattle.tx_trees.specs.Undone.{goes_from, inverses_from, negated, negated_deed, new_number, staying_from, stays, undoes, undone}
+use Rattle.tx_trees.specs.Undone.{each_from, goes_from, negated, negated_deed, new_number, stays, undoes, undone}
 
 -- an amount with the other sign takes back what the amount adds
 added_negated : (d : Deed) → added (negated_deed d) ≡ pos 0 -ℤ added d
@@ -55,7 +55,7 @@ even x p q node os false false true is = let none = nothing x os is in omega (ar
 even x p q node os false false false is = omega (arith, ints, negated_all x os)
 
 -- what stays, and what undoes it
-all_even : (failed : ℕ) (goes : List Bool) (k x : ℕ) (ss : List Sub) → sum_of_subs x (staying_from failed goes k ss) +ℤ sum_of_subs x (inverses_from failed goes k ss) ≡ pos 0
+all_even : (failed : ℕ) (goes : List Bool) (k x : ℕ) (ss : List Sub) → sum_of_subs x (each_from (stays failed goes) k ss) +ℤ sum_of_subs x (each_from (undoes failed goes) k ss) ≡ pos 0
 all_even failed goes k x [] = refl
 all_even failed goes k x (s ∷ ss) =
     let here : sum_of_subs x (stays failed goes k s) +ℤ sum_of_subs x (undoes failed goes k s) ≡ pos 0 =
@@ -64,8 +64,8 @@ all_even failed goes k x (s ∷ ss) =
       arith,
       ints,
       here,
-      added-append x (stays failed goes k s) (staying_from failed goes (k + 1) ss),
-      added-append x (undoes failed goes k s) (inverses_from failed goes (k + 1) ss),
+      added-append x (stays failed goes k s) (each_from (stays failed goes) (k + 1) ss),
+      added-append x (undoes failed goes k s) (each_from (undoes failed goes) (k + 1) ss),
       all_even failed goes (k + 1) x ss,
     )
 
@@ -73,4 +73,4 @@ all_even failed goes k x (s ∷ ss) =
 pub undone_even : (subs : List Sub) (failed x : ℕ) → sum_of_subs x (undone subs failed) ≡ pos 0
 undone_even subs failed x =
     let goes = goes_from failed [] subs in
-    omega (arith, ints, added-append x (staying_from failed goes 0 subs) (inverses_from failed goes 0 subs), all_even failed goes 0 x subs)
+    omega (arith, ints, added-append x (each_from (stays failed goes) 0 subs) (each_from (undoes failed goes) 0 subs), all_even failed goes 0 x subs)

@@ -3,8 +3,8 @@ ghost use Rattle.std.specs.Prelude.{◌≡◌, ◌≤◌, ◌==◌, if◌then◌
 ghost use Rattle.std.specs.List.{AllByRecursion};
 ghost use Rattle.tv_base.specs.declared.numbers.TheConstants.{MOST_SUBS_OF_TREE};
 ghost use Rattle.commute_ops.specs.declared.kinds.TheConstants.{MOST_AMOUNT};
-ghost use Rattle.tx_trees.specs.Amounts.{magnitude, op_magnitude};
-ghost use Rattle.tx_trees.specs.Undone.{inverse, negated, negated_deed, negated_op, staying};
+ghost use Rattle.tx_trees.specs.Amounts.{magnitude};
+ghost use Rattle.tx_trees.specs.Undone.{inverse, negated, negated_deed, staying};
 
 use crate::marks::new_number;
 use commute_ops::Op;
@@ -12,24 +12,13 @@ use std::alloc::Global;
 use tv_base::{NoMemory, SubNo};
 use tx_trees::{Deed, Sub, SubOp, SubOps};
 
-// The operation with the other sign.
-fn negated_op(op: Op) -> Op
-    requires { op_magnitude op ≤ MOST_AMOUNT }
-    ensures { result ≡ negated_op op }
-{
-    match op {
-        Op::Add(amount) => Op::Add(0 - amount),
-        Op::Top(amount) => Op::Top(amount),
-        Op::Put(amount) => Op::Put(amount),
-    }
-}
-
+// An `add` with the other sign; any other deed as it is.
 fn negated_deed(deed: Deed) -> Deed
     requires { magnitude deed ≤ MOST_AMOUNT }
     ensures { result ≡ negated_deed deed }
 {
     match deed {
-        Deed::Apply(op) => Deed::Apply(negated_op(op)),
+        Deed::Apply(Op::Add(amount)) => Deed::Apply(Op::Add(0 - amount)),
         other => other,
     }
 }

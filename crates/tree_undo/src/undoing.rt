@@ -4,7 +4,7 @@ ghost use Rattle.std.specs.List.{AllByRecursion};
 ghost use Rattle.tv_base.specs.declared.numbers.TheConstants.{MOST_SUBS_OF_TREE};
 ghost use Rattle.commute_ops.specs.declared.kinds.TheConstants.{MOST_AMOUNT};
 ghost use Rattle.tx_trees.specs.Amounts.{magnitude};
-ghost use Rattle.tx_trees.specs.Undone.{inverses_from, staying_from, stays, undoes, undone};
+ghost use Rattle.tx_trees.specs.Undone.{each_from, stays, undoes, undone};
 
 use crate::marks::{goes_at, is_undone, marks};
 use crate::parts::{inverse, staying};
@@ -41,7 +41,7 @@ fn push_staying(
     failed: SubNo,
 ) -> Result<(), NoMemory>
     requires { length goes.now ≤ MOST_SUBS_OF_TREE }
-    ensures { OnOk result (out.new ≡ out.old ++ staying_from failed.0 goes.now 0 subs.now) }
+    ensures { OnOk result (out.new ≡ out.old ++ each_from (stays failed.0 goes.now) 0 subs.now) }
 {
     for (k, sub) in subs.iter().enumerate() {
         push_stays(alloc, out, goes, k, sub, failed)?;
@@ -80,7 +80,7 @@ fn push_inverses(
 ) -> Result<(), NoMemory>
     requires few { length goes.now ≤ MOST_SUBS_OF_TREE }
     requires small { AllByRecursion (λ s. AllByRecursion (λ o. magnitude o.deed ≤ MOST_AMOUNT) s.ops) subs.now }
-    ensures { OnOk result (out.new ≡ out.old ++ inverses_from failed.0 goes.now 0 subs.now) }
+    ensures { OnOk result (out.new ≡ out.old ++ each_from (undoes failed.0 goes.now) 0 subs.now) }
 {
     for (k, sub) in subs.iter().enumerate() {
         push_undoes(alloc, out, goes, k, sub, failed)?;

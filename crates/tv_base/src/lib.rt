@@ -1,5 +1,5 @@
 //! The numbers, lists and names that every other crate speaks of, and the outside: numbers with names of their own and
-//! the limits of several crates, `NoMemory`, the list type `Seq`, `Name`, `Text`; draws; sources, sinks and gates, in
+//! the limits of several crates, `NoMemory`, the list type `Seq`, `Name`, `Text`; draws; sums over lists; sources, sinks and gates, in
 //! memory and over std's readers and writers; reading all and writing all.
 #![tactic(auto)]
 

@@ -11,6 +11,7 @@ use Rattle.tv_base.proofs.ByPlace.{slice_get-old}
 use Rattle.tv_base.specs.declared.numbers.NodeNo.{NodeNo}
 use Rattle.tv_base.specs.declared.numbers.TreeNo.{TreeNo}
 use Rattle.commute_ops.specs.declared.kinds.Op.TheVariants as ops
+use Rattle.tv_base.specs.Sums.{one_if}
 use Rattle.script_parts.specs.declared.parts.Deed.{Deed}
 use Rattle.script_parts.specs.declared.parts.Deed.TheVariants as deeds
 use Rattle.script_parts.specs.declared.parts.Form.TheVariants as forms
@@ -25,10 +26,10 @@ use Rattle.script_parts.specs.declared.parts.TreeKind.TheVariants as trees
 use Rattle.tx_trees.specs.declared.script.Script.TheInside.{Inside}
 use Rattle.script_parts.specs.Adding.{last_kind, on_last, on_last_sub, push_op, push_sub, rooted}
 use Rattle.script_parts.specs.Amounts.{magnitude}
-use Rattle.script_parts.specs.Counts.{advances_in, all_ops, all_subs, loses_in, if_update, one_put, one_strict, strict_trees, trees_puts, update_subs}
+use Rattle.script_parts.specs.Counts.{advances_in, all_ops, all_subs, loses_in, if_update, one_put, strict_trees, trees_puts, update_subs}
 use Rattle.tx_trees.specs.Inside.{IsKept, script_data}
 use Rattle.script_parts.specs.inside.Passing.{MayAddItem, MayAddOp, MayAddSub, MayAddTree}
-use Rattle.script_parts.specs.ScriptData.{ScriptData}
+use Rattle.script_parts.specs.ScriptData.{ScriptData, is_strict}
 use Rattle.script_parts.specs.Valid.{IsValid, initial_load, item_names, load, tree_names, trees_load}
 use Rattle.script_parts.proofs.Lists.{slice_get-seam, sum-push}
 use Rattle.tx_trees.proofs.Stays.{advances-advance, advances-lose, advances-settle, advances-tree, loses-push, names-on_last, some_last_subs, trees_before, valid_item, valid_op, valid_row, valid_sub, valid_tree, valid_upgraded}
@@ -112,7 +113,7 @@ kept_item s items names totals puts r names_are is totals_are puts_are may h =
 -- one more tree, with its root alone
 pub kept_tree : (s : Inside) (trees : Vec Tree) (names : List (List ℕ)) (rs : Vec ScriptRow) (n strict updates : ℕ) (name : List ℕ) (kind : TreeKind) (node : NodeNo)
     → names ≡ s.tree_names ++ name ∷ [] → trees.items ≡ s.trees.items ++ rooted name kind node ∷ [] → rs.items ≡ s.rows.items ++ rows.Tree (record { 0 = length s.trees.items }) ∷ []
-    → n ≡ s.subs + 1 → strict ≡ s.strict + one_strict kind → updates ≡ s.update_subs + if_update kind 1 → MayAddTree (script_data s) name kind node → IsKept s
+    → n ≡ s.subs + 1 → strict ≡ s.strict + one_if (is_strict kind) → updates ≡ s.update_subs + if_update kind 1 → MayAddTree (script_data s) name kind node → IsKept s
     → IsKept (record s { trees = trees; tree_names = names; rows = rs; begun = true; subs = n; strict = strict; update_subs = updates })
 kept_tree s trees names rs n strict updates name kind node names_are is rows_are n_is strict_is updates_are may h =
     let t : Tree = rooted name kind node in
@@ -132,7 +133,7 @@ kept_tree s trees names rs n strict updates name kind node names_are is rows_are
       ops = omega (arith, ap all_ops is, total-tree op_total s.trees.items t x refl refl, h.ops);
       advances = omega (arith, ap advances_in rows_are, advances-tree s.rows.items number, h.advances);
       loses = omega (arith, ap loses_in rows_are, loses-push s.rows.items (rows.Tree number), h.loses);
-      strict = omega (arith, ap strict_trees is, sum-push (λ (u : Tree). one_strict u.kind) strict_trees strict-sum s.trees.items t, h.strict);
+      strict = omega (arith, ap strict_trees is, sum-push (λ (u : Tree). one_if (is_strict u.kind)) strict_trees strict-sum s.trees.items t, h.strict);
       update_subs = omega (arith, ap update_subs is, sum-push (λ (u : Tree). if_update u.kind (length u.subs)) update_subs update-sum s.trees.items t, h.update_subs);
     }
 

@@ -12,11 +12,12 @@ use Rattle.std.proofs.lemmas.Nat.{mul-le}
 use Rattle.commute_ops.specs.declared.kinds.Kind.{Kind}
 use Rattle.commute_ops.specs.declared.kinds.Kind.TheVariants as kinds
 use Rattle.commute_ops.specs.declared.kinds.TheConstants.{MOST_AMOUNT}
+use Rattle.tv_base.specs.Sums.{one_if}
 use Rattle.tv_base.specs.declared.numbers.TreeNo.{TreeNo}
 use Rattle.script_parts.specs.Adding.{adds_advance, adds_lose, are_crowded, failed_tree, fresh, is_heavy, may_fail, has_touched, item_kind_at, last_count, last_kind, last_node, last_of, last_sub, last_subs, node_at, on_last, on_last_sub, place_of, push_op, push_sub, touch}
 use Rattle.script_parts.specs.Amounts.{magnitude}
 use Rattle.script_parts.specs.Forms.{most_amount}
-use Rattle.script_parts.specs.Counts.{advances_in, all_ops, all_subs, loses_in, if_update, one_put, one_strict, ops_in, strict_trees, subs_ops, trees_puts, update_subs}
+use Rattle.script_parts.specs.Counts.{advances_in, all_ops, all_subs, loses_in, if_update, one_put, ops_in, strict_trees, subs_ops, trees_puts, update_subs}
 use Rattle.script_parts.specs.inside.Passing.{MayAddItem, MayAddOp, MayAddSub, MayAddTree}
 use Rattle.script_parts.specs.Ranges.{draws_negative, is_in_range, may_start}
 use Rattle.script_parts.specs.Rebuilt.{RebuiltAs, fail_added, items_added, name_at, ops_added, picks_added, rebuilt, rooted_added, row_added, rows_added, subs_added, then_more, tree_added}
@@ -273,8 +274,8 @@ module _ (s : ScriptData) (h : IsValid s) where
       let len = length-append S (x ∷ X) in
       let subs : all_subs s.trees ≡ all_subs T + (length t.subs + all_subs Ts) = ap all_subs (sym e) ∙ sum-append (λ (v : Tree). length v.subs) all_subs all_subs-sum T (t ∷ Ts) in
       let subs_now = sum-push (λ (v : Tree). length v.subs) all_subs all_subs-sum T u in
-      let strict : strict_trees s.trees ≡ strict_trees T + (one_strict kind + strict_trees Ts) = ap strict_trees (sym e) ∙ sum-append (λ (v : Tree). one_strict v.kind) strict_trees strict-sum T (t ∷ Ts) in
-      let strict_now = sum-push (λ (v : Tree). one_strict v.kind) strict_trees strict-sum T u in
+      let strict : strict_trees s.trees ≡ strict_trees T + (one_if (is_strict kind) + strict_trees Ts) = ap strict_trees (sym e) ∙ sum-append (λ (v : Tree). one_if (is_strict v.kind)) strict_trees strict-sum T (t ∷ Ts) in
+      let strict_now = sum-push (λ (v : Tree). one_if (is_strict v.kind)) strict_trees strict-sum T u in
       let updates : update_subs s.trees ≡ update_subs T + (if_update kind (length t.subs) + update_subs Ts) =
       ap update_subs (sym e) ∙ sum-append (λ (v : Tree). if_update v.kind (length v.subs)) update_subs update-sum T (t ∷ Ts) in
       let updates_now = sum-push (λ (v : Tree). if_update v.kind (length v.subs)) update_subs update-sum T u in
@@ -317,20 +318,20 @@ module _ (s : ScriptData) (h : IsValid s) where
       distinct-front bytes_eq nat_list_eq_equiv.symm (tree_names T) (tree_names Ts) name (subst (IsDistinct bytes_eq) names h.distinct_trees) in
       let len : length s.trees ≡ length T + suc (length Ts) = ap length (sym e) ∙ omega (arith, length-append T (t ∷ Ts)) in
       let subs : all_subs s.trees ≡ all_subs T + (length t.subs + all_subs Ts) = ap all_subs (sym e) ∙ sum-append (λ (v : Tree). length v.subs) all_subs all_subs-sum T (t ∷ Ts) in
-      let strict : strict_trees s.trees ≡ strict_trees T + (one_strict kind + strict_trees Ts) = ap strict_trees (sym e) ∙ sum-append (λ (v : Tree). one_strict v.kind) strict_trees strict-sum T (t ∷ Ts) in
+      let strict : strict_trees s.trees ≡ strict_trees T + (one_if (is_strict kind) + strict_trees Ts) = ap strict_trees (sym e) ∙ sum-append (λ (v : Tree). one_if (is_strict v.kind)) strict_trees strict-sum T (t ∷ Ts) in
       let updates : update_subs s.trees ≡ update_subs T + (if_update kind (length t.subs) + update_subs Ts) =
       ap update_subs (sym e) ∙ sum-append (λ (v : Tree). if_update v.kind (length v.subs)) update_subs update-sum T (t ∷ Ts) in
       let grown = update_grown kind 0 (length t.subs) (omega arith) in
       let places = mul-le s.nodes (length T + 1) s.nodes (length s.trees) (omega arith) (omega arith) in
-      let pairs = mul-le (strict_trees T + one_strict kind) (update_subs T + if_update kind 1) (strict_trees s.trees) (update_subs s.trees) (omega arith) (omega arith) in
+      let pairs = mul-le (strict_trees T + one_if (is_strict kind)) (update_subs T + if_update kind 1) (strict_trees s.trees) (update_subs s.trees) (omega arith) (omega arith) in
       record {
         place = lt-leb s.nodes x.node.0 tree.subs.0.node;
         plain = tree.name;
         free = sym (has_tree name T) ∙ new;
         room = or_from _ _ (or_from _ _ (or_from _ _ (or_from _ _ (lt-leb 20000 (length T) (omega (arith, h.few_trees)))
             (le-ltb 320000 (s.nodes * (length T + 1)) (omega (arith, places, h.limited.places)))) (lt-leb 100000 (all_subs T) (omega (arith, h.limited.subs))))
-            (le-ltb 1000 (strict_trees T + one_strict kind) (omega (arith, h.limited.strict))))
-            (le-ltb 1000000 ((strict_trees T + one_strict kind) * (update_subs T + if_update kind 1)) (omega (arith, pairs, h.limited.pairs)));
+            (le-ltb 1000 (strict_trees T + one_if (is_strict kind)) (omega (arith, h.limited.strict))))
+            (le-ltb 1000000 ((strict_trees T + one_if (is_strict kind)) * (update_subs T + if_update kind 1)) (omega (arith, pairs, h.limited.pairs)));
       }
 
   rooted_done : (T Ts : List Tree) (name : List ℕ) (kind : TreeKind) (subs : List Sub) (rs : List ScriptRow) (b : Bool) → T ++ tree_of name kind subs ∷ Ts ≡ s.trees
@@ -409,8 +410,8 @@ module _ (s : ScriptData) (h : IsValid s) where
       ap tree_names (sym e)
       ∙ map-append (λ (v : Tree). v.name) T (t ∷ Ts)
       ∙ sym (ap (λ (ns : List (List ℕ)). ns ++ tree_names Ts) (map-append (λ (v : Tree). v.name) T (u ∷ [])) ∙ append_assoc (tree_names T) (t.name ∷ []) (tree_names Ts)) in
-      let strict : strict_trees s.trees ≡ strict_trees T + (one_strict t.kind + strict_trees Ts) = ap strict_trees (sym e) ∙ sum-append (λ (v : Tree). one_strict v.kind) strict_trees strict-sum T (t ∷ Ts) in
-      let strict_now = sum-push (λ (v : Tree). one_strict v.kind) strict_trees strict-sum T u in
+      let strict : strict_trees s.trees ≡ strict_trees T + (one_if (is_strict t.kind) + strict_trees Ts) = ap strict_trees (sym e) ∙ sum-append (λ (v : Tree). one_if (is_strict v.kind)) strict_trees strict-sum T (t ∷ Ts) in
+      let strict_now = sum-push (λ (v : Tree). one_if (is_strict v.kind)) strict_trees strict-sum T u in
       let places = mul-le s.nodes n s.nodes (length s.trees) (omega arith) (omega arith) in
       let zero_first : 0 + n ≡ n = omega arith in
       record {
@@ -449,8 +450,8 @@ module _ (s : ScriptData) (h : IsValid s) where
       let subs_now = sum-push (λ (v : Tree). length v.subs) all_subs all_subs-sum T t in
       let ops : all_ops s.trees ≡ all_ops T + (subs_ops t.subs + all_ops Ts) = ap all_ops (sym e) ∙ sum-append (λ (v : Tree). subs_ops v.subs) all_ops op_total.trees T (t ∷ Ts) in
       let ops_now = sum-push (λ (v : Tree). subs_ops v.subs) all_ops op_total.trees T t in
-      let strict : strict_trees s.trees ≡ strict_trees T + (one_strict t.kind + strict_trees Ts) = ap strict_trees (sym e) ∙ sum-append (λ (v : Tree). one_strict v.kind) strict_trees strict-sum T (t ∷ Ts) in
-      let strict_now = sum-push (λ (v : Tree). one_strict v.kind) strict_trees strict-sum T t in
+      let strict : strict_trees s.trees ≡ strict_trees T + (one_if (is_strict t.kind) + strict_trees Ts) = ap strict_trees (sym e) ∙ sum-append (λ (v : Tree). one_if (is_strict v.kind)) strict_trees strict-sum T (t ∷ Ts) in
+      let strict_now = sum-push (λ (v : Tree). one_if (is_strict v.kind)) strict_trees strict-sum T t in
       let updates : update_subs s.trees ≡ update_subs T + (if_update t.kind (length t.subs) + update_subs Ts) =
       ap update_subs (sym e) ∙ sum-append (λ (v : Tree). if_update v.kind (length v.subs)) update_subs update-sum T (t ∷ Ts) in
       let updates_now = sum-push (λ (v : Tree). if_update v.kind (length v.subs)) update_subs update-sum T t in

@@ -13,11 +13,12 @@ use Rattle.tv_base.proofs.Truths.{at_most}
 use Rattle.commute_ops.specs.declared.kinds.Kind.{Kind}
 use Rattle.commute_ops.specs.declared.kinds.Kind.TheVariants as kinds
 use Rattle.commute_ops.specs.declared.kinds.TheConstants.{MOST_AMOUNT}
+use Rattle.tv_base.specs.Sums.{one_if}
 use Rattle.tv_base.specs.declared.numbers.NodeNo.{NodeNo}
 use Rattle.tv_base.specs.declared.numbers.TreeNo.{TreeNo}
 use Rattle.script_parts.specs.Adding.{are_many, are_spread, has_no_op_left, has_no_sub_left, has_no_tree_left, has_touched, item_kind_at, last_count, last_kind, last_node, last_of, last_subs, node_at, on_last, on_last_sub, push_op, push_sub, rooted, touch, upgraded, with_item, with_op, with_row, with_sub, with_tree}
 use Rattle.script_parts.specs.Amounts.{magnitude}
-use Rattle.script_parts.specs.Counts.{advances_in, all_ops, all_subs, is_lose, loses_in, if_update, one_put, one_strict, ops_in, ops_puts, strict_trees, subs_puts, trees_puts, update_subs}
+use Rattle.script_parts.specs.Counts.{advances_in, all_ops, all_subs, is_lose, loses_in, if_update, one_put, ops_in, ops_puts, strict_trees, subs_puts, trees_puts, update_subs}
 use Rattle.script_parts.specs.Forms.{most_amount, most_nodes}
 use Rattle.script_parts.specs.inside.Passing.{MayAddItem, MayAddOp, MayAddSub, MayAddTree}
 use Rattle.script_parts.specs.Ranges.{draws_negative, is_in_range, may_start, starts_full}
@@ -334,8 +335,8 @@ pub record TreesLeft (nodes : ℕ) (kind : TreeKind) (ts : List Tree) : Type 0 w
   pub trees : length ts < 20000
   pub places : nodes * (length ts + 1) ≤ 320000
   pub subs : all_subs ts < 100000
-  pub strict : strict_trees ts + one_strict kind ≤ 1000
-  pub pairs : (strict_trees ts + one_strict kind) * (update_subs ts + if_update kind 1) ≤ 1000000
+  pub strict : strict_trees ts + one_if (is_strict kind) ≤ 1000
+  pub pairs : (strict_trees ts + one_if (is_strict kind)) * (update_subs ts + if_update kind 1) ≤ 1000000
 
 pub trees_left : (nodes : ℕ) (kind : TreeKind) (ts : List Tree) → has_no_tree_left nodes kind ts ≡ false → TreesLeft nodes kind ts
 trees_left nodes kind ts e =
@@ -343,16 +344,16 @@ trees_left nodes kind ts e =
     let y = are_spread nodes (length ts + 1) in
     let a = z || y in
     let b = nat_le 100000 (all_subs ts) in
-    let c = nat_lt 1000 (strict_trees ts + one_strict kind) in
-    let d = are_many (strict_trees ts + one_strict kind) (update_subs ts + if_update kind 1) in
+    let c = nat_lt 1000 (strict_trees ts + one_if (is_strict kind)) in
+    let d = are_many (strict_trees ts + one_if (is_strict kind)) (update_subs ts + if_update kind 1) in
     let f = or_left (a || b || c) d e in
     let g = or_left (a || b) c f in
     record {
       trees = leb-false 20000 (length ts) (or_left z y (or_left a b g));
       places = ltb-false 320000 (nodes * (length ts + 1)) (or_right z y (or_left a b g));
       subs = leb-false 100000 (all_subs ts) (or_right a b g);
-      strict = ltb-false 1000 (strict_trees ts + one_strict kind) (or_right (a || b) c f);
-      pairs = ltb-false 1000000 ((strict_trees ts + one_strict kind) * (update_subs ts + if_update kind 1)) (or_right (a || b || c) d e);
+      strict = ltb-false 1000 (strict_trees ts + one_if (is_strict kind)) (or_right (a || b) c f);
+      pairs = ltb-false 1000000 ((strict_trees ts + one_if (is_strict kind)) * (update_subs ts + if_update kind 1)) (or_right (a || b || c) d e);
     }
 
 pub valid_tree : (s : ScriptData) (name : List ℕ) (kind : TreeKind) (node : NodeNo) → MayAddTree s name kind node → IsValid s → IsValid (with_tree s name kind node)
@@ -375,7 +376,7 @@ valid_tree s name kind node may h =
     let tree : IsTree s.nodes s.items t = record { root = omega arith; few = omega arith; subs = (root, tt); name = may.plain; once = λ _. tt } in
     let names : tree_names (s.trees ++ t ∷ []) ≡ tree_names s.trees ++ name ∷ [] = map-append (λ (u : Tree). u.name) s.trees (t ∷ []) in
     let new : list_any (bytes_eq name) (tree_names s.trees) ≡ false = has_tree name s.trees ∙ may.free in
-    let strict : strict_trees (s.trees ++ t ∷ []) ≡ strict_trees s.trees + one_strict kind = sum-push (λ (u : Tree). one_strict u.kind) strict_trees strict-sum s.trees t in
+    let strict : strict_trees (s.trees ++ t ∷ []) ≡ strict_trees s.trees + one_if (is_strict kind) = sum-push (λ (u : Tree). one_if (is_strict u.kind)) strict_trees strict-sum s.trees t in
     let updates : update_subs (s.trees ++ t ∷ []) ≡ update_subs s.trees + if_update kind 1 =
     sum-push (λ (u : Tree). if_update u.kind (length u.subs)) update_subs update-sum s.trees t in
     let one_more = sum-push (λ (u : Tree). length u.subs) all_subs all_subs-sum s.trees t in

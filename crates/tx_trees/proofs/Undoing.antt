@@ -10,7 +10,7 @@ use Rattle.tv_base.proofs.Truths.{at_most, left_true, right_true}
 use Rattle.tv_base.proofs.Chosen.{if_zero}
 use Rattle.commute_ops.specs.declared.kinds.Op.TheVariants as ops
 use Rattle.script_parts.specs.Adding.{any_from, are_crowded, are_many, failed_tree, is_heavy, last_may_fail, last_of, last_subs, last_tree_subs, may_fail, on_last, with_failed}
-use Rattle.script_parts.specs.Counts.{all_ops, all_subs, if_update, one_put, one_strict, ops_puts, strict_trees, subs_ops, subs_puts, trees_puts, update_subs}
+use Rattle.script_parts.specs.Counts.{all_ops, all_subs, if_update, one_put, ops_puts, strict_trees, subs_ops, subs_puts, trees_puts, update_subs}
 use Rattle.commute_ops.specs.declared.kinds.TheConstants.{MOST_AMOUNT}
 use Rattle.script_parts.specs.Amounts.{magnitude}
 use Rattle.script_parts.specs.Forms.{most_amount}
@@ -21,10 +21,11 @@ use Rattle.script_parts.specs.inside.Totals.{AreTotals}
 use Rattle.script_parts.specs.Names.{is_name}
 use Rattle.script_parts.specs.Rebuilt.{written_subs}
 use Rattle.script_parts.specs.inside.Passing.{MayFail, MayUndo}
-use Rattle.script_parts.specs.ScriptData.{ScriptData, is_update}
-use Rattle.script_parts.specs.Undone.{goes_from, inverse, inverses_from, is_add, is_undone_sub, negated, negated_deed, ops_add, staying, staying_from, stays, subs_add, undoes, undone}
+use Rattle.script_parts.specs.ScriptData.{ScriptData, is_update, is_strict}
+use Rattle.script_parts.specs.Undone.{each_from, goes_from, inverse, is_add, is_undone_sub, negated, negated_deed, ops_add, staying, stays, subs_add, undoes, undone}
 use Rattle.script_parts.specs.Valid.{AreSubs, AreWithin, HasFailed, IsOp, IsTree, IsValid, MayAllHaveFailed, MayHaveFailed, as_written, load, ops_load, subs_load, tree_names, trees_load}
 use Rattle.std.specs.Global.{Vec}
+use Rattle.tv_base.specs.Sums.{one_if}
 use Rattle.tx_trees.specs.declared.script.Script.TheInside.{Inside}
 use Rattle.script_parts.specs.declared.parts.Deed.{Deed}
 use Rattle.script_parts.specs.declared.parts.Deed.TheVariants as deeds
@@ -155,24 +156,24 @@ if_some : (b : Bool) (x : Sub) → ops_add x.ops ≡ true → subs_add (if b the
 if_some true x e = and_from (ops_add x.ops) true e refl
 if_some false x e = refl
 
-staying_adds : (failed : ℕ) (goes : List Bool) (k : ℕ) (ss : List Sub) → subs_add ss ≡ true → subs_add (staying_from failed goes k ss) ≡ true
+staying_adds : (failed : ℕ) (goes : List Bool) (k : ℕ) (ss : List Sub) → subs_add ss ≡ true → subs_add (each_from (stays failed goes) k ss) ≡ true
 staying_adds failed goes k [] e = refl
 staying_adds failed goes k (s ∷ ss) e =
-    adds-append (stays failed goes k s) (staying_from failed goes (k + 1) ss)
+    adds-append (stays failed goes k s) (each_from (stays failed goes) (k + 1) ss)
     (if_none (get_or goes k false) (staying failed goes k s) (left_adds (k == failed) s.ops (left_true (ops_add s.ops) (subs_add ss) e)))
     (staying_adds failed goes (k + 1) ss (right_true (ops_add s.ops) (subs_add ss) e))
 
-inverses_add : (failed : ℕ) (goes : List Bool) (k : ℕ) (ss : List Sub) → subs_add ss ≡ true → subs_add (inverses_from failed goes k ss) ≡ true
+inverses_add : (failed : ℕ) (goes : List Bool) (k : ℕ) (ss : List Sub) → subs_add ss ≡ true → subs_add (each_from (undoes failed goes) k ss) ≡ true
 inverses_add failed goes k [] e = refl
 inverses_add failed goes k (s ∷ ss) e =
-    adds-append (undoes failed goes k s) (inverses_from failed goes (k + 1) ss)
+    adds-append (undoes failed goes k s) (each_from (undoes failed goes) (k + 1) ss)
     (if_some (is_undone_sub failed goes k s) (inverse failed goes s) (all_negated s.ops (left_true (ops_add s.ops) (subs_add ss) e)))
     (inverses_add failed goes (k + 1) ss (right_true (ops_add s.ops) (subs_add ss) e))
 
 pub undone_adds : (ss : List Sub) (failed : ℕ) → subs_add ss ≡ true → subs_add (undone ss failed) ≡ true
 undone_adds ss failed e =
     let goes = goes_from failed [] ss in
-    adds-append (staying_from failed goes 0 ss) (inverses_from failed goes 0 ss) (staying_adds failed goes 0 ss e) (inverses_add failed goes 0 ss e)
+    adds-append (each_from (stays failed goes) 0 ss) (each_from (undoes failed goes) 0 ss) (staying_adds failed goes 0 ss e) (inverses_add failed goes 0 ss e)
 
 -- the sums after the last tree has failed
 
@@ -187,7 +188,7 @@ module _ (ts : List Tree) (k : ℕ) (t : Tree) (last : last_of ts ≡ Some t) wh
   failed_loads x = sum-replaced (λ (u : Tree). subs_load x u.subs) (trees_load x) (load_total x).trees (failed_tree k) ts t last
 
   pub failed_strict : strict_trees (on_last (failed_tree k) ts) ≡ strict_trees ts
-  failed_strict = omega (arith, sum-replaced (λ (u : Tree). one_strict u.kind) strict_trees strict-sum (failed_tree k) ts t last)
+  failed_strict = omega (arith, sum-replaced (λ (u : Tree). one_if (is_strict u.kind)) strict_trees strict-sum (failed_tree k) ts t last)
 
   pub failed_updates : t.kind ≡ trees.Update → update_subs (on_last (failed_tree k) ts) + length t.subs ≡ update_subs ts + length (undone t.subs k)
   failed_updates is =

@@ -22,7 +22,7 @@ use Rattle.script_parts.specs.declared.parts.ItemRow.{ItemRow}
 use Rattle.script_parts.specs.declared.parts.Sub.{Sub}
 use Rattle.script_parts.specs.declared.parts.SubOp.{SubOp}
 use Rattle.script_parts.specs.declared.parts.TreeKind.TheVariants as trees
-use Rattle.script_parts.specs.Undone.{goes_from, goes_next, inverse, inverses_from, is_undone_sub, negated, negated_deed, new_number, staying, staying_from, stays, undone}
+use Rattle.script_parts.specs.Undone.{each_from, goes_from, goes_next, inverse, is_undone_sub, negated, negated_deed, new_number, staying, stays, undoes, undone}
 
 -- marks
 
@@ -176,7 +176,7 @@ module _ (nodes : ℕ) (items : List ItemRow) (failed : ℕ) (final : List Bool)
   Added k x rest = AreAt nodes items (new_number final k) (stays failed final k x ++ rest)
 
   -- those that stay, from their first new number on
-  staying_valid : (goes : List Bool) (ss : List Sub) → final ≡ goes_from failed goes ss → AreAt nodes items (length goes) ss → AreAt nodes items (new_number final (length goes)) (staying_from failed final (length goes) ss)
+  staying_valid : (goes : List Bool) (ss : List Sub) → final ≡ goes_from failed goes ss → AreAt nodes items (length goes) ss → AreAt nodes items (new_number final (length goes)) (each_from (stays failed final) (length goes) ss)
   staying_valid goes [] is h = tt
   staying_valid goes (x ∷ xs) is h =
       let k = length goes in
@@ -184,26 +184,26 @@ module _ (nodes : ℕ) (items : List ItemRow) (failed : ℕ) (final : List Bool)
       let len : length final ≡ k + suc (length xs) = ap length is ∙ marks_len failed goes (x ∷ xs) in
       let longer : length (goes ++ g ∷ []) ≡ k + 1 = length-append goes (g ∷ []) in
       let later : AreAt nodes items (length (goes ++ g ∷ [])) xs = subst (λ (j : ℕ). AreAt nodes items j xs) (sym longer) h.1 in
-      let rest : AreAt nodes items (new_number final (k + 1)) (staying_from failed final (k + 1) xs) =
-      subst (λ (j : ℕ). AreAt nodes items (new_number final j) (staying_from failed final j xs)) longer (staying_valid (goes ++ g ∷ []) xs is later) in
+      let rest : AreAt nodes items (new_number final (k + 1)) (each_from (stays failed final) (k + 1) xs) =
+      subst (λ (j : ℕ). AreAt nodes items (new_number final j) (each_from (stays failed final) j xs)) longer (staying_valid (goes ++ g ∷ []) xs is later) in
       by (get_or final k false) refl rest (omega arith)
     where
-      by : (b : Bool) → get_or final (length goes) false ≡ b → AreAt nodes items (new_number final (length goes + 1)) (staying_from failed final (length goes + 1) xs) → length goes < length final
-          → AreAt nodes items (new_number final (length goes)) ((if b then [] else staying failed final (length goes) x ∷ []) ++ staying_from failed final (length goes + 1) xs)
-      by true e rest lt = subst (λ (j : ℕ). AreAt nodes items j (staying_from failed final (length goes + 1) xs)) (number_same final (length goes) lt e) rest
+      by : (b : Bool) → get_or final (length goes) false ≡ b → AreAt nodes items (new_number final (length goes + 1)) (each_from (stays failed final) (length goes + 1) xs) → length goes < length final
+          → AreAt nodes items (new_number final (length goes)) ((if b then [] else staying failed final (length goes) x ∷ []) ++ each_from (stays failed final) (length goes + 1) xs)
+      by true e rest lt = subst (λ (j : ℕ). AreAt nodes items j (each_from (stays failed final) (length goes + 1) xs)) (number_same final (length goes) lt e) rest
       by false e rest lt =
-          (stays_valid goes x xs is h.0 e, subst (λ (j : ℕ). AreAt nodes items j (staying_from failed final (length goes + 1) xs)) (number_more final (length goes) lt e) rest)
+          (stays_valid goes x xs is h.0 e, subst (λ (j : ℕ). AreAt nodes items j (each_from (stays failed final) (length goes + 1) xs)) (number_more final (length goes) lt e) rest)
 
   -- how many stay
-  staying_len : (k : ℕ) (ss : List Sub) → k + length ss ≤ length final → new_number final k + length (staying_from failed final k ss) ≡ new_number final (k + length ss)
+  staying_len : (k : ℕ) (ss : List Sub) → k + length ss ≤ length final → new_number final k + length (each_from (stays failed final) k ss) ≡ new_number final (k + length ss)
   staying_len k [] le = let same : k ≡ k + 0 = omega arith in omega (arith, ap (new_number final) same)
   staying_len k (x ∷ xs) le =
       let same : k + 1 + length xs ≡ k + length (x ∷ xs) = omega arith in
-      let rest : new_number final (k + 1) + length (staying_from failed final (k + 1) xs) ≡ new_number final (k + length (x ∷ xs)) = staying_len (k + 1) xs (omega arith) ∙ ap (new_number final) same in
+      let rest : new_number final (k + 1) + length (each_from (stays failed final) (k + 1) xs) ≡ new_number final (k + length (x ∷ xs)) = staying_len (k + 1) xs (omega arith) ∙ ap (new_number final) same in
       by (get_or final k false) refl rest (omega arith)
     where
-      by : (b : Bool) → get_or final k false ≡ b → new_number final (k + 1) + length (staying_from failed final (k + 1) xs) ≡ new_number final (k + length (x ∷ xs)) → k < length final
-          → new_number final k + length ((if b then [] else staying failed final k x ∷ []) ++ staying_from failed final (k + 1) xs) ≡ new_number final (k + length (x ∷ xs))
+      by : (b : Bool) → get_or final k false ≡ b → new_number final (k + 1) + length (each_from (stays failed final) (k + 1) xs) ≡ new_number final (k + length (x ∷ xs)) → k < length final
+          → new_number final k + length ((if b then [] else staying failed final k x ∷ []) ++ each_from (stays failed final) (k + 1) xs) ≡ new_number final (k + length (x ∷ xs))
       by true e rest lt = omega (arith, rest, number_same final k lt e)
       by false e rest lt = omega (arith, rest, number_more final k lt e)
 
@@ -219,13 +219,13 @@ module _ (nodes : ℕ) (items : List ItemRow) (failed : ℕ) (final : List Bool)
   }
 
   -- what undoes one, if there is something to undo, and the others
-  with_rest : (j k : ℕ) (x : Sub) (xs : List Sub) (b : Bool) → IsSub nodes items trees.Update j (inverse failed final x) → AreAt nodes items (j + 1) (inverses_from failed final (k + 1) xs) → AreAt nodes items j (inverses_from failed final (k + 1) xs)
-      → AreAt nodes items j ((if b then inverse failed final x ∷ [] else []) ++ inverses_from failed final (k + 1) xs)
+  with_rest : (j k : ℕ) (x : Sub) (xs : List Sub) (b : Bool) → IsSub nodes items trees.Update j (inverse failed final x) → AreAt nodes items (j + 1) (each_from (undoes failed final) (k + 1) xs) → AreAt nodes items j (each_from (undoes failed final) (k + 1) xs)
+      → AreAt nodes items j ((if b then inverse failed final x ∷ [] else []) ++ each_from (undoes failed final) (k + 1) xs)
   with_rest j k x xs true here behind at = (here, behind)
   with_rest j k x xs false here behind at = at
 
   -- what undoes all
-  inverses_valid : (j k : ℕ) (ss : List Sub) → new_number final failed < j → AreAt nodes items k ss → AreAt nodes items j (inverses_from failed final k ss)
+  inverses_valid : (j k : ℕ) (ss : List Sub) → new_number final failed < j → AreAt nodes items k ss → AreAt nodes items j (each_from (undoes failed final) k ss)
   inverses_valid j k [] early h = tt
   inverses_valid j k (x ∷ xs) early h =
       with_rest j k x xs (is_undone_sub failed final k x) (inverse_valid j k x early h.0) (inverses_valid (j + 1) (k + 1) xs (omega (arith, early)) h.1) (inverses_valid j (k + 1) xs early h.1)
@@ -269,12 +269,12 @@ none_goes nodes items failed goes (x ∷ xs) h before j le =
 
 module _ (nodes : ℕ) (items : List ItemRow) (subs : List Sub) (failed : ℕ) (lt : failed < length subs) (h : AreSubs nodes items trees.Update 0 subs) where
   -- the failed one stays, so one of those that stay has its new number
-  failed_stays : new_number (goes_from failed [] subs) failed < length (staying_from failed (goes_from failed [] subs) 0 subs)
+  failed_stays : new_number (goes_from failed [] subs) failed < length (each_from (stays failed (goes_from failed [] subs)) 0 subs)
   failed_stays =
       let final = goes_from failed [] subs in
       let len : length final ≡ length subs = omega (arith, marks_len failed [] subs) in
       let mark : get_or final failed false ≡ false = none_goes nodes items failed [] subs h (λ j below le. absurd (omega arith)) failed (omega arith) in
-      let count : new_number final 0 + length (staying_from failed final 0 subs) ≡ new_number final (0 + length subs) = staying_len nodes items failed final 0 subs (omega arith) in
+      let count : new_number final 0 + length (each_from (stays failed final) 0 subs) ≡ new_number final (0 + length subs) = staying_len nodes items failed final 0 subs (omega arith) in
       let whole : 0 + length subs ≡ length subs = omega arith in
       omega (arith, number_less final failed (length subs) lt (omega arith) mark, ap (new_number final) whole)
 
@@ -282,11 +282,11 @@ module _ (nodes : ℕ) (items : List ItemRow) (subs : List Sub) (failed : ℕ) (
   pub undone_some : 0 < length (undone subs failed)
   undone_some =
       let final = goes_from failed [] subs in
-      omega (arith, failed_stays, length-append (staying_from failed final 0 subs) (inverses_from failed final 0 subs))
+      omega (arith, failed_stays, length-append (each_from (stays failed final) 0 subs) (each_from (undoes failed final) 0 subs))
 
   -- an undone tree is a tree
   pub undone_valid : AreSubs nodes items trees.Update 0 (undone subs failed)
   undone_valid =
       let final = goes_from failed [] subs in
-      are_both nodes items 0 (length (staying_from failed final 0 subs)) (staying_from failed final 0 subs) (inverses_from failed final 0 subs) (staying_valid nodes items failed final [] subs refl h) (omega arith)
-      (inverses_valid nodes items failed final (length (staying_from failed final 0 subs)) 0 subs failed_stays h)
+      are_both nodes items 0 (length (each_from (stays failed final) 0 subs)) (each_from (stays failed final) 0 subs) (each_from (undoes failed final) 0 subs) (staying_valid nodes items failed final [] subs refl h) (omega arith)
+      (inverses_valid nodes items failed final (length (each_from (stays failed final) 0 subs)) 0 subs failed_stays h)

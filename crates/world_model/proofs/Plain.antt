@@ -2,11 +2,12 @@
 use Rattle.std.proofs.Common.{◌≡◌, ℕ, zero, suc, ◌==◌, Bool, true, false, not, List, [], ◌∷◌, ◌++◌, sym, ap, ◌∙◌, Option, Some, None, slice_get, arith, refl}
 use Rattle.std.proofs.lemmas.Bool.Decides.{nat_tests}
 use Rattle.std.proofs.lemmas.List.{append-nil}
+use Rattle.tv_base.specs.Sums.{one_if}
 use Rattle.tv_base.specs.declared.numbers.TreeNo.{TreeNo}
 use Rattle.tv_base.specs.declared.numbers.Version.{Version}
 use Rattle.letter_types.specs.declared.bodies.Body.{Body}
 use Rattle.letter_types.specs.declared.bodies.Body.TheVariants.{Root, Sub as SubLetter}
-use Rattle.script_parts.specs.Counts.{has_strict, one_strict, strict_trees}
+use Rattle.script_parts.specs.Counts.{has_strict, strict_trees}
 use Rattle.script_parts.specs.ScriptData.{ScriptData, is_strict}
 use Rattle.script_parts.specs.declared.parts.Tree.{Tree}
 use Rattle.script_parts.specs.declared.parts.TreeKind.{TreeKind}
@@ -19,14 +20,14 @@ use Rattle.world_model.specs.Node.{Effect, Node}
 use Rattle.world_model.specs.Strict.{core_keeping, kept_by_kind}
 
 -- No tree is strict.
-no_tree : (ts : List Tree) (t : ℕ) (u : Tree) → strict_trees ts ≡ 0 → slice_get ts t ≡ Some u → one_strict u.kind ≡ 0
+no_tree : (ts : List Tree) (t : ℕ) (u : Tree) → strict_trees ts ≡ 0 → slice_get ts t ≡ Some u → one_if (is_strict u.kind) ≡ 0
 no_tree [] t u none at = absurd (cc at)
 no_tree (x ∷ xs) zero u none at =
     let same : x ≡ u = grind arith in
-    omega (arith, none, ap (λ (y : Tree). one_strict y.kind) same)
+    omega (arith, none, ap (λ (y : Tree). one_if (is_strict y.kind)) same)
 no_tree (x ∷ xs) (suc t) u none at = no_tree xs t u (omega (arith, none)) at
 
-not_strict : (kind : TreeKind) → one_strict kind ≡ 0 → is_strict kind ≡ false
+not_strict : (kind : TreeKind) → one_if (is_strict kind) ≡ 0 → is_strict kind ≡ false
 not_strict Strict none = absurd (omega (arith, none))
 not_strict Update none = refl
 not_strict Read none = refl

@@ -1,13 +1,6 @@
--- Sums over lists, and what holds of each.
-use Rattle.std.specs.Prelude.{if◌then◌else◌, ℕ, Bool, ◌+◌, List, [], ◌∷◌}
-
-abbrev pub one_if : Bool → ℕ
-one_if b = if b then 1 else 0
-
--- the sum of a number of each
-abbrev pub tally : {X : Type 0} → (X → ℕ) → List X → ℕ
-tally f [] = 0
-tally f (x ∷ xs) = f x + tally f xs
+-- What holds of each of a list, and sums over lists.
+use Rattle.std.specs.Prelude.{List, [], ◌∷◌}
+pub use Rattle.tv_base.specs.Sums.{one_if, tally}
 
 -- what holds of each
 abbrev pub Each : {X : Type 0} → (X → Type 0) → List X → Type 0

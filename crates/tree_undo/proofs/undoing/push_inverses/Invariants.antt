@@ -1,6 +1,6 @@
 use Rattle.std.proofs.Common.{◌≡◌, ◌++◌, drop}
-use Rattle.tx_trees.specs.Undone.{inverses_from}
+use Rattle.tx_trees.specs.Undone.{each_from, undoes}
 use Rattle.tree_undo.proofs.undoing.push_inverses.Given as goal
 
 abbrev pub invariant-loop-k : goal.invariant-loop-k
-invariant-loop-k l = l.out ++ inverses_from l.failed.0 l.goes l.k (drop l.k l.subs) ≡ l.fn.out ++ inverses_from l.failed.0 l.goes 0 l.subs
+invariant-loop-k l = l.out ++ each_from (undoes l.failed.0 l.goes) l.k (drop l.k l.subs) ≡ l.fn.out ++ each_from (undoes l.failed.0 l.goes) 0 l.subs
