@@ -1,8 +1,9 @@
 -- How the coordinator changes in a step that is prepared, and when it may.
-use Rattle.std.specs.Prelude.{◌≡◌, false, true}
+use Rattle.std.specs.Prelude.{◌≡◌}
 use Rattle.tv_base.specs.Outside.{one_more}
 use Rattle.phase_out.specs.declared.count.RowChange.{RowChange}
-pub use Rattle.phase_out.specs.Counts.{MayKeep, round_with}
+use Rattle.phase_out.specs.Counts.{count_begun, count_with, nudged}
+pub use Rattle.phase_out.specs.Counts.{MayKeep}
 use Rattle.letter_types.specs.Steps.{Out, made}
 use Rattle.world_model.specs.Coordinator.{Coordinator, in_phase, with_next}
 use Rattle.world_model.specs.declared.phase.Phase.TheVariants.{Counting}
@@ -13,17 +14,16 @@ use Rattle.advance_coord.specs.declared.change.CoordinatorPrepared.{CoordinatorP
 
 -- the coordinator with the row
 abbrev pub with_kept_row : RowChange → Coordinator → Coordinator
-with_kept_row row c = record c { current = round_with row c.current }
+with_kept_row row c = record c { count = count_with row c.count }
 
 -- the coordinator after what comes next
 abbrev pub after_next_phase : Next → Coordinator → Coordinator
 after_next_phase Stay c = c
 after_next_phase Wait c = record c { waits = one_more c.waits }
-after_next_phase Nudge c = record c { flag = true }
+after_next_phase Nudge c = record c { count = nudged c.count }
 after_next_phase Acknowledge c = record c { acks = one_more c.acks }
 after_next_phase (Begin phase) c = in_phase phase c
-after_next_phase (Count reads round) c =
-    in_phase (Counting reads) (record c { round = round.number; current = round; flag = false })
+after_next_phase (Count reads round) c = in_phase (Counting reads) (record c { count = count_begun round })
 after_next_phase (GoOn phase waits) c = with_next phase waits c
 
 -- the coordinator after a step
@@ -32,7 +32,7 @@ after_coordinator_change change c = after_next_phase change.next (with_kept_row 
 
 -- the coordinator may do it
 abbrev pub CoordinatorMayDo : CoordinatorChange → Coordinator → Type 0
-CoordinatorMayDo change c = MayKeep change.row c.current
+CoordinatorMayDo change c = MayKeep change.row c.count.current
 
 -- a step that is prepared is this row of the coordinator, and the coordinator may do it
 pub record IsCoordinatorStepOf (o : Out Coordinator) (c : Coordinator) (p : CoordinatorPrepared) : Type 0 where

@@ -5,8 +5,7 @@ ghost use Rattle.letter_types.specs.Steps.{made};
 ghost use Rattle.letter_types.specs.declared.bodies.Body.TheVariants.{Turn, DoneRow, AskedRow};
 ghost use Rattle.world_model.specs.declared.phase.Phase.TheVariants.{Turning, Counting};
 ghost use Rattle.advance_coord.specs.Changes.{IsCoordinatorStepOf, CoordinatorMayDo, MayKeep, after_coordinator_change, after_next_phase, with_kept_row};
-ghost use Rattle.advance_coord.specs.inside.ByCount.{as_counted, requests_asked};
-ghost use Rattle.world_model.specs.Coordinator.{start_coordinator, coordinator_row, begin_phase, begin_round, counted_version, in_phase, version, acknowledged, end_count, end_advance, row_of};
+ghost use Rattle.world_model.specs.Coordinator.{start_coordinator, coordinator_row, begin_phase, begin_round, counted_version, in_phase, version, acknowledged, ask_requests, as_counted, end_count, end_advance, row_of};
 
 use crate::change::{CoordinatorPrepared, Next};
 use crate::letters::{to_nodes, with_nodes};
@@ -41,11 +40,9 @@ impl Model for Coordinator {
       nodes = c.nodes;
       update = c.update;
       waits = c.waits;
-      round = c.count.number;
       phase = c.phase;
       acks = c.acks;
-      current = c.count.current;
-      flag = c.count.flag;
+      count = c.count;
     } };
 
     ghost invariant = { λ c. c.nodes ≤ 64 };
@@ -167,7 +164,7 @@ impl Coordinator {
         phase: Phase,
         body: &Body,
     ) -> Result<CoordinatorPrepared, NoMemory>
-        requires { MayKeep row self.now.current }
+        requires { MayKeep row self.now.count.current }
         ensures { IfOk result (IsCoordinatorStepOf (begin_phase phase body.now (with_kept_row row self.now)) self.now) }
     {
         let sent = to_nodes(alloc, self.nodes, body)?;
@@ -331,7 +328,7 @@ impl Coordinator {
         row: RowChange,
         counted: Counted,
     ) -> Result<CoordinatorPrepared, NoMemory>
-        requires { MayKeep row self.now.current }
+        requires { MayKeep row self.now.count.current }
         ensures { IfOk result (IsCoordinatorStepOf (as_counted reads counted (with_kept_row row self.now)) self.now) }
     {
         let next = match counted {
@@ -346,8 +343,8 @@ impl Coordinator {
 
     /// Every node is asked for its requests, where this row is kept.
     fn ask_requests(&self, alloc: Global, row: RowChange) -> Result<CoordinatorPrepared, NoMemory>
-        requires { MayKeep row self.now.current }
-        ensures { IfOk result (IsCoordinatorStepOf (requests_asked (with_kept_row row self.now)) self.now) }
+        requires { MayKeep row self.now.count.current }
+        ensures { IfOk result (IsCoordinatorStepOf (ask_requests (with_kept_row row self.now)) self.now) }
     {
         let round = self.count.round();
         let body = Body::AskAsked {
@@ -365,7 +362,7 @@ impl Coordinator {
         reads: bool,
         row: RowChange,
     ) -> Result<CoordinatorPrepared, NoMemory>
-        requires { MayKeep row self.now.current }
+        requires { MayKeep row self.now.count.current }
         ensures { IfOk result (IsCoordinatorStepOf (end_count reads (with_kept_row row self.now)) self.now) }
     {
         let version = Version(self.update);

@@ -278,7 +278,7 @@ row_rises s p from (AskAsked w k) c timely = omega arith
 row_rises s p from (Order e what w) c timely =
     let ready : (asked : What) → Orders c (Order e what w) asked w → is_timely s c.node (plain_order asked w) ≡ true =
     λ asked to. order_timely s c (Order e what w) asked w to timely in
-    order_each (Rises c) s p from e what w c (omega arith) (omega arith)
+    order_each (Rises c) s e what w c (omega arith) (omega arith)
     (λ to. omega (arith, raised_low (nat_lt c.node.turns.update.0 w.0) w c.node.turns)) (λ to new. omega arith)
     (λ to new. sweep_rises s c w (ready whats.Sweep to))
 row_rises s p from (Ask e) c timely = ask_each (Rises c) s e c (omega arith) (omega arith)

@@ -6,12 +6,13 @@ use Rattle.letter_types.specs.Steps.{Out}
 use Rattle.tv_base.specs.declared.numbers.Version.{Version}
 use Rattle.phase_out.specs.Rounds.{verdict_of}
 use Rattle.tx_trees.specs.ScriptData.{ScriptData}
-use Rattle.world_model.specs.Coordinator.{Coordinator, end_count, with_asked, coordinator_row}
+use Rattle.world_model.specs.Coordinator.{Coordinator, end_count, coordinator_row}
 use Rattle.world_model.specs.declared.phase.Phase.{Phase}
 use Rattle.world_model.specs.declared.phase.Phase.TheVariants.{Idle, Turning, Counting, Paused, Showing, Sweeping}
 use Rattle.world_model.specs.Runs.{coordinator_in, node_in, IsStepRun}
 use Rattle.world_model.specs.AllApt.{AllApt}
 use Rattle.world_model.proofs.Every.{coordinator_kept}
+use Rattle.advance_laws.proofs.KeptRows.{with_asked}
 use Rattle.advance_laws.proofs.Lawful.{IsLawful}
 use Rattle.advance_laws.proofs.Levels.{Level, Levels, levels, most_low, tells}
 use Rattle.advance_laws.proofs.Outcomes.{Outcome, Rests, Queues, Flags, Turns, Acks, LastTurned, LastShown, Finishes, GoesOn, Resumes, KeepsDone, KeepsAsked, Agrees, Recounts, Pauses, TakesAsked, asked_kept}
@@ -35,7 +36,7 @@ pub record Raises (c : Coordinator) (from : ℕ) (body : Body) (out : Out Coordi
   pub k : ℕ
   pub row : List ℕ
   pub takes : TakesAsked c from body true v k row
-  pub verdict : verdict_of (with_asked from row c.current) ≡ Some true
+  pub verdict : verdict_of (with_asked from row c.count.current) ≡ Some true
   pub to : floor out.state ≡ c.update
 
 floor_at : (c : Coordinator) (phase : Phase) → c.phase ≡ phase → floor c ≡ most_low phase c.update
@@ -43,7 +44,7 @@ floor_at c phase at = ap (λ (p : Phase). most_low p c.update) at
 
 ends_floor : (c : Coordinator) (from : ℕ) (body : Body) (out : Out Coordinator) (reads : Bool) (v : Version) (k : ℕ)
     (row : List ℕ)
-    → TakesAsked c from body reads v k row → verdict_of (with_asked from row c.current) ≡ Some true
+    → TakesAsked c from body reads v k row → verdict_of (with_asked from row c.count.current) ≡ Some true
     → out ≡ end_count reads (asked_kept from row c) → (floor out.state ≡ floor c) ⊎ Raises c from body out
 ends_floor c from body out true v k row takes verdict is =
     inr (record {

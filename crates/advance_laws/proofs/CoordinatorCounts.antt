@@ -33,7 +33,7 @@ pace_of _ = NoRound
 
 -- what a coordinator knows of its count
 abbrev pub count_of : Coordinator → Count
-count_of c = record { round = c.current; number = c.round; pace = pace_of c.phase; flag = c.flag }
+count_of c = record { round = c.count.current; number = c.count.number; pace = pace_of c.phase; flag = c.count.flag }
 
 -- the coordinator's count after a past
 abbrev pub count_in : ScriptData → List Entry → Count
@@ -59,13 +59,13 @@ plain_nodes : (n : ℕ) (body : Body) → IsPlain body → AllPlain (to_nodes n 
 plain_nodes n body plain = to_nodes_each (λ to b. IsPlain b) n body (λ to lt. plain)
 
 leaves_by : (n : ℕ) (c : Coordinator) (from : ℕ) (body : Body) (out next : Out Coordinator) → out ≡ next → pace_of next.state.phase ≡ NoRound
-    → next.state.round ≡ c.round → AllPlain next.sent → Step n c from body out
+    → next.state.count.number ≡ c.count.number → AllPlain next.sent → Step n c from body out
 leaves_by n c from body out next is none same plain =
     subst (λ (o : Out Coordinator). Step n c from body o) (sym is) (Leaves none (omega (arith, same)) plain)
 
 -- a letter that changes nothing of a count in this phase
 abbrev Passes : Body → Phase → ℕ → Coordinator → Type 0
-Passes body (Counting reads) from c = NoNudge body × Refused body from c.current
+Passes body (Counting reads) from c = NoNudge body × Refused body from c.count.current
 Passes body (Paused reads) from c = NoNudge body
 Passes body _ from c = Unit {0}
 
@@ -87,7 +87,7 @@ rests_step n c from body out d Showing at ok same is = rests_apart n c from body
 rests_step n c from body out d Sweeping at ok same is = rests_apart n c from body out d is same (ap pace_of at)
 
 ignored_counting : (body : Body) (reads : Bool) (from : ℕ) (c : Coordinator) → Ignored body (Counting reads) from c
-    → NoNudge body × Refused body from c.current
+    → NoNudge body × Refused body from c.count.current
 ignored_counting (DoneRow v k row) reads from c ignored = (tt, ignored)
 ignored_counting (AskedRow v k row) reads from c ignored = (tt, ignored)
 ignored_counting Nudge reads from c ignored = absurd ignored
@@ -122,10 +122,10 @@ answer_passes Showing body from c answer = tt
 answer_passes Sweeping body from c answer = tt
 
 begins_by : (n : ℕ) (c : Coordinator) (from : ℕ) (body other : Body) (out : Out Coordinator) (reads : Bool) (d : Coordinator) → d.nodes ≡ n
-    → body ≡ other → NoDone other → out ≡ round_begun reads (c.round + 1) d → Step n c from body out
+    → body ≡ other → NoDone other → out ≡ round_begun reads (c.count.number + 1) d → Step n c from body out
 begins_by n c from body other out reads d nodes bd none is =
     let v = counted_version reads d in
-    let k = c.round + 1 in
+    let k = c.count.number + 1 in
     subst (λ (o : Out Coordinator). Step n c from body o) (sym is)
     (Begins reads v k (omega arith) (subst (λ (b : Body). NoDone b) (sym bd) none) (ap (begun reads v k) nodes)
     (ap (λ (m : ℕ). to_nodes m (AskDone v k)) nodes))
@@ -134,7 +134,7 @@ ends_none : (reads : Bool) (c : Coordinator) → pace_of (end_count reads c).sta
 ends_none true c = refl
 ends_none false c = refl
 
-ends_same : (reads : Bool) (c : Coordinator) → (end_count reads c).state.round ≡ c.round
+ends_same : (reads : Bool) (c : Coordinator) → (end_count reads c).state.count.number ≡ c.count.number
 ends_same true c = refl
 ends_same false c = refl
 
@@ -167,7 +167,7 @@ count_step n c from body out nodes (LastTurned v at bd last is) = begins_by n c 
 count_step n c from body out nodes (LastShown v at bd last is) = begins_by n c from body (Shown v) out true c nodes bd tt is
 count_step n c from body out nodes (Resumes reads at bd is) = begins_by n c from body Nudge out reads c nodes bd tt is
 count_step n c from body out nodes (KeepsDone reads v k row at bd here is) =
-    let r = c.current in
+    let r = c.count.current in
     TakesDone reads v k row (ap pace_of at) bd here (ap (λ (o : Out Coordinator). count_of o.state) is)
     (ap (λ (o : Out Coordinator). o.sent) is ∙ ap (λ (m : ℕ). asks_after m from row r) nodes)
 count_step n c from body out nodes (KeepsAsked reads v k row takes verdict is) =
@@ -195,7 +195,7 @@ step_in s past e laws run apt at =
 
 -- 2. The version of the round that is counted.
 abbrev IsVersioned : Coordinator → Type 0
-IsVersioned c = (reads : Bool) → c.phase ≡ Counting reads → c.current.version ≡ counted_version reads c
+IsVersioned c = (reads : Bool) → c.phase ≡ Counting reads → c.count.current.version ≡ counted_version reads c
 
 versioned_else : (c : Coordinator) → pace_of c.phase ≡ NoRound → IsVersioned c
 versioned_else c none = λ reads at.
@@ -212,15 +212,15 @@ versioned_out c from body out was (Flags reads at bd is) = subst (λ (o : Out Co
 versioned_out c from body out was (Acks phase at answer more is) = subst (λ (o : Out Coordinator). IsVersioned o.state) (sym is) was
 versioned_out c from body out was (Turns at bd is) = versioned_else out.state (ap (λ (o : Out Coordinator). pace_of o.state.phase) is)
 versioned_out c from body out was (LastTurned v at bd last is) =
-    subst (λ (o : Out Coordinator). IsVersioned o.state) (sym is) (versioned_begun false (c.round + 1) c)
+    subst (λ (o : Out Coordinator). IsVersioned o.state) (sym is) (versioned_begun false (c.count.number + 1) c)
 versioned_out c from body out was (LastShown v at bd last is) =
-    subst (λ (o : Out Coordinator). IsVersioned o.state) (sym is) (versioned_begun true (c.round + 1) c)
+    subst (λ (o : Out Coordinator). IsVersioned o.state) (sym is) (versioned_begun true (c.count.number + 1) c)
 versioned_out c from body out was (Finishes v at bd last none is) =
     versioned_else out.state (ap (λ (o : Out Coordinator). pace_of o.state.phase) is)
 versioned_out c from body out was (GoesOn v at bd last some is) =
     versioned_else out.state (ap (λ (o : Out Coordinator). pace_of o.state.phase) is)
 versioned_out c from body out was (Resumes reads at bd is) =
-    subst (λ (o : Out Coordinator). IsVersioned o.state) (sym is) (versioned_begun reads (c.round + 1) c)
+    subst (λ (o : Out Coordinator). IsVersioned o.state) (sym is) (versioned_begun reads (c.count.number + 1) c)
 versioned_out c from body out was (KeepsDone reads v k row at bd here is) =
     subst (λ (o : Out Coordinator). IsVersioned o.state) (sym is) was
 versioned_out c from body out was (KeepsAsked reads v k row takes verdict is) =
@@ -228,7 +228,7 @@ versioned_out c from body out was (KeepsAsked reads v k row takes verdict is) =
 versioned_out c from body out was (Agrees reads v k row takes verdict is) =
     versioned_else out.state (ap (λ (o : Out Coordinator). pace_of o.state.phase) is ∙ ends_none reads (asked_kept from row c))
 versioned_out c from body out was (Recounts reads v k row takes verdict flag is) =
-    subst (λ (o : Out Coordinator). IsVersioned o.state) (sym is) (versioned_begun reads (c.round + 1) (asked_kept from row c))
+    subst (λ (o : Out Coordinator). IsVersioned o.state) (sym is) (versioned_begun reads (c.count.number + 1) (asked_kept from row c))
 versioned_out c from body out was (Pauses reads v k row takes verdict flag is) =
     subst (λ (o : Out Coordinator). IsVersioned o.state) (sym is) (λ r at. absurd (cc at))
 
@@ -273,7 +273,7 @@ open_by s past false all at =
     }
 
 open_in : (s : ScriptData) (past : List Entry) (reads : Bool) → IsLawful s → IsStepRun s past → AllApt s past
-    → (coordinator_in s past).phase ≡ Counting reads → Open s past (coordinator_in s past).current.version.0
+    → (coordinator_in s past).phase ≡ Counting reads → Open s past (coordinator_in s past).count.current.version.0
 open_in s past reads laws run apt at =
     subst (Open s past) (sym (ap (λ (v : Version). v.0) (versioned s past laws run apt reads at)))
     (open_by s past reads (levels s past laws run apt) at)

@@ -345,7 +345,7 @@ core_counts s h v from (AskDone w k) c valid lt named = order_counts s h v from 
 core_counts s h v from (AskAsked w k) c valid lt named = order_counts s h v from (AskAsked w k) c refl refl (λ q. refl)
 core_counts s h v from (Order e what w) c valid lt named =
     let body : Body = Order e what w in
-    order_each (λ (o : Out Core). RowCounts h v from body c.node (at_node o)) s h from e what w c (quiet_counts h v from body c.node _ refl refl (λ q. refl))
+    order_each (λ (o : Out Core). RowCounts h v from body c.node (at_node o)) s e what w c (quiet_counts h v from body c.node _ refl refl (λ q. refl))
     (quiet_counts h v from body c.node _ refl refl (λ q. refl)) (λ to. quiet_counts h v from body c.node _ refl refl (λ q. refl))
     (λ to new. quiet_counts h v from body c.node _ refl refl (λ q. refl)) (λ to new. swept_counts s h v from body c.node w _ _ refl (λ q. refl))
 core_counts s h v from (Ask e) c valid lt named =

@@ -9,8 +9,9 @@ use Rattle.tv_base.specs.declared.numbers.Version.{Version}
 use Rattle.phase_out.specs.Rounds.{RoundData, all_in, is_of, new_round, verdict_of}
 use Rattle.tx_trees.specs.ScriptData.{ScriptData}
 use Rattle.world_model.specs.AllApt.{AllApt}
-use Rattle.world_model.specs.Coordinator.{to_nodes, with_asked, with_done}
+use Rattle.world_model.specs.Coordinator.{to_nodes}
 use Rattle.world_model.specs.Runs.{IsStepRun, node_in}
+use Rattle.advance_laws.proofs.KeptRows.{with_asked, with_done}
 use Rattle.advance_laws.proofs.Lawful.{IsTreeLawful}
 use Rattle.advance_laws.proofs.Sending.{AllPlain}
 use Rattle.advance_laws.proofs.Silence.{Closed}

@@ -3,6 +3,7 @@ use Rattle.std.proofs.Common.{◌≡◌, ◌≢◌, ◌⊎◌, inl, inr, ℕ, ze
 use Rattle.std.proofs.Math.Nat.{le-max_left, le-max_right, max-eq_left, max-eq_right}
 use Rattle.std.proofs.lemmas.Bool.{cases_eq}
 use Rattle.tv_base.specs.declared.numbers.Version.{Version}
+use Rattle.phase_out.specs.Counts.{nudged}
 use Rattle.letter_types.specs.declared.bodies.Body.{Body}
 use Rattle.letter_types.specs.declared.bodies.Body.TheVariants.{Go, Sub as SubLetter, Turn, Show, Sweep, AskDone, AskAsked, DoneRow, AskedRow, Order}
 use Rattle.letter_types.specs.declared.bodies.What.TheVariants as whats
@@ -13,7 +14,7 @@ use Rattle.letter_types.specs.Steps.{Out, still}
 use Rattle.phase_out.specs.Rounds.{all_in}
 use Rattle.tx_trees.specs.ScriptData.{ScriptData}
 use Rattle.world_model.specs.AllApt.{AllApt}
-use Rattle.world_model.specs.Coordinator.{Coordinator, advanced, begin_phase, coordinator_row, counted_version, end_count, in_phase, keep_done, to_nodes, version, with_done}
+use Rattle.world_model.specs.Coordinator.{Coordinator, advanced, begin_phase, coordinator_row, counted_version, end_count, in_phase, to_nodes, version}
 use Rattle.world_model.specs.Counts.{Each, one_if, tally}
 use Rattle.world_model.specs.Kept.{outstanding}
 use Rattle.world_model.specs.Node.{Node}
@@ -29,11 +30,12 @@ use Rattle.advance_laws.specs.Advances.{running}
 use Rattle.advance_laws.specs.Given.{IsGivenAnew, greatest_given, greatest_told, version_told}
 use Rattle.advance_laws.specs.Phases.{Stage, TurnStage, ShowStage, SweepStage, count_in_flight, most_low, most_read, most_update, token}
 use Rattle.advance_laws.specs.Quiet.{IsGivenInQuiet, IsQuietForReads, IsQuietForUpdates}
+use Rattle.advance_laws.proofs.KeptRows.{with_done}
 use Rattle.advance_laws.proofs.Advancing.{IsAdvancing, IsAhead, IsOrderGiven, IsTurnedTo, IsWithin, given_stays, greatest_least, sent_given}
 use Rattle.advance_laws.proofs.Lawful.{IsLawful}
 use Rattle.advance_laws.proofs.LevelAt.{Level, LevelBody, Levels, tell, tells}
 use Rattle.advance_laws.proofs.Levels.{levels}
-use Rattle.advance_laws.proofs.Outcomes.{Outcome, Rests, Queues, Flags, Turns, Acks, LastTurned, LastShown, Finishes, GoesOn, Resumes, KeepsDone, KeepsAsked, Agrees, Recounts, Pauses, asked_kept, finished, gone_on, round_begun}
+use Rattle.advance_laws.proofs.Outcomes.{Outcome, Rests, Queues, Flags, Turns, Acks, LastTurned, LastShown, Finishes, GoesOn, Resumes, KeepsDone, KeepsAsked, Agrees, Recounts, Pauses, asked_kept, finished, gone_on, round_begun, keep_done}
 use Rattle.advance_laws.proofs.Progress.{coordinates}
 use Rattle.advance_laws.proofs.Sending.{IsApart, Sending, SendsApart, SendsAsked, SendsDone, SendsOrders, sending}
 use Rattle.advance_laws.proofs.Shows.{given_in_quiet}
@@ -174,15 +176,15 @@ gives : (g : Stage) (c : Coordinator) (from : ℕ) (body : Body) (out : Out Coor
 gives g c from body out some (Rests phase at ignored is) = by_out g c out _ is (tells_nothing g c (still c) (omega arith) refl)
 gives g c from body out some (Queues phase at goes bd is) =
     by_out g c out _ is (tells_nothing g c (still (record c { waits = c.waits + 1 })) (omega arith) refl)
-gives g c from body out some (Flags kind at bd is) = by_out g c out _ is (tells_nothing g c (still (record c { flag = true })) (omega arith) refl)
+gives g c from body out some (Flags kind at bd is) = by_out g c out _ is (tells_nothing g c (still (record c { count = nudged c.count })) (omega arith) refl)
 gives g c from body out some (Acks phase at answer more is) =
     by_out g c out _ is (tells_nothing g c (still (record c { acks = c.acks + 1 })) (omega arith) refl)
 gives g c from body out some (Turns at bd is) =
     by_out g c out _ is
     (turning_told g c c.update (begin_phase Turning (Turn (version (c.update + 1))) c) (nodes_told g c.nodes (Turn (version (c.update + 1))) some)
     refl refl (in_this g c Idle at))
-gives g c from body out some (LastTurned v at bd last is) = by_out g c out _ is (begins g c c false (c.round + 1) Turning refl at (turned_most g c.update))
-gives g c from body out some (LastShown v at bd last is) = by_out g c out _ is (begins g c c true (c.round + 1) Showing refl at (shown_most g c.update))
+gives g c from body out some (LastTurned v at bd last is) = by_out g c out _ is (begins g c c false (c.count.number + 1) Turning refl at (turned_most g c.update))
+gives g c from body out some (LastShown v at bd last is) = by_out g c out _ is (begins g c c true (c.count.number + 1) Showing refl at (shown_most g c.update))
 gives g c from body out some (Finishes v at bd last none is) =
     by_out g c out _ is
     (tells_nothing g c (finished c) (omega (arith, advanced_told g c [])) (in_this g c Sweeping at ∙ ended_most g c.update))
@@ -193,17 +195,17 @@ gives g c from body out some (GoesOn v at bd last more is) =
     ∙ ap (λ (n : ℕ). version_told g (Turn (version n))) (omega arith))
     refl refl (in_this g c Sweeping at ∙ ended_most g c.update))
 gives g c from body out some (Resumes kind at bd is) =
-    by_out g c out _ is (begins g c c kind (c.round + 1) (Paused kind) refl at (paused_most g kind c.update))
+    by_out g c out _ is (begins g c c kind (c.count.number + 1) (Paused kind) refl at (paused_most g kind c.update))
 gives g c from body out some (KeepsDone kind v k row at bd here is) =
     by_out g c out _ is
     (tells_nothing g c (keep_done from row c)
-    (asks_told g c.nodes c.current.version c.current.number (all_in (with_done from row c.current).dones && not (all_in c.current.dones))) refl)
+    (asks_told g c.nodes c.count.current.version c.count.current.number (all_in (with_done from row c.count.current).dones && not (all_in c.count.current.dones))) refl)
 gives g c from body out some (KeepsAsked kind v k row takes none is) =
     by_out g c out _ is (tells_nothing g c (still (asked_kept from row c)) (omega arith) refl)
 gives g c from body out some (Agrees kind v k row takes agree is) =
     by_out g c out _ is (agrees g c kind (asked_kept from row c) refl refl some takes.phase)
 gives g c from body out some (Recounts kind v k row takes differs flag is) =
-    by_out g c out _ is (begins g c (asked_kept from row c) kind (c.round + 1) (Counting kind) refl takes.phase refl)
+    by_out g c out _ is (begins g c (asked_kept from row c) kind (c.count.number + 1) (Counting kind) refl takes.phase refl)
 gives g c from body out some (Pauses kind v k row takes differs flag is) =
     by_out g c out _ is
     (tells_nothing g c (still (in_phase (Paused kind) (asked_kept from row c))) (omega arith)

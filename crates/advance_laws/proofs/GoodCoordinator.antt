@@ -12,13 +12,14 @@ use Rattle.letter_types.specs.declared.entries.Entry.{Entry}
 use Rattle.letter_types.specs.Steps.{Out, still}
 use Rattle.tx_trees.specs.ScriptData.{ScriptData}
 use Rattle.world_model.specs.AllApt.{AllApt}
-use Rattle.world_model.specs.Coordinator.{to_nodes, with_asked}
+use Rattle.world_model.specs.Coordinator.{to_nodes}
 use Rattle.script_parts.specs.Counts.{is_lossy}
 use Rattle.world_model.specs.Restarting.{Restarting, after_doing, begin_counting, end_counting, enter, forget, next_advance, recover, restarting_row, target, version_counted, with_wanted}
 use Rattle.world_model.specs.Runs.{IsStepRun, restarting_in}
 use Rattle.world_model.specs.declared.restarting.RestartPhase.TheVariants.{Doing, Counting}
 use Rattle.world_model.proofs.Orders.{to_nodes_each}
 use Rattle.advance_laws.specs.Quiet.{IsSilent}
+use Rattle.advance_laws.proofs.KeptRows.{with_asked}
 use Rattle.advance_laws.proofs.Lawful.{IsTreeLawful}
 use Rattle.advance_laws.proofs.Progress.{MadeByRestarting, TellsAnew}
 use Rattle.advance_laws.proofs.Rounds.{silent_agreed}

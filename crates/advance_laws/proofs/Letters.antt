@@ -15,7 +15,7 @@ use Rattle.letter_types.specs.Steps.{Out}
 use Rattle.tx_trees.specs.ScriptData.{ScriptData}
 use Rattle.pair_counters.specs.Numbers.{numbers_of}
 use Rattle.world_model.specs.Node.{Node}
-use Rattle.world_model.specs.Coordinator.{Coordinator, to_nodes, keep_done}
+use Rattle.world_model.specs.Coordinator.{Coordinator, to_nodes}
 use Rattle.world_model.specs.Counts.{tally}
 use Rattle.world_model.specs.Runs.{MayFollow, in_flight, node_in}
 use Rattle.world_model.proofs.Bags.{tally-append}
@@ -27,6 +27,7 @@ use Rattle.world_model.specs.Kept.{kept_by, kept_in, outstanding}
 use Rattle.advance_laws.specs.Phases.{count_in_flight}
 use Rattle.advance_laws.proofs.Brought.{IsAsking, kept_ask}
 use Rattle.advance_laws.proofs.Heeds.{IsWake}
+use Rattle.advance_laws.proofs.Outcomes.{keep_done}
 use Rattle.advance_laws.proofs.Progress.{Begins, Coordinates, Ends, Hears, Obeys, Progress, WakesFor, Works, are_wakes}
 use Rattle.advance_laws.proofs.Working.{AreSentIn, IsOfTrees, SentIn}
 
@@ -57,10 +58,10 @@ pick_none f false xs none = refl
 
 -- a row of completions brings no letter but those that ask for requests
 pub keep_done_none : (f : Body → ℕ) (from : ℕ) (row : List ℕ) (c : Coordinator)
-    → f (AskAsked c.current.version c.current.number) ≡ 0 → tally (on f) (keep_done from row c).sent ≡ 0
+    → f (AskAsked c.count.current.version c.count.current.number) ≡ 0 → tally (on f) (keep_done from row c).sent ≡ 0
 keep_done_none f from row c none =
-    pick_none f _ (to_nodes c.nodes (AskAsked c.current.version c.current.number))
-    (to_nodes_none f c.nodes (AskAsked c.current.version c.current.number) none)
+    pick_none f _ (to_nodes c.nodes (AskAsked c.count.current.version c.count.current.number))
+    (to_nodes_none f c.nodes (AskAsked c.count.current.version c.count.current.number) none)
 
 -- a number that counts no letter of trees
 pub record NoTrees (f : Body → ℕ) : Type 0 where

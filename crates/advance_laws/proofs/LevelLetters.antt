@@ -290,11 +290,11 @@ outcome_letters s past e out laws run apt was moved is (Acks phase at answer mor
 outcome_letters s past e out laws run apt was moved is (LastTurned v at bd last eq) =
     let c = coordinator_in s past in
     letters_right s past e out run.0 was moved is
-    (subst (λ (o : Out Coordinator). Right s c o) (sym eq) (round_right s c c false (c.round + 1) refl))
+    (subst (λ (o : Out Coordinator). Right s c o) (sym eq) (round_right s c c false (c.count.number + 1) refl))
 outcome_letters s past e out laws run apt was moved is (LastShown v at bd last eq) =
     let c = coordinator_in s past in
     letters_right s past e out run.0 was moved is
-    (subst (λ (o : Out Coordinator). Right s c o) (sym eq) (round_right s c c true (c.round + 1) refl))
+    (subst (λ (o : Out Coordinator). Right s c o) (sym eq) (round_right s c c true (c.count.number + 1) refl))
 outcome_letters s past e out laws run apt was moved is (Finishes v at bd last none eq) =
     let c = coordinator_in s past in
     letters_ended s past e v (finished c) laws run apt was at bd last
@@ -311,14 +311,14 @@ outcome_letters s past e out laws run apt was moved is (GoesOn v at bd last some
 outcome_letters s past e out laws run apt was moved is (Resumes reads at bd eq) =
     let c = coordinator_in s past in
     letters_right s past e out run.0 was moved is
-    (subst (λ (o : Out Coordinator). Right s c o) (sym eq) (round_right s c c reads (c.round + 1) refl))
+    (subst (λ (o : Out Coordinator). Right s c o) (sym eq) (round_right s c c reads (c.count.number + 1) refl))
 outcome_letters s past e out laws run apt was moved is (KeepsDone reads v k row at bd here eq) =
     let c = coordinator_in s past in
     letters_right s past e out run.0 was moved is
     (subst (λ (o : Out Coordinator). Right s c o) (sym eq) (record {
       same = refl;
       higher = omega arith;
-      sent = pick_asks s c.phase c.update c.nodes _ c.current.version c.current.number;
+      sent = pick_asks s c.phase c.update c.nodes _ c.count.current.version c.count.current.number;
     }))
 outcome_letters s past e out laws run apt was moved is (KeepsAsked reads v k row takes verdict eq) =
     letters_right s past e out run.0 was moved is
@@ -332,7 +332,7 @@ outcome_letters s past e out laws run apt was moved is (Recounts reads v k row t
     let c = coordinator_in s past in
     letters_right s past e out run.0 was moved is
     (subst (λ (o : Out Coordinator). Right s c o) (sym eq)
-    (round_right s c (asked_kept e.took.from.0 row c) reads (c.round + 1) refl))
+    (round_right s c (asked_kept e.took.from.0 row c) reads (c.count.number + 1) refl))
 outcome_letters s past e out laws run apt was moved is (Pauses reads v k row takes verdict flag eq) =
     let c = coordinator_in s past in
     letters_right s past e out run.0 was moved is

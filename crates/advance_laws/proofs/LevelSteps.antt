@@ -4,6 +4,7 @@ use Rattle.std.specs.Prelude.{nat_lt}
 use Rattle.std.proofs.lemmas.Bool.{cases_eq}
 use Rattle.std.proofs.lemmas.Bool.Decides.{nat_tests}
 use Rattle.tv_base.specs.declared.numbers.Version.{Version}
+use Rattle.phase_out.specs.Counts.{nudged}
 use Rattle.letter_types.specs.declared.bodies.Body.{Body}
 use Rattle.letter_types.specs.declared.bodies.Body.TheVariants.{Turn, Show, Sweep, AskDone, Sub as SubLetter}
 use Rattle.letter_types.specs.declared.entries.Entry.{Entry}
@@ -15,7 +16,7 @@ use Rattle.node_versions.specs.Turns.{raised}
 use Rattle.tx_trees.specs.ScriptData.{ScriptData, client_of}
 use Rattle.world_model.specs.Done.{raised_if}
 use Rattle.world_model.specs.Node.{Node}
-use Rattle.world_model.specs.Coordinator.{Coordinator, version, to_nodes, in_phase, begin_phase, counted_version, keep_done, end_count, coordinator_row}
+use Rattle.world_model.specs.Coordinator.{Coordinator, version, to_nodes, in_phase, begin_phase, counted_version, end_count, coordinator_row}
 use Rattle.world_model.specs.declared.phase.Phase.{Phase}
 use Rattle.world_model.specs.declared.phase.Phase.TheVariants.{Idle, Turning, Counting, Paused, Showing, Sweeping}
 use Rattle.world_model.specs.Client.{Client, submit, with_answer, with_end, nudge}
@@ -35,7 +36,7 @@ use Rattle.advance_laws.proofs.Brought.{each_of_brought}
 use Rattle.advance_laws.proofs.Letters.{NoTrees, Passes, keep_done_none, node_passes, none_of_trees}
 use Rattle.advance_laws.proofs.Progress.{Begins, Coordinates, Ends, Hears, Obeys, Progress, Works}
 use Rattle.advance_laws.proofs.Working.{IsRaiser}
-use Rattle.advance_laws.proofs.Outcomes.{Outcome, Rests, Queues, Flags, Turns, Acks, LastTurned, LastShown, Finishes, GoesOn, Resumes, KeepsDone, KeepsAsked, Agrees, Recounts, Pauses, asked_kept, finished, gone_on, round_begun}
+use Rattle.advance_laws.proofs.Outcomes.{Outcome, Rests, Queues, Flags, Turns, Acks, LastTurned, LastShown, Finishes, GoesOn, Resumes, KeepsDone, KeepsAsked, Agrees, Recounts, Pauses, asked_kept, finished, gone_on, round_begun, keep_done}
 use Rattle.advance_laws.proofs.Small.{outcome_in}
 use Rattle.advance_laws.proofs.Tokens.{IsCalm, PhaseFor, phase_for, token_passes, told, calm_within, turn_fills, show_fills, sweep_fills, ask_fills, token_rows, nudge_apart, ask_apart, ask_done_apart}
 use Rattle.advance_laws.proofs.LevelAt.{Level, LevelAt, LevelBody, Levels, order, orders_no_trees, tell, tells}
@@ -176,7 +177,7 @@ asks_sent p n v k = record {
 kept_sent : (p from : ℕ) (row : List ℕ) (c : Coordinator) → SentTo p (keep_done from row c).sent 0 0 0
 kept_sent p from row c =
     let none : (g : Stage) → tally (on (token g)) (keep_done from row c).sent ≡ 0 =
-    λ g. keep_done_none (token g) from row c (ask_apart c.current.version c.current.number g) in
+    λ g. keep_done_none (token g) from row c (ask_apart c.count.current.version c.count.current.number g) in
     record {
       of_turns = sent_none TurnStage p (keep_done from row c).sent (none TurnStage);
       of_shows = sent_none ShowStage p (keep_done from row c).sent (none ShowStage);
@@ -326,7 +327,7 @@ rises p c from body out lt one (Queues phase at goes bd is) =
     subst (λ (o : Out Coordinator). Rises p c o) (sym is)
     (rises_still p c (record c { waits = c.waits + 1 }) [] refl refl (nothing p))
 rises p c from body out lt one (Flags reads at bd is) =
-    subst (λ (o : Out Coordinator). Rises p c o) (sym is) (rises_still p c (record c { flag = true }) [] refl refl (nothing p))
+    subst (λ (o : Out Coordinator). Rises p c o) (sym is) (rises_still p c (record c { count = nudged c.count }) [] refl refl (nothing p))
 rises p c from body out lt one (Turns at bd is) =
     subst (λ (o : Out Coordinator). Rises p c o) (sym is) (rises_turning p c lt one at)
 rises p c from body out lt one (Acks phase at answer more is) =
@@ -334,23 +335,23 @@ rises p c from body out lt one (Acks phase at answer more is) =
     (rises_still p c (record c { acks = c.acks + 1 }) [] refl refl (nothing p))
 rises p c from body out lt one (LastTurned v at bd last is) =
     subst (λ (o : Out Coordinator). Rises p c o) (sym is)
-    (rises_leads p c (round_begun false (c.round + 1) c).state (round_begun false (c.round + 1) c).sent Turning
+    (rises_leads p c (round_begun false (c.count.number + 1) c).state (round_begun false (c.count.number + 1) c).sent Turning
     (Counting false) at refl refl tt tt
-    (asks_sent p c.nodes (counted_version false c) (c.round + 1)))
+    (asks_sent p c.nodes (counted_version false c) (c.count.number + 1)))
 rises p c from body out lt one (LastShown v at bd last is) =
     subst (λ (o : Out Coordinator). Rises p c o) (sym is)
-    (rises_leads p c (round_begun true (c.round + 1) c).state (round_begun true (c.round + 1) c).sent Showing
+    (rises_leads p c (round_begun true (c.count.number + 1) c).state (round_begun true (c.count.number + 1) c).sent Showing
     (Counting true) at refl refl tt tt
-    (asks_sent p c.nodes (counted_version true c) (c.round + 1)))
+    (asks_sent p c.nodes (counted_version true c) (c.count.number + 1)))
 rises p c from body out lt one (Finishes v at bd last none is) =
     subst (λ (o : Out Coordinator). Rises p c o) (sym is) (rises_finishes p c one at)
 rises p c from body out lt one (GoesOn v at bd last some is) =
     subst (λ (o : Out Coordinator). Rises p c o) (sym is) (rises_goes_on p c lt one at)
 rises p c from body out lt one (Resumes reads at bd is) =
     subst (λ (o : Out Coordinator). Rises p c o) (sym is)
-    (rises_leads p c (round_begun reads (c.round + 1) c).state (round_begun reads (c.round + 1) c).sent (Paused reads)
+    (rises_leads p c (round_begun reads (c.count.number + 1) c).state (round_begun reads (c.count.number + 1) c).sent (Paused reads)
     (Counting reads) at refl refl
-    (resumed reads) tt (asks_sent p c.nodes (counted_version reads c) (c.round + 1)))
+    (resumed reads) tt (asks_sent p c.nodes (counted_version reads c) (c.count.number + 1)))
 rises p c from body out lt one (KeepsDone reads v k row at bd here is) =
     subst (λ (o : Out Coordinator). Rises p c o) (sym is)
     (rises_still p c (keep_done from row c).state (keep_done from row c).sent refl refl (kept_sent p from row c))
@@ -361,9 +362,9 @@ rises p c from body out lt one (Agrees reads v k row takes verdict is) =
 rises p c from body out lt one (Recounts reads v k row takes verdict flag is) =
     let d = asked_kept from row c in
     subst (λ (o : Out Coordinator). Rises p c o) (sym is)
-    (rises_leads p c (round_begun reads (c.round + 1) d).state (round_begun reads (c.round + 1) d).sent (Counting reads)
+    (rises_leads p c (round_begun reads (c.count.number + 1) d).state (round_begun reads (c.count.number + 1) d).sent (Counting reads)
     (Counting reads) takes.phase refl refl
-    (recounted reads) tt (asks_sent p c.nodes (counted_version reads d) (c.round + 1)))
+    (recounted reads) tt (asks_sent p c.nodes (counted_version reads d) (c.count.number + 1)))
 rises p c from body out lt one (Pauses reads v k row takes verdict flag is) =
     subst (λ (o : Out Coordinator). Rises p c o) (sym is)
     (rises_leads p c (in_phase (Paused reads) (asked_kept from row c)) [] (Counting reads) (Paused reads)

@@ -1,3 +1,4 @@
+pub mod KeptRows
 pub mod Outcomes
 pub mod Lawful
 pub mod Brought

@@ -1,15 +1,18 @@
 -- What a step of the coordinator can be, where its numbers can still grow.
-use Rattle.std.proofs.Common.{if◌then◌else◌, ◌≡◌, ◌⊎◌, inl, inr, ℕ, ◌+◌, ◌-◌, ◌^◌, ◌<◌, ◌==◌, ◌&&◌, Bool, true, false, List, [], ◌∷◌, refl, ap, ◌∙◌, arith, Option, Some, None}
+use Rattle.std.proofs.Common.{if◌then◌else◌, ◌≡◌, ◌⊎◌, inl, inr, ℕ, ◌+◌, ◌-◌, ◌^◌, ◌<◌, ◌==◌, ◌&&◌, not, Bool, true, false, List, [], ◌∷◌, refl, sym, ap, subst, ◌∙◌, arith, Option, Some, None}
 use Rattle.tv_base.specs.declared.numbers.Version.{Version}
 use Rattle.tv_base.specs.Outside.{one_more}
-use Rattle.tv_base.proofs.Truths.{left_true, right_true}
-use Rattle.phase_out.specs.Rounds.{new_round, is_of, all_in, verdict_of}
+use Rattle.std.proofs.lemmas.Bool.{and_parts}
+use Rattle.phase_out.specs.Counts.{begin_count, by_verdict, nudged, told_asked, told_done}
+use Rattle.phase_out.specs.Rounds.{is_of, all_in, verdict_of}
+use Rattle.phase_out.specs.declared.count.Counted.TheVariants as counted
 use Rattle.letter_types.specs.declared.bodies.Body.{Body}
-use Rattle.letter_types.specs.declared.bodies.Body.TheVariants.{Nudge, Advance, Turn, Turned, Shown, Swept, AskDone, DoneRow, AskedRow}
+use Rattle.letter_types.specs.declared.bodies.Body.TheVariants.{Nudge, Advance, Turn, Turned, Shown, Swept, AskDone, AskAsked, DoneRow, AskedRow}
 use Rattle.letter_types.specs.Steps.{Out, still}
-use Rattle.world_model.specs.Coordinator.{Coordinator, version, to_nodes, in_phase, begin_phase, counted_version, begin_round, acknowledged, with_asked, keep_done, end_count, after_verdict, keep_asked, advanced, end_advance, row_of, coordinator_row}
+use Rattle.world_model.specs.Coordinator.{Coordinator, version, to_nodes, in_phase, begin_phase, counted_version, begin_round, acknowledged, as_counted, end_count, advanced, end_advance, go_by, row_of, coordinator_row}
 use Rattle.world_model.specs.declared.phase.Phase.{Phase}
 use Rattle.world_model.specs.declared.phase.Phase.TheVariants.{Idle, Turning, Counting, Paused, Showing, Sweeping}
+use Rattle.advance_laws.proofs.KeptRows.{with_asked, with_done}
 
 -- a number that isn't its type's last grows by one
 pub one_more_is : (n : ℕ) → n < 2 ^ 64 - 1 → one_more n ≡ n + 1
@@ -19,20 +22,32 @@ one_more_is n lt = omega (arith, lt)
 pub record HasRoom (c : Coordinator) : Type 0 where
   pub update : c.update + 1 < 2 ^ 64 - 1
   pub waits : c.waits < 2 ^ 64 - 1
-  pub round : c.round < 2 ^ 64 - 1
+  pub round : c.count.number < 2 ^ 64 - 1
   pub acks : c.acks < 2 ^ 64 - 1
 
 -- round k begins: it misses every row and asks every node for its completions
 abbrev pub round_begun : Bool → ℕ → Coordinator → Out Coordinator
-round_begun reads k c = begin_phase (Counting reads) (AskDone (counted_version reads c) k) (record c {
-  round = k;
-  current = new_round (counted_version reads c) k c.nodes;
-  flag = false;
-})
+round_begun reads k c =
+    begin_phase (Counting reads) (AskDone (counted_version reads c) k)
+    (record c { count = begin_count (counted_version reads c) k c.nodes })
 
--- the coordinator with one more row of requests
+-- every node is asked for its requests where a test says so
+abbrev pub asks_if : Bool → Coordinator → Out Coordinator
+asks_if test c = record {
+  state = c;
+  sent = if test then to_nodes c.nodes (AskAsked c.count.current.version c.count.current.number) else [];
+  acts = [];
+}
+
+-- the coordinator with one more row of completions, which has requests asked for if it fills the last missing place
+abbrev pub keep_done : ℕ → List ℕ → Coordinator → Out Coordinator
+keep_done from row c =
+    asks_if (all_in (with_done from row c.count.current).dones && not (all_in c.count.current.dones))
+    (record c { count = record c.count { current = with_done from row c.count.current } })
+
+-- with one more row of requests
 abbrev pub asked_kept : ℕ → List ℕ → Coordinator → Coordinator
-asked_kept from row c = record c { current = with_asked from row c.current }
+asked_kept from row c = record c { count = record c.count { current = with_asked from row c.count.current } }
 
 -- in the next update version, with so many that wait
 abbrev pub in_next : Phase → ℕ → Coordinator → Coordinator
@@ -70,8 +85,8 @@ Ignored Nudge (Paused reads) from c = ⊥
 Ignored (Turned v) Turning from c = ⊥
 Ignored (Shown v) Showing from c = ⊥
 Ignored (Swept v) Sweeping from c = ⊥
-Ignored (DoneRow v k row) (Counting reads) from c = is_of from v k row c.current ≡ false
-Ignored (AskedRow v k row) (Counting reads) from c = (is_of from v k row c.current && all_in c.current.dones) ≡ false
+Ignored (DoneRow v k row) (Counting reads) from c = is_of from v k row c.count.current ≡ false
+Ignored (AskedRow v k row) (Counting reads) from c = (is_of from v k row c.count.current && all_in c.count.current.dones) ≡ false
 Ignored _ _ from c = Unit {0}
 
 -- a row of requests of this round, after all completions
@@ -79,8 +94,8 @@ pub record TakesAsked (c : Coordinator) (from : ℕ) (body : Body) (reads : Bool
     : Type 0 where
   pub phase : c.phase ≡ Counting reads
   pub body_is : body ≡ AskedRow v k row
-  pub here : is_of from v k row c.current ≡ true
-  pub after_dones : all_in c.current.dones ≡ true
+  pub here : is_of from v k row c.count.current ≡ true
+  pub after_dones : all_in c.count.current.dones ≡ true
 
 -- the letter is ignored; an advance waits, or a nudge is remembered; a phase begins, or is acknowledged, or was for the
 -- last time, and the next begins; a round is resumed, keeps a row, or is judged
@@ -88,40 +103,40 @@ pub data Outcome (c : Coordinator) (from : ℕ) (body : Body) (out : Out Coordin
   Rests : (phase : Phase) → c.phase ≡ phase → Ignored body phase from c → out ≡ still c → Outcome c from body out
   Queues : (phase : Phase) → c.phase ≡ phase → IsRunning phase → body ≡ Advance → out ≡ still (record c { waits = c.waits + 1 })
       → Outcome c from body out
-  Flags : (reads : Bool) → c.phase ≡ Counting reads → body ≡ Nudge → out ≡ still (record c { flag = true })
+  Flags : (reads : Bool) → c.phase ≡ Counting reads → body ≡ Nudge → out ≡ still (record c { count = nudged c.count })
       → Outcome c from body out
   Turns : c.phase ≡ Idle → body ≡ Advance → out ≡ begin_phase Turning (Turn (version (c.update + 1))) c
       → Outcome c from body out
   Acks : (phase : Phase) → c.phase ≡ phase → IsAnswer phase body → (c.acks + 1 == c.nodes) ≡ false
       → out ≡ still (record c { acks = c.acks + 1 }) → Outcome c from body out
   LastTurned : (v : Version) → c.phase ≡ Turning → body ≡ Turned v → (c.acks + 1 == c.nodes) ≡ true
-      → out ≡ round_begun false (c.round + 1) c → Outcome c from body out
+      → out ≡ round_begun false (c.count.number + 1) c → Outcome c from body out
   LastShown : (v : Version) → c.phase ≡ Showing → body ≡ Shown v → (c.acks + 1 == c.nodes) ≡ true
-      → out ≡ round_begun true (c.round + 1) c → Outcome c from body out
+      → out ≡ round_begun true (c.count.number + 1) c → Outcome c from body out
   Finishes : (v : Version) → c.phase ≡ Sweeping → body ≡ Swept v → (c.acks + 1 == c.nodes) ≡ true → (c.waits == 0) ≡ true
       → out ≡ finished c → Outcome c from body out
   GoesOn : (v : Version) → c.phase ≡ Sweeping → body ≡ Swept v → (c.acks + 1 == c.nodes) ≡ true → (c.waits == 0) ≡ false
       → out ≡ gone_on c
       → Outcome c from body out
-  Resumes : (reads : Bool) → c.phase ≡ Paused reads → body ≡ Nudge → out ≡ round_begun reads (c.round + 1) c
+  Resumes : (reads : Bool) → c.phase ≡ Paused reads → body ≡ Nudge → out ≡ round_begun reads (c.count.number + 1) c
       → Outcome c from body out
   KeepsDone : (reads : Bool) (v : Version) (k : ℕ) (row : List ℕ) → c.phase ≡ Counting reads → body ≡ DoneRow v k row
-      → is_of from v k row c.current ≡ true → out ≡ keep_done from row c → Outcome c from body out
+      → is_of from v k row c.count.current ≡ true → out ≡ keep_done from row c → Outcome c from body out
   KeepsAsked : (reads : Bool) (v : Version) (k : ℕ) (row : List ℕ) → TakesAsked c from body reads v k row
-      → verdict_of (with_asked from row c.current) ≡ None → out ≡ still (asked_kept from row c) → Outcome c from body out
+      → verdict_of (with_asked from row c.count.current) ≡ None → out ≡ still (asked_kept from row c) → Outcome c from body out
   Agrees : (reads : Bool) (v : Version) (k : ℕ) (row : List ℕ) → TakesAsked c from body reads v k row
-      → verdict_of (with_asked from row c.current) ≡ Some true → out ≡ end_count reads (asked_kept from row c)
+      → verdict_of (with_asked from row c.count.current) ≡ Some true → out ≡ end_count reads (asked_kept from row c)
       → Outcome c from body out
   Recounts : (reads : Bool) (v : Version) (k : ℕ) (row : List ℕ) → TakesAsked c from body reads v k row
-      → verdict_of (with_asked from row c.current) ≡ Some false → c.flag ≡ true
-      → out ≡ round_begun reads (c.round + 1) (asked_kept from row c) → Outcome c from body out
+      → verdict_of (with_asked from row c.count.current) ≡ Some false → c.count.flag ≡ true
+      → out ≡ round_begun reads (c.count.number + 1) (asked_kept from row c) → Outcome c from body out
   Pauses : (reads : Bool) (v : Version) (k : ℕ) (row : List ℕ) → TakesAsked c from body reads v k row
-      → verdict_of (with_asked from row c.current) ≡ Some false → c.flag ≡ false
+      → verdict_of (with_asked from row c.count.current) ≡ Some false → c.count.flag ≡ false
       → out ≡ still (in_phase (Paused reads) (asked_kept from row c)) → Outcome c from body out
 
 -- a round begins with the next number
-next_round : (reads : Bool) (c : Coordinator) → c.round < 2 ^ 64 - 1 → begin_round reads c ≡ round_begun reads (c.round + 1) c
-next_round reads c lt = ap (λ (k : ℕ). round_begun reads k c) (one_more_is c.round lt)
+next_round : (reads : Bool) (c : Coordinator) → c.count.number < 2 ^ 64 - 1 → begin_round reads c ≡ round_begun reads (c.count.number + 1) c
+next_round reads c lt = ap (λ (k : ℕ). round_begun reads k c) (one_more_is c.count.number lt)
 
 -- one acknowledgement more: the last one, or one before it
 acknowledged-last : (next : Out Coordinator) (c : Coordinator) → HasRoom c → (c.acks + 1 == c.nodes) ≡ true
@@ -164,40 +179,44 @@ swept_out c from v room at true false is some =
     GoesOn v at refl is some (acknowledged-last (end_advance c) c room is ∙ end_advance-goes_on c room some)
 swept_out c from v room at false d is any = Acks Sweeping at tt is (acknowledged-more (end_advance c) c room is)
 
+asks_by : (test reads : Bool) (c : Coordinator)
+    → as_counted reads (if test then counted.AsksRequests else counted.Goes) c ≡ asks_if test c
+asks_by true reads c = refl
+asks_by false reads c = refl
+
 done_out : (c : Coordinator) (reads : Bool) (from : ℕ) (v : Version) (k : ℕ) (row : List ℕ) → c.phase ≡ Counting reads
-    → (b : Bool) → is_of from v k row c.current ≡ b
-    → Outcome c from (DoneRow v k row) (if is_of from v k row c.current then keep_done from row c else still c)
-done_out c reads from v k row at true is = KeepsDone reads v k row at refl is (rw is refl)
+    → (b : Bool) → is_of from v k row c.count.current ≡ b
+    → Outcome c from (DoneRow v k row) (go_by reads (told_done from v k row c.count) c)
+done_out c reads from v k row at true is = KeepsDone reads v k row at refl is (rw is (asks_by _ reads _))
 done_out c reads from v k row at false is = Rests (Counting reads) at is (rw is refl)
+
+-- a row of requests that the round takes is judged
+judged : (c : Coordinator) (reads : Bool) (from : ℕ) (v : Version) (k : ℕ) (row : List ℕ) (verdict : Option Bool)
+    → TakesAsked c from (AskedRow v k row) reads v k row → verdict_of (with_asked from row c.count.current) ≡ verdict
+    → go_by reads (told_asked from v k row c.count) c ≡ as_counted reads (by_verdict verdict c.count.flag) (asked_kept from row c)
+judged c reads from v k row verdict takes is = grind arith
 
 judged_out : (c : Coordinator) (reads : Bool) (from : ℕ) (v : Version) (k : ℕ) (row : List ℕ) → HasRoom c
     → TakesAsked c from (AskedRow v k row) reads v k row → (verdict : Option Bool)
-    → verdict_of (with_asked from row c.current) ≡ verdict
-    → (flag : Bool) → c.flag ≡ flag → Outcome c from (AskedRow v k row) (after_verdict reads verdict (asked_kept from row c))
+    → verdict_of (with_asked from row c.count.current) ≡ verdict
+    → (flag : Bool) → c.count.flag ≡ flag → Outcome c from (AskedRow v k row) (as_counted reads (by_verdict verdict flag) (asked_kept from row c))
 judged_out c reads from v k row room takes None is flag fl = KeepsAsked reads v k row takes is refl
 judged_out c reads from v k row room takes (Some true) is flag fl = Agrees reads v k row takes is refl
 judged_out c reads from v k row room takes (Some false) is true fl =
-    Recounts reads v k row takes is fl (rw fl (next_round reads (asked_kept from row c) room.round))
-judged_out c reads from v k row room takes (Some false) is false fl = Pauses reads v k row takes is fl (rw fl refl)
-
-pick_out : (c : Coordinator) (from : ℕ) (body : Body) (b : Bool) (x y : Out Coordinator) → (b ≡ true → Outcome c from body x)
-    → (b ≡ false → Outcome c from body y) → Outcome c from body (if b then x else y)
-pick_out c from body true x y left right = left refl
-pick_out c from body false x y left right = right refl
+    Recounts reads v k row takes is fl (next_round reads (asked_kept from row c) room.round)
+judged_out c reads from v k row room takes (Some false) is false fl = Pauses reads v k row takes is fl refl
 
 asked_out : (c : Coordinator) (reads : Bool) (from : ℕ) (v : Version) (k : ℕ) (row : List ℕ) → HasRoom c
-    → c.phase ≡ Counting reads → Outcome c from (AskedRow v k row)
-    (if is_of from v k row c.current && all_in c.current.dones then keep_asked reads from row c else still c)
-asked_out c reads from v k row room at =
-    pick_out c from (AskedRow v k row) (is_of from v k row c.current && all_in c.current.dones)
-    (keep_asked reads from row c) (still c)
-    (λ is. judged_out c reads from v k row room (record {
-      phase = at;
-      body_is = refl;
-      here = left_true (is_of from v k row c.current) (all_in c.current.dones) is;
-      after_dones = right_true (is_of from v k row c.current) (all_in c.current.dones) is;
-    }) (verdict_of (with_asked from row c.current)) refl c.flag refl)
-    (λ is. Rests (Counting reads) at is refl)
+    → c.phase ≡ Counting reads → (b : Bool) → (is_of from v k row c.count.current && all_in c.count.current.dones) ≡ b
+    → Outcome c from (AskedRow v k row) (go_by reads (told_asked from v k row c.count) c)
+asked_out c reads from v k row room at true is =
+    let parts = and_parts (is_of from v k row c.count.current) (all_in c.count.current.dones) is in
+    let takes : TakesAsked c from (AskedRow v k row) reads v k row =
+    record { phase = at; body_is = refl; here = parts.0; after_dones = parts.1 } in
+    let verdict = verdict_of (with_asked from row c.count.current) in
+    subst (λ (o : Out Coordinator). Outcome c from (AskedRow v k row) o) (sym (judged c reads from v k row verdict takes refl))
+    (judged_out c reads from v k row room takes verdict refl c.count.flag refl)
+asked_out c reads from v k row room at false is = Rests (Counting reads) at is (rw is refl)
 
 row_out : (body : Body) (phase : Phase) (from : ℕ) (c : Coordinator) → HasRoom c → c.phase ≡ phase
     → Outcome c from body (row_of body phase from c)
@@ -214,8 +233,9 @@ row_out Advance (Counting reads) from c room at =
 row_out Advance (Paused reads) from c room at =
     Queues (Paused reads) at tt refl (ap (λ (n : ℕ). still (record c { waits = n })) (one_more_is c.waits room.waits))
 row_out (Turned v) Turning from c room at = turned_out c from v room at (c.acks + 1 == c.nodes) refl
-row_out (DoneRow v k row) (Counting reads) from c room at = done_out c reads from v k row at (is_of from v k row c.current) refl
-row_out (AskedRow v k row) (Counting reads) from c room at = asked_out c reads from v k row room at
+row_out (DoneRow v k row) (Counting reads) from c room at = done_out c reads from v k row at (is_of from v k row c.count.current) refl
+row_out (AskedRow v k row) (Counting reads) from c room at =
+    asked_out c reads from v k row room at (is_of from v k row c.count.current && all_in c.count.current.dones) refl
 row_out Nudge (Counting reads) from c room at = Flags reads at refl refl
 row_out Nudge (Paused reads) from c room at = Resumes reads at refl (next_round reads c room.round)
 row_out (Shown v) Showing from c room at = shown_out c from v room at (c.acks + 1 == c.nodes) refl

@@ -12,10 +12,11 @@ use Rattle.letter_types.specs.declared.bodies.Body.TheVariants.{AdvanceNo, AskAs
 use Rattle.letter_types.specs.declared.bodies.What.{What}
 use Rattle.letter_types.specs.declared.entries.Outgoing.{Outgoing}
 use Rattle.letter_types.specs.Steps.{Out, still}
-use Rattle.world_model.specs.Coordinator.{to_nodes, with_asked, with_done}
+use Rattle.world_model.specs.Coordinator.{to_nodes}
 use Rattle.world_model.specs.Restarting.{Restarting, after_doing, begin_counting, by_count, by_counted, end_counting, enter, forget, in_restart_phase, is_answer, next_advance, recover, restart_row_of, restarting_row, target, with_told, with_wanted}
 use Rattle.world_model.specs.declared.restarting.RestartPhase.{RestartPhase}
 use Rattle.world_model.specs.declared.restarting.RestartPhase.TheVariants.{Idle, Recovering, Doing, Counting, Paused}
+use Rattle.advance_laws.proofs.KeptRows.{with_asked, with_done}
 
 -- the letter changes nothing in this phase
 abbrev pub IsLeft : Body → RestartPhase → ℕ → Restarting → Type 0

@@ -16,12 +16,13 @@ use Rattle.tv_base.specs.declared.numbers.Version.{Version}
 use Rattle.phase_out.specs.Rounds.{NodeRows, RoundData, agrees, all_in, is_of, kept_number, new_round, number_at, verdict_of}
 use Rattle.phase_out.proofs.Verdicts.{differs-none}
 use Rattle.tx_trees.specs.ScriptData.{ScriptData}
-use Rattle.world_model.specs.Coordinator.{counted_version, to_nodes, with_asked, with_done}
+use Rattle.world_model.specs.Coordinator.{counted_version, to_nodes}
 use Rattle.world_model.specs.Counts.{Each, one_if, tally}
 use Rattle.world_model.specs.Runs.{coordinator_in, node_in, in_flight, MayFollow, IsStepRun}
 use Rattle.world_model.specs.AllApt.{AllApt}
 use Rattle.world_model.proofs.Bags.{tally-drop}
 use Rattle.world_model.proofs.Every.{each_map, each_step, each_taken, each_zero}
+use Rattle.advance_laws.proofs.KeptRows.{with_asked, with_done}
 use Rattle.advance_laws.proofs.Lawful.{IsLawful, IsTreeLawful}
 use Rattle.advance_laws.proofs.CoordinatorCounts.{Always, coordinator_counts, count_in, takes_row, versioned}
 use Rattle.advance_laws.proofs.Counting.{Count, CountStep, Denies, Holds, IsCounting, IsNudged, InRound, Lasts, Leaves, Begins, TakesDone, TakesRequests, TakesRow, asks_after, count_asked, count_done, none_in_round, paused_in_round, Premise}
@@ -561,7 +562,7 @@ silent_agreed s count G view past e reads v k row run apt takes given verdict =
 pub agrees_silent : (s : ScriptData) (past : List Entry) (e : Entry) (reads : Bool) (v : Version) (k : ℕ) (row : List ℕ)
     → IsLawful s → IsStepRun s (e ∷ past) → AllApt s past
     → TakesAsked (coordinator_in s past) e.took.from.0 e.took.body reads v k row
-    → verdict_of (with_asked e.took.from.0 row (coordinator_in s past).current) ≡ Some true
+    → verdict_of (with_asked e.took.from.0 row (coordinator_in s past).count.current) ≡ Some true
     → IsSilent s past (counted_version reads (coordinator_in s past)).0
 agrees_silent s past e reads v k row laws run apt takes verdict =
     let c = coordinator_in s past in

@@ -8,13 +8,14 @@ use Rattle.letter_types.specs.Steps.{Out}
 use Rattle.tv_base.specs.declared.numbers.Version.{Version}
 use Rattle.phase_out.specs.Rounds.{all_in}
 use Rattle.tx_trees.specs.ScriptData.{ScriptData}
-use Rattle.world_model.specs.Coordinator.{Coordinator, version, to_nodes, counted_version, end_count, with_done, coordinator_row}
+use Rattle.world_model.specs.Coordinator.{Coordinator, version, to_nodes, counted_version, end_count, coordinator_row}
 use Rattle.world_model.specs.declared.phase.Phase.{Phase}
 use Rattle.world_model.specs.declared.phase.Phase.TheVariants.{Counting}
 use Rattle.world_model.specs.Counts.{Each}
 use Rattle.world_model.specs.Runs.{coordinator_in, node_in, IsStepRun}
 use Rattle.world_model.specs.AllApt.{AllApt}
 use Rattle.world_model.proofs.Every.{each_map}
+use Rattle.advance_laws.proofs.KeptRows.{with_done}
 use Rattle.advance_laws.proofs.Lawful.{IsLawful}
 use Rattle.world_model.proofs.Orders.{to_nodes_each}
 use Rattle.advance_laws.proofs.Levels.{Level, Levels, levels, tells}
@@ -85,11 +86,11 @@ given_by s past e out laws run apt (Turns at bd is) =
 given_by s past e out laws run apt (LastTurned v at bd last is) =
     let c = coordinator_in s past in
     subst (λ (o : Out Coordinator). Given s past o.sent) (sym is)
-    (given_nodes s past c.nodes (AskDone (counted_version false c) (c.round + 1)) tt)
+    (given_nodes s past c.nodes (AskDone (counted_version false c) (c.count.number + 1)) tt)
 given_by s past e out laws run apt (LastShown v at bd last is) =
     let c = coordinator_in s past in
     subst (λ (o : Out Coordinator). Given s past o.sent) (sym is)
-    (given_nodes s past c.nodes (AskDone (counted_version true c) (c.round + 1)) tt)
+    (given_nodes s past c.nodes (AskDone (counted_version true c) (c.count.number + 1)) tt)
 given_by s past e out laws run apt (Finishes v at bd last none is) =
     subst (λ (o : Out Coordinator). Given s past o.sent) (sym is) (tt, tt)
 given_by s past e out laws run apt (GoesOn v at bd last some is) =
@@ -99,12 +100,12 @@ given_by s past e out laws run apt (GoesOn v at bd last some is) =
 given_by s past e out laws run apt (Resumes reads at bd is) =
     let c = coordinator_in s past in
     subst (λ (o : Out Coordinator). Given s past o.sent) (sym is)
-    (given_nodes s past c.nodes (AskDone (counted_version reads c) (c.round + 1)) tt)
+    (given_nodes s past c.nodes (AskDone (counted_version reads c) (c.count.number + 1)) tt)
 given_by s past e out laws run apt (KeepsDone reads v k row at bd here is) =
     let c = coordinator_in s past in
     subst (λ (o : Out Coordinator). Given s past o.sent) (sym is)
-    (given_if s past c.nodes c.current.version c.current.number
-    (all_in (with_done e.took.from.0 row c.current).dones && not (all_in c.current.dones)))
+    (given_if s past c.nodes c.count.current.version c.count.current.number
+    (all_in (with_done e.took.from.0 row c.count.current).dones && not (all_in c.count.current.dones)))
 given_by s past e out laws run apt (KeepsAsked reads v k row takes verdict is) =
     subst (λ (o : Out Coordinator). Given s past o.sent) (sym is) tt
 given_by s past e out laws run apt (Agrees reads v k row takes verdict is) =
@@ -115,7 +116,7 @@ given_by s past e out laws run apt (Agrees reads v k row takes verdict is) =
 given_by s past e out laws run apt (Recounts reads v k row takes verdict flag is) =
     let c = coordinator_in s past in
     subst (λ (o : Out Coordinator). Given s past o.sent) (sym is)
-    (given_nodes s past c.nodes (AskDone (counted_version reads c) (c.round + 1)) tt)
+    (given_nodes s past c.nodes (AskDone (counted_version reads c) (c.count.number + 1)) tt)
 given_by s past e out laws run apt (Pauses reads v k row takes verdict flag is) =
     subst (λ (o : Out Coordinator). Given s past o.sent) (sym is) tt
 

@@ -58,7 +58,7 @@ pub record Numbers (s : ScriptData) (past : List Entry) (c : Coordinator) : Type
   pub idle : running c.phase ≡ 0 → c.waits ≡ 0
   pub asked : count_in_flight is_advance_letter s past + c.waits + running c.phase + c.update ≡ asked_for s past + 1
   pub ended : count_in_flight is_advanced s past + (client_in s past).ended + 1 ≡ c.update
-  pub rounds : c.round + remembered c.phase c.flag + 2 ≤ 2 * c.update + rounds_in c.phase + nudged past
+  pub rounds : c.count.number + remembered c.phase c.count.flag + 2 ≤ 2 * c.update + rounds_in c.phase + nudged past
 
 -- the same of the coordinator after a past
 abbrev pub IsSmall : ScriptData → List Entry → Type 0
@@ -97,8 +97,8 @@ pub record Costs (c : Coordinator) (body : Body) (out : Out Coordinator) : Type 
   pub silent : tally (on is_advance_letter) out.sent ≡ 0
   pub asked : is_advance_letter body + c.waits + running c.phase + c.update ≡ out.state.waits + running out.state.phase + out.state.update
   pub ended : out.state.update ≡ c.update + tally (on is_advanced) out.sent
-  pub rounds : out.state.round + remembered out.state.phase out.state.flag + rounds_in c.phase + 2 * c.update
-      ≤ c.round + remembered c.phase c.flag + is_nudge body + rounds_in out.state.phase + 2 * out.state.update
+  pub rounds : out.state.count.number + remembered out.state.phase out.state.count.flag + rounds_in c.phase + 2 * c.update
+      ≤ c.count.number + remembered c.phase c.count.flag + is_nudge body + rounds_in out.state.phase + 2 * out.state.update
 
 -- of what an ignored letter asks nothing is left to do
 ignored_advance : (body : Body) (phase : Phase) (from : ℕ) (c : Coordinator) → Ignored body phase from c → is_advance_letter body ≡ 0
@@ -119,10 +119,10 @@ runs Idle is = absurd is
 runs _ is = refl
 
 still_costs : (c d : Coordinator) (body : Body) → d.nodes ≡ c.nodes → d.acks ≡ c.acks → d.phase ≡ c.phase → d.waits ≡ c.waits
-    → d.update ≡ c.update → d.round ≡ c.round → d.flag ≡ c.flag → is_advance_letter body ≡ 0 → Costs c body (still d)
+    → d.update ≡ c.update → d.count.number ≡ c.count.number → d.count.flag ≡ c.count.flag → is_advance_letter body ≡ 0 → Costs c body (still d)
 still_costs c d body nodes acks phase waits update round flag took =
-    let same : remembered d.phase d.flag ≡ remembered c.phase c.flag =
-    ap (λ (p : Phase). remembered p d.flag) phase ∙ ap (λ (f : Bool). remembered c.phase f) flag in
+    let same : remembered d.phase d.count.flag ≡ remembered c.phase c.count.flag =
+    ap (λ (p : Phase). remembered p d.count.flag) phase ∙ ap (λ (f : Bool). remembered c.phase f) flag in
     let begun : rounds_in d.phase ≡ rounds_in c.phase = ap rounds_in phase in
     let going : running d.phase ≡ running c.phase = ap running phase in
     record {
@@ -137,27 +137,27 @@ still_costs c d body nodes acks phase waits update round flag took =
 
 round_costs : (c d : Coordinator) (body : Body) (phase : Phase) (reads : Bool) → c.phase ≡ phase → d.nodes ≡ c.nodes
     → d.waits ≡ c.waits → d.update ≡ c.update → running phase ≡ 1 → is_advance_letter body ≡ 0
-    → rounds_in phase + 1 ≤ remembered phase c.flag + is_nudge body + rounds_in (Counting reads)
-    → Costs c body (round_begun reads (c.round + 1) d)
+    → rounds_in phase + 1 ≤ remembered phase c.count.flag + is_nudge body + rounds_in (Counting reads)
+    → Costs c body (round_begun reads (c.count.number + 1) d)
 round_costs c d body phase reads at nodes waits update goes took rounds =
     let going : running c.phase ≡ 1 = ap running at ∙ goes in
     let begun : rounds_in c.phase ≡ rounds_in phase = ap rounds_in at in
-    let same : remembered c.phase c.flag ≡ remembered phase c.flag = ap (λ (p : Phase). remembered p c.flag) at in
+    let same : remembered c.phase c.count.flag ≡ remembered phase c.count.flag = ap (λ (p : Phase). remembered p c.count.flag) at in
     record {
       nodes = nodes;
       acks = λ lt. omega (arith, lt);
       idle = λ was none. absurd (omega (arith, none));
-      silent = to_nodes_none is_advance_letter d.nodes (AskDone (counted_version reads d) (c.round + 1)) refl;
+      silent = to_nodes_none is_advance_letter d.nodes (AskDone (counted_version reads d) (c.count.number + 1)) refl;
       asked = omega (arith, waits, going, update, took);
-      ended = omega (arith, update, to_nodes_none is_advanced d.nodes (AskDone (counted_version reads d) (c.round + 1)) refl);
+      ended = omega (arith, update, to_nodes_none is_advanced d.nodes (AskDone (counted_version reads d) (c.count.number + 1)) refl);
       rounds = omega (arith, begun, same, update, rounds);
     }
 
 -- a phase that doesn't count begins with an order to every node
 order_costs : (c d : Coordinator) (body order : Body) (phase next : Phase) → c.phase ≡ phase → d.nodes ≡ c.nodes
     → d.waits ≡ c.waits
-    → d.update ≡ c.update → d.round ≡ c.round → running next ≡ 1 → is_advance_letter body + c.waits + running phase ≡ d.waits + 1
-    → is_advance_letter order ≡ 0 → is_advanced order ≡ 0 → remembered next d.flag ≡ 0 → rounds_in phase ≡ rounds_in next
+    → d.update ≡ c.update → d.count.number ≡ c.count.number → running next ≡ 1 → is_advance_letter body + c.waits + running phase ≡ d.waits + 1
+    → is_advance_letter order ≡ 0 → is_advanced order ≡ 0 → remembered next d.count.flag ≡ 0 → rounds_in phase ≡ rounds_in next
     → Costs c body (begin_phase next order d)
 order_costs c d body order phase next at nodes waits update round goes took silent quiet calm rounds =
     let going : running c.phase ≡ running phase = ap running at in
@@ -311,7 +311,7 @@ costs c from body out (Agrees reads v k row takes verdict is) =
     subst (λ (o : Out Coordinator). Costs c body o) (sym is)
     (agrees_costs c from row body reads takes.phase (ap is_advance_letter takes.body_is))
 costs c from body out (Recounts reads v k row takes verdict flag is) =
-    let one : one_if c.flag ≡ 1 = ap one_if flag in
+    let one : one_if c.count.flag ≡ 1 = ap one_if flag in
     subst (λ (o : Out Coordinator). Costs c body o) (sym is)
     (round_costs c (asked_kept from row c) body (Counting reads) reads takes.phase refl refl refl refl
     (ap is_advance_letter takes.body_is) (omega (arith, one)))
@@ -529,7 +529,7 @@ outcome_in s past e laws run apt =
 
 -- What follows for rounds: two for each advancement that was asked for and one for each nudge, at most.
 pub rounds_most : (s : ScriptData) (past : List Entry) → IsLawful s → IsStepRun s past → AllApt s past
-    → (coordinator_in s past).round ≤ 2 * advances_in s.rows + nudged past
+    → (coordinator_in s past).count.number ≤ 2 * advances_in s.rows + nudged past
 rounds_most s past laws run apt =
     let now = small s past laws run apt in
     let asked : asked_for s past ≤ advances_in s.rows = asked_most (client_in s past).next s.rows in

@@ -2,6 +2,7 @@
 use Rattle.std.proofs.Common.{◌≡◌, ◌≢◌, ◌⊎◌, inl, inr, ℕ, ◌+◌, ◌-◌, ◌<◌, ◌≤◌, ◌==◌, Bool, true, false, List, [], ◌∷◌, refl, sym, ap, subst, ◌∙◌, arith}
 use Rattle.std.proofs.lemmas.Bool.Decides.{nat_tests}
 use Rattle.tv_base.specs.declared.numbers.Version.{Version}
+use Rattle.phase_out.specs.Counts.{nudged}
 use Rattle.letter_types.specs.declared.bodies.Body.{Body}
 use Rattle.letter_types.specs.declared.bodies.Body.TheVariants.{Go, Nudge, Advance, Turn, Show, Sweep, Turned, Shown, Swept, AskDone, AskAsked, DoneRow, AskedRow, Advanced, AdvanceNo, Lose}
 use Rattle.letter_types.specs.declared.entries.Entry.{Entry}
@@ -9,7 +10,7 @@ use Rattle.letter_types.specs.declared.entries.Letter.{Letter}
 use Rattle.letter_types.specs.declared.entries.Outgoing.{Outgoing}
 use Rattle.letter_types.specs.Steps.{Out, still}
 use Rattle.tx_trees.specs.ScriptData.{ScriptData, client_of}
-use Rattle.world_model.specs.Coordinator.{Coordinator, version, to_nodes, in_phase, counted_version, keep_done, end_count, advanced, coordinator_row}
+use Rattle.world_model.specs.Coordinator.{Coordinator, version, to_nodes, in_phase, counted_version, end_count, advanced, coordinator_row}
 use Rattle.world_model.specs.declared.phase.Phase.{Phase}
 use Rattle.world_model.specs.declared.phase.Phase.TheVariants.{Idle, Turning, Counting, Paused, Showing, Sweeping}
 use Rattle.world_model.specs.Client.{Client, submit, with_answer, with_end, nudge}
@@ -26,7 +27,7 @@ use Rattle.world_model.specs.AllApt.{AllApt}
 pub use Rattle.advance_laws.specs.Phases.{Stage, TurnStage, ShowStage, SweepStage, Told, token, count_in_flight, within}
 use Rattle.advance_laws.proofs.Letters.{NoTrees, Passes, keep_done_none, node_keeps, to_nodes_none, to_nodes_one}
 use Rattle.advance_laws.proofs.Progress.{Begins, Coordinates, Ends, Hears, Obeys, Progress, Works, progress}
-use Rattle.advance_laws.proofs.Outcomes.{Ignored, IsAnswer, Outcome, Rests, Queues, Flags, Turns, Acks, LastTurned, LastShown, Finishes, GoesOn, Resumes, KeepsDone, KeepsAsked, Agrees, Recounts, Pauses, asked_kept, in_next, round_begun}
+use Rattle.advance_laws.proofs.Outcomes.{Ignored, IsAnswer, Outcome, Rests, Queues, Flags, Turns, Acks, LastTurned, LastShown, Finishes, GoesOn, Resumes, KeepsDone, KeepsAsked, Agrees, Recounts, Pauses, asked_kept, in_next, round_begun, keep_done}
 use Rattle.advance_laws.proofs.Small.{outcome_in}
 
 -- tokens are no letters of trees
@@ -347,7 +348,7 @@ outcome_goes g c from body out tells (Queues phase at goes bd is) =
     (stays g c (record c { waits = c.waits + 1 }) body [] refl refl refl (inl (apart_by body Advance bd advance_apart g)))
 outcome_goes g c from body out tells (Flags reads at bd is) =
     subst (λ (o : Out Coordinator). Goes g c body o) (sym is)
-    (stays g c (record c { flag = true }) body [] refl refl refl (inl (apart_by body Nudge bd nudge_apart g)))
+    (stays g c (record c { count = nudged c.count }) body [] refl refl refl (inl (apart_by body Nudge bd nudge_apart g)))
 outcome_goes g c from body out tells (Turns at bd is) =
     subst (λ (o : Out Coordinator). Goes g c body o) (sym is)
     (begins g c (in_phase Turning c) body (to_nodes c.nodes (Turn (version (c.update + 1))))
@@ -357,10 +358,10 @@ outcome_goes g c from body out tells (Acks phase at answer more is) =
     subst (λ (o : Out Coordinator). Goes g c body o) (sym is) (acknowledges g c body phase at answer)
 outcome_goes g c from body out tells (LastTurned v at bd last is) =
     subst (λ (o : Out Coordinator). Goes g c body o) (sym is)
-    (round_goes g c c body false (c.round + 1) refl (turned_last g c body v at bd last))
+    (round_goes g c c body false (c.count.number + 1) refl (turned_last g c body v at bd last))
 outcome_goes g c from body out tells (LastShown v at bd last is) =
     subst (λ (o : Out Coordinator). Goes g c body o) (sym is)
-    (round_goes g c c body true (c.round + 1) refl (shown_last g c body v at bd last))
+    (round_goes g c c body true (c.count.number + 1) refl (shown_last g c body v at bd last))
 outcome_goes g c from body out tells (Finishes v at bd last none is) =
     let empty : tally (on (token g)) (advanced c ∷ []) ≡ within g Idle c.nodes =
     omega (arith, advanced_apart (version c.update) g, calm_within g Idle c.nodes tt) in
@@ -374,12 +375,12 @@ outcome_goes g c from body out tells (GoesOn v at bd last some is) =
     (begins g c (in_next Turning (c.waits - 1) c) body (advanced c ∷ turns) (swept_last g c body v at bd last) refl filled)
 outcome_goes g c from body out tells (Resumes reads at bd is) =
     subst (λ (o : Out Coordinator). Goes g c body o) (sym is)
-    (round_goes g c c body reads (c.round + 1) refl
+    (round_goes g c c body reads (c.count.number + 1) refl
     (calm_last g c body (Paused reads) at tt (apart_by body Nudge bd nudge_apart g)))
 outcome_goes g c from body out tells (KeepsDone reads v k row at bd here is) =
     subst (λ (o : Out Coordinator). Goes g c body o) (sym is)
     (stays g c (keep_done from row c).state body (keep_done from row c).sent refl refl
-    (keep_done_none (token g) from row c (ask_apart c.current.version c.current.number g))
+    (keep_done_none (token g) from row c (ask_apart c.count.current.version c.count.current.number g))
     (inl (apart_by body (DoneRow v k row) bd (done_apart v k row) g)))
 outcome_goes g c from body out tells (KeepsAsked reads v k row takes verdict is) =
     subst (λ (o : Out Coordinator). Goes g c body o) (sym is)
@@ -392,7 +393,7 @@ outcome_goes g c from body out tells (Agrees reads v k row takes verdict is) =
     (apart_by body (AskedRow v k row) takes.body_is (asked_apart v k row) g)))
 outcome_goes g c from body out tells (Recounts reads v k row takes verdict flag is) =
     subst (λ (o : Out Coordinator). Goes g c body o) (sym is)
-    (round_goes g c (asked_kept from row c) body reads (c.round + 1) refl
+    (round_goes g c (asked_kept from row c) body reads (c.count.number + 1) refl
     (calm_last g c body (Counting reads) takes.phase tt
     (apart_by body (AskedRow v k row) takes.body_is (asked_apart v k row) g)))
 outcome_goes g c from body out tells (Pauses reads v k row takes verdict flag is) =

@@ -41,4 +41,4 @@ pub record AdvancesAreKept (s : ScriptData) (past : List Entry) : Type 0 where
 
 -- rounds are two for each advancement of the script and one for each of its trees, at most
 abbrev pub RoundsAreFew : ScriptData → List Entry → Type 0
-RoundsAreFew s past = (coordinator_in s past).round ≤ 2 * advances_in s.rows + length s.trees
+RoundsAreFew s past = (coordinator_in s past).count.number ≤ 2 * advances_in s.rows + length s.trees

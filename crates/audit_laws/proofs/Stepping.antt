@@ -423,7 +423,7 @@ core_steps s p from (AskAsked v k) c needs g = record {
   acts = tt;
 }
 core_steps s p from (Order e what v) c needs g =
-    order_each (Steps s) s p from e what v c (record { gathers = g; sent = tt; acts = tt })
+    order_each (Steps s) s e what v c (record { gathers = g; sent = tt; acts = tt })
     (record {
       gathers = record { small = g.small; opened = g.opened; holds = g.holds; refusals = g.refusals };
       sent = (tt, tt);

@@ -25,7 +25,7 @@ ended_past s past valid run left = record {
   rounds = λ keeps. omega (
     arith,
     rounds_by_trees s past (lawful s valid keeps) run (all_apt s past valid run),
-    ap (λ (c : Coordinator). c.round) (coordinator_after s past),
+    ap (λ (c : Coordinator). c.count.number) (coordinator_after s past),
   );
   no_rounds = λ keeps still. no_rounds s past valid keeps run still;
 }

@@ -114,7 +114,7 @@ row_none s p from (Sweep v) c = refl
 row_none s p from (AskDone v k) c = refl
 row_none s p from (AskAsked v k) c = refl
 row_none s p from (Order e what v) c =
-    order_each (λ (o : Out Core). tally is_finish o.acts ≡ 0) s p from e what v c refl refl
+    order_each (λ (o : Out Core). tally is_finish o.acts ≡ 0) s e what v c refl refl
     (λ to. turned_none (nat_lt c.node.turns.update.0 v.0) v.0) (λ to new. refl) (λ to new. refl)
 row_none s p from (Ask e) c = ask_each (λ (o : Out Core). tally is_finish o.acts ≡ 0) s e c refl refl
 row_none s p from _ c = refl

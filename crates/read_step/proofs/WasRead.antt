@@ -17,9 +17,9 @@ use Rattle.tree_step.specs.declared.node.NodeParts.{NodeParts}
 use Rattle.tx_trees.specs.ScriptData.{ScriptData}
 use Rattle.tx_trees.specs.declared.parts.SubOp.{SubOp}
 use Rattle.tree_step.specs.Node.{Effect, Node, data_of, state_of}
-use Rattle.world_model.specs.Asked.{asked_ops, asked_version, tree_done, tree_part}
+use Rattle.world_model.specs.Asked.{asked_ops, asked_version, tree_part}
 use Rattle.world_model.specs.Done.{TreeOut}
-use Rattle.read_step.specs.Rows.{can_get, can_read, getting, read_if_made, read_part}
+use Rattle.read_step.specs.Rows.{can_get, can_read, getting, read_done, read_if_made, read_part}
 
 -- whether the operations may be made, by the version and the operations
 pub gettable : (s : ScriptData) (body : Body) (st : Node) (v : Version) (ops : List SubOp)
@@ -45,16 +45,16 @@ part_read s p from body st v ops e out at asked got done =
 pub was_read : (s : ScriptData) (p from : ℕ) (body : Body) (st : Node) (v : Version) (ops : List SubOp) (e : Effect)
     (out : Out Node)
     → v ≡ asked_version st.turns.read body → ops ≡ asked_ops s body → true ≡ can_get v ops st.items
-    → e ≡ getting v ops st.items → out ≡ tree_done s p from v false e body st
+    → e ≡ getting v ops st.items → out ≡ read_done s p from v e body st
     → out ≡ read_if_made s p st from body
 was_read s p from body st v ops e out at asked can got done =
     let may : can_read s st body ≡ true =
     sym (can ∙ ap (λ (os : List SubOp). can_get v os st.items) asked
     ∙ ap (λ (w : Version). can_get w (asked_ops s body) st.items) at) in
     rw may (done
-    ∙ ap (λ (x : Effect). tree_done s p from v false x body st) got
-    ∙ ap (λ (os : List SubOp). tree_done s p from v false (getting v os st.items) body st) asked
-    ∙ ap (λ (w : Version). tree_done s p from w false (getting w (asked_ops s body) st.items) body st) at)
+    ∙ ap (λ (x : Effect). read_done s p from v x body st) got
+    ∙ ap (λ (os : List SubOp). read_done s p from v (getting v os st.items) body st) asked
+    ∙ ap (λ (w : Version). read_done s p from w (getting w (asked_ops s body) st.items) body st) at)
 
 -- a row with other items
 abbrev with_items : Table → Out Node → Out Node
@@ -69,14 +69,14 @@ pending_none (x ∷ xs) = ap (λ (t : Table). replaced x.0 x.1 t) (pending_none 
 
 -- the row doesn't look at the items, it only passes on those of its effect
 passes_on : (s : ScriptData) (p from : ℕ) (v : Version) (notice : Notice) (body : Body) (none items : Table) (st : Node)
-    → with_items items (tree_done s p from v false (record { items = none; notice = notice }) body (with_table none st))
-    ≡ tree_done s p from v false (record { items = items; notice = notice }) body (with_table items st)
+    → with_items items (read_done s p from v (record { items = none; notice = notice }) body (with_table none st))
+    ≡ read_done s p from v (record { items = items; notice = notice }) body (with_table items st)
 passes_on s p from v notice (Root t) none items st = refl
 passes_on s p from v notice (SubLetter t k w) none items st = refl
 passes_on s p from v notice _ none items st = refl
 
 turns_stay : (s : ScriptData) (p from : ℕ) (v : Version) (e : Effect) (body : Body) (st : Node)
-    → (tree_done s p from v false e body st).state.turns ≡ st.turns
+    → (read_done s p from v e body st).state.turns ≡ st.turns
 turns_stay s p from v e (Root t) st = refl
 turns_stay s p from v e (SubLetter t k w) st = refl
 turns_stay s p from v e _ st = refl
@@ -85,15 +85,15 @@ turns_stay s p from v e _ st = refl
 pub read_apart : (s : ScriptData) (p from : ℕ) (v : Version) (body : Body) (turns : Turns) (items : Table)
     (counters : CounterRows) (homes : HomesData) (staged : Table) (notice : Notice)
     (after : NodeParts) (out : StepOut)
-    → made (data_of after) out ≡ tree_done s p from v false (record { items = pending staged []; notice = notice })
+    → made (data_of after) out ≡ read_done s p from v (record { items = pending staged []; notice = notice })
     body (data_of (state_of turns [] counters homes))
     → made (data_of (state_of turns items after.counters after.homes)) out
-    ≡ tree_done s p from v false (record { items = items; notice = notice }) body
+    ≡ read_done s p from v (record { items = items; notice = notice }) body
     (data_of (state_of turns items counters homes))
 read_apart s p from v body turns items counters homes staged notice after out row =
-    let none : made (data_of after) out ≡ tree_done s p from v false (record { items = []; notice = notice }) body
+    let none : made (data_of after) out ≡ read_done s p from v (record { items = []; notice = notice }) body
     (data_of (state_of turns [] counters homes)) =
-    row ∙ ap (λ (t : Table). tree_done s p from v false (record { items = t; notice = notice }) body
+    row ∙ ap (λ (t : Table). read_done s p from v (record { items = t; notice = notice }) body
     (data_of (state_of turns [] counters homes))) (pending_none staged) in
     let same : after.turns ≡ turns = ap (λ (o : Out Node). o.state.turns) none
     ∙ turns_stay s p from v (record { items = []; notice = notice }) body
@@ -108,7 +108,7 @@ pub read_face : (s : ScriptData) (p from : ℕ) (body : Body) (turns : Turns) (i
     (staged : Table) (notice : Notice) (after : NodeParts) (r : Result Step NoMemory)
     → v ≡ asked_version turns.read body → ops ≡ asked_ops s body → true ≡ can_get v ops items
     → record { items = pending staged items; notice = notice } ≡ getting v ops items
-    → IfOk r (λ step. made (data_of after) step.given ≡ tree_done s p from v false
+    → IfOk r (λ step. made (data_of after) step.given ≡ read_done s p from v
     (record { items = pending staged []; notice = notice }) body (data_of (state_of turns [] counters homes)))
     → IfOk r (λ step. made (data_of (state_of turns items after.counters after.homes)) step.given ≡ read_if_made s p
     (data_of (state_of turns items counters homes)) from body)

@@ -2,11 +2,10 @@ ghost use Rattle.std.specs.Prelude.{◌≡◌, false, IfOk, IsTrue, OnErr, OnOk}
 ghost use Rattle.item_versions.specs.Table.{pending};
 ghost use Rattle.item_versions.specs.Window.{in_window, IsWindowedTable};
 ghost use Rattle.letter_types.specs.Steps.{made};
-ghost use Rattle.world_model.specs.Asked.{tree_done};
 ghost use Rattle.tree_step.specs.Changes.{IsDoneTwice};
 ghost use Rattle.tree_step.specs.Due.{is_due};
 ghost use Rattle.tree_step.specs.Node.{data_of, effect_on, IsInWindow, IsOf, IsReady, state_of};
-ghost use Rattle.read_step.specs.Rows.{read_if_made};
+ghost use Rattle.read_step.specs.Rows.{read_done, read_if_made};
 
 use crate::steps::get_all;
 use item_versions::ItemTable;
@@ -35,7 +34,7 @@ fn step_read(
     requires due { IsTrue (is_due script.now letter.now.to.0 (data_of node.old) letter.now.from.0 letter.now.body) }
     requires near { IsTrue (in_window node.old.turns.low.0 version.0) }
     requires fits { IsWindowedTable node.old.turns.low.0 (pending effect.staged node.old.items) }
-    ensures { IsDoneTwice (tree_done script.now letter.now.to.0 letter.now.from.0 version false
+    ensures { IsDoneTwice (read_done script.now letter.now.to.0 letter.now.from.0 version
         (effect_on node.old.items effect) letter.now.body (data_of node.old)) node.old node.new result }
 {
     let within = InVersion {

@@ -368,7 +368,7 @@ aparts_kept s past valid keeps run =
     let c = coordinator_in s past in
     let now = small s past (lawful s valid keeps) run (all_apt s past valid run) in
     let most : asked_for s past ≤ advances_in s.rows = asked_most (client_in s past).next s.rows in
-    apart_most s.nodes (advances_in s.rows) (length s.trees) c.update (running c.phase) (stages c.phase) c.round (asked_for s past) (taken_in is_apart past)
+    apart_most s.nodes (advances_in s.rows) (length s.trees) c.update (running c.phase) (stages c.phase) c.count.number (asked_for s past) (taken_in is_apart past)
     (omega (arith, paid s past valid keeps run)) (omega (arith, now.asked, most)) most (stages_most c.phase)
     (rounds_by_trees s past (lawful s valid keeps) run (all_apt s past valid run))
 

@@ -17,7 +17,7 @@ use Rattle.tx_trees.specs.declared.parts.ScriptRow.{ScriptRow}
 use Rattle.tx_trees.specs.declared.parts.ScriptRow.TheVariants.{Tree as TreeRow, Advance as AdvanceRow, Settle as SettleRow, Lose as LoseRow}
 use Rattle.world_model.specs.Node.{Node}
 use Rattle.world_model.specs.Client.{Client, nudge, rows_letters, submit, submitted, with_answer, with_end, advances_sent}
-use Rattle.world_model.specs.Coordinator.{Coordinator, coordinator_row, counted_version, end_count, keep_done, to_nodes, version}
+use Rattle.world_model.specs.Coordinator.{Coordinator, coordinator_row, counted_version, end_count, to_nodes, version}
 use Rattle.world_model.specs.declared.phase.Phase.{Phase}
 use Rattle.world_model.specs.declared.phase.Phase.TheVariants.{Idle, Turning, Counting, Paused, Showing, Sweeping}
 use Rattle.world_model.specs.Counts.{tally}
@@ -31,7 +31,7 @@ use Rattle.world_model.proofs.Sends.{advance_each, on}
 use Rattle.advance_laws.specs.Advances.{asked_for}
 use Rattle.advance_laws.specs.Phases.{count_in_flight}
 use Rattle.advance_laws.proofs.Letters.{NoTrees, all_sent_none, none_of_trees}
-use Rattle.advance_laws.proofs.Outcomes.{Outcome, Rests, Queues, Flags, Turns, Acks, LastTurned, LastShown, Finishes, GoesOn, Resumes, KeepsDone, KeepsAsked, Agrees, Recounts, Pauses, asked_kept, round_begun}
+use Rattle.advance_laws.proofs.Outcomes.{Outcome, Rests, Queues, Flags, Turns, Acks, LastTurned, LastShown, Finishes, GoesOn, Resumes, KeepsDone, KeepsAsked, Agrees, Recounts, Pauses, asked_kept, round_begun, keep_done}
 use Rattle.advance_laws.proofs.Progress.{Begins, Coordinates, Ends, Hears, Obeys, Progress, Works, are_wakes, progress}
 use Rattle.advance_laws.proofs.Small.{outcome_in}
 use Rattle.tree_laws.proofs.Entries.{taken_in}
@@ -81,11 +81,11 @@ unasked n Idle dones = 0
 unasked n _ dones = 0
 
 abbrev pub pend : ℕ → Coordinator → ℕ
-pend n c = unasked n c.phase c.current.dones
+pend n c = unasked n c.phase c.count.current.dones
 
 -- what the coordinator has begun, in entries
 abbrev pub spent : ℕ → Coordinator → ℕ
-spent n c = c.update * (6 * n + 1) + 2 * n * stages c.phase + 4 * n * c.round
+spent n c = c.update * (6 * n + 1) + 2 * n * stages c.phase + 4 * n * c.count.number
 
 -- what it sends is what it begins
 abbrev Pays : ℕ → Coordinator → Out Coordinator → Type 0
@@ -104,10 +104,10 @@ unasked_all n Sweeping dones all = refl
 
 -- a round begins where no question is pending
 pays_begun : (n : ℕ) (reads : Bool) (c d : Coordinator) → 1 ≤ n → d.nodes ≡ n → d.update ≡ c.update → pend n c ≡ 0 → stages c.phase ≡ stages (Counting reads)
-    → Pays n c (round_begun reads (c.round + 1) d)
+    → Pays n c (round_begun reads (c.count.number + 1) d)
 pays_begun n reads c d some nodes update none stage =
-    let sent : tally (on price) (to_nodes d.nodes (AskDone (counted_version reads d) (c.round + 1))) ≡ 2 * n =
-    to_nodes_price d.nodes (AskDone (counted_version reads d) (c.round + 1)) refl ∙ ap (λ (m : ℕ). 2 * m) nodes in
+    let sent : tally (on price) (to_nodes d.nodes (AskDone (counted_version reads d) (c.count.number + 1))) ≡ 2 * n =
+    to_nodes_price d.nodes (AskDone (counted_version reads d) (c.count.number + 1)) refl ∙ ap (λ (m : ℕ). 2 * m) nodes in
     let new = ap (λ (b : Bool). if b then 0 else 2 * n) (none_in d.nodes (omega (arith, some, nodes))) in
     let same : d.update * (6 * n + 1) ≡ c.update * (6 * n + 1) = ap (λ (u : ℕ). u * (6 * n + 1)) update in
     let at : 2 * n * stages c.phase ≡ 2 * n * stages (Counting reads) = ap (λ (k : ℕ). 2 * n * k) stage in
@@ -116,33 +116,33 @@ pays_begun n reads c d some nodes update none stage =
 stage_at : (n : ℕ) (c : Coordinator) (phase : Phase) → c.phase ≡ phase → 2 * n * stages c.phase ≡ 2 * n * stages phase
 stage_at n c phase at = ap (λ (p : Phase). 2 * n * stages p) at
 
-pend_at : (n : ℕ) (c : Coordinator) (phase : Phase) → c.phase ≡ phase → pend n c ≡ unasked n phase c.current.dones
-pend_at n c phase at = ap (λ (p : Phase). unasked n p c.current.dones) at
+pend_at : (n : ℕ) (c : Coordinator) (phase : Phase) → c.phase ≡ phase → pend n c ≡ unasked n phase c.count.current.dones
+pend_at n c phase at = ap (λ (p : Phase). unasked n p c.count.current.dones) at
 
-pays_ends : (n : ℕ) (reads : Bool) (c d : Coordinator) → d.nodes ≡ n → d.update ≡ c.update → d.round ≡ c.round → c.phase ≡ Counting reads
+pays_ends : (n : ℕ) (reads : Bool) (c d : Coordinator) → d.nodes ≡ n → d.update ≡ c.update → d.count.number ≡ c.count.number → c.phase ≡ Counting reads
     → pend n c ≡ 0 → Pays n c (end_count reads d)
 pays_ends n false c d nodes update round at none =
     let sent : tally (on price) (to_nodes d.nodes (Show (version d.update))) ≡ 2 * n =
     to_nodes_price d.nodes (Show (version d.update)) refl ∙ ap (λ (m : ℕ). 2 * m) nodes in
     let same : d.update * (6 * n + 1) ≡ c.update * (6 * n + 1) = ap (λ (u : ℕ). u * (6 * n + 1)) update in
-    let rounds : 4 * n * d.round ≡ 4 * n * c.round = ap (λ (k : ℕ). 4 * n * k) round in
+    let rounds : 4 * n * d.count.number ≡ 4 * n * c.count.number = ap (λ (k : ℕ). 4 * n * k) round in
     omega (arith, sent, same, rounds, stage_at n c (Counting false) at, none)
 pays_ends n true c d nodes update round at none =
     let sent : tally (on price) (to_nodes d.nodes (Sweep (version d.update))) ≡ 2 * n =
     to_nodes_price d.nodes (Sweep (version d.update)) refl ∙ ap (λ (m : ℕ). 2 * m) nodes in
     let same : d.update * (6 * n + 1) ≡ c.update * (6 * n + 1) = ap (λ (u : ℕ). u * (6 * n + 1)) update in
-    let rounds : 4 * n * d.round ≡ 4 * n * c.round = ap (λ (k : ℕ). 4 * n * k) round in
+    let rounds : 4 * n * d.count.number ≡ 4 * n * c.count.number = ap (λ (k : ℕ). 4 * n * k) round in
     omega (arith, sent, same, rounds, stage_at n c (Counting true) at, none)
 
 pays_done : (n : ℕ) (reads : Bool) (from : ℕ) (row : List ℕ) (c : Coordinator) → c.nodes ≡ n → c.phase ≡ Counting reads → Pays n c (keep_done from row c)
 pays_done n reads from row c nodes at =
-    let new = all_in (set c.current.dones from (Some row)) in
-    let old = all_in c.current.dones in
-    let is : unasked n c.phase (set c.current.dones from (Some row)) ≡ (if new then 0 else 2 * n) =
-    ap (λ (p : Phase). unasked n p (set c.current.dones from (Some row))) at in
+    let new = all_in (set c.count.current.dones from (Some row)) in
+    let old = all_in c.count.current.dones in
+    let is : unasked n c.phase (set c.count.current.dones from (Some row)) ≡ (if new then 0 else 2 * n) =
+    ap (λ (p : Phase). unasked n p (set c.count.current.dones from (Some row))) at in
     let was : pend n c ≡ (if old then 0 else 2 * n) = pend_at n c (Counting reads) at in
-    let pays = done_pays n c.nodes new old (AskAsked c.current.version c.current.number) nodes refl
-    (λ all. put_all c.current.dones from row all) in
+    let pays = done_pays n c.nodes new old (AskAsked c.count.current.version c.count.current.number) nodes refl
+    (λ all. put_all c.count.current.dones from row all) in
     omega (arith, is, was, pays)
 
 -- the advancement ends
@@ -150,10 +150,10 @@ pays_next : (n u : ℕ) → (u + 1) * (6 * n + 1) ≡ u * (6 * n + 1) + 6 * n + 
 pays_next n u = omega arith
 
 calm_pend : (n : ℕ) (c : Coordinator) (phase : Phase) → c.phase ≡ phase → ((dones : NodeRows) → unasked n phase dones ≡ 0) → pend n c ≡ 0
-calm_pend n c phase at none = pend_at n c phase at ∙ none c.current.dones
+calm_pend n c phase at none = pend_at n c phase at ∙ none c.count.current.dones
 
-full_pend : (n : ℕ) (c : Coordinator) → all_in c.current.dones ≡ true → pend n c ≡ 0
-full_pend n c all = unasked_all n c.phase c.current.dones all
+full_pend : (n : ℕ) (c : Coordinator) → all_in c.count.current.dones ≡ true → pend n c ≡ 0
+full_pend n c all = unasked_all n c.phase c.count.current.dones all
 
 pays_out : (n : ℕ) (c : Coordinator) (from : ℕ) (body : Body) (out : Out Coordinator) → 1 ≤ n → c.nodes ≡ n → Outcome c from body out → Pays n c out
 pays_out n c from body out some nodes (Rests phase at ignored is) = pays_by n c out _ is (omega arith)

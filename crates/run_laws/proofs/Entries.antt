@@ -333,10 +333,10 @@ apart_by n a u x stage round up none is =
     omega (arith, one, two, is)
 
 aparts_taken : (s : ScriptData) (past : List Entry) → IsValid s → is_lossy s ≡ false → IsStepRun s past → in_flight s past ≡ []
-    → taken_in is_apart past ≡ advances_in s.rows * (2 + 6 * s.nodes) + 4 * s.nodes * (coordinator_in s past).round
+    → taken_in is_apart past ≡ advances_in s.rows * (2 + 6 * s.nodes) + 4 * s.nodes * (coordinator_in s past).count.number
 aparts_taken s past valid keeps run empty =
     let c = coordinator_in s past in
-    let calm = idle_pend s.nodes c.phase c.current.dones (idle s past valid keeps run empty) in
+    let calm = idle_pend s.nodes c.phase c.count.current.dones (idle s past valid keeps run empty) in
     let all : asked_for s past ≡ advances_in s.rows = ap advances_in (all_rows s past valid run empty) in
     let up : c.update ≡ advances_in s.rows + 1 =
     omega (
@@ -346,14 +346,14 @@ aparts_taken s past valid keeps run empty =
       (small s past (lawful s valid keeps) run (all_apt s past valid run)).ended,
       none_flies is_advanced s past empty,
     ) in
-    apart_by s.nodes (advances_in s.rows) c.update (taken_in is_apart past) (stages c.phase) c.round up calm.1
+    apart_by s.nodes (advances_in s.rows) c.update (taken_in is_apart past) (stages c.phase) c.count.number up calm.1
     (omega (arith, paid s past valid keeps run, none_flies price s past empty, calm.0, all))
 
 -- The law.
 pub entries_counted : (s : ScriptData) (past : List Entry) → IsValid s → is_lossy s ≡ false → has_strict s ≡ false → IsStepRun s past → in_flight s past ≡ []
     → length past ≡ entries_of s (rounds_in s (reverse past))
 entries_counted s past valid keeps plain run empty =
-    let rounds : rounds_in s (reverse past) ≡ (coordinator_in s past).round = ap (λ (c : Coordinator). c.round) (coordinator_after s past) in
+    let rounds : rounds_in s (reverse past) ≡ (coordinator_in s past).count.number = ap (λ (c : Coordinator). c.count.number) (coordinator_after s past) in
     let none : strict_entries s ≡ 0 = rw plain refl in
     rw rounds (omega (
       arith,

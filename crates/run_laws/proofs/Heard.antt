@@ -17,11 +17,12 @@ use Rattle.letter_types.specs.Steps.{Out}
 use Rattle.tx_trees.specs.ScriptData.{ScriptData}
 use Rattle.world_model.specs.AllApt.{AllApt}
 use Rattle.world_model.specs.Node.{Node}
-use Rattle.world_model.specs.Coordinator.{to_nodes, with_asked, with_done}
+use Rattle.world_model.specs.Coordinator.{to_nodes}
 use Rattle.world_model.specs.Counts.{tally, one_if}
 use Rattle.world_model.specs.Runs.{node_in, in_flight, MayFollow, IsStepRun, keeping_in}
 use Rattle.world_model.proofs.Bags.{tally-append, tally_step, sealed_tally}
 use Rattle.world_model.proofs.Nexts.{Order, Turns, Shows, Sweeps, TellsDone, TellsAsked}
+use Rattle.advance_laws.proofs.KeptRows.{with_asked, with_done}
 use Rattle.advance_laws.proofs.Counting.{Count, CountStep, Denies, Holds, IsCounting, IsNudged, InRound, Lasts, Leaves, NoDone, Refused, TakesDone, TakesRequests, Begins as BeginsRound, asks_after, none_in_round, paused_in_round, Premise}
 use Rattle.advance_laws.proofs.Progress.{Begins, Coordinates, Ends, Hears, Obeys, Progress, Works, Asked, Course, Heeds, Restarts, course}
 use Rattle.advance_laws.proofs.Silence.{below_or_at}

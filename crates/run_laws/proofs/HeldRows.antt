@@ -342,7 +342,7 @@ row_holds s zs p from x w (Sweep v) c ready now = collected_hold w v x c.node.it
 row_holds s zs p from x w (AskDone v k) c ready now = stay (holds_in w x c.node.items)
 row_holds s zs p from x w (AskAsked v k) c ready now = stay (holds_in w x c.node.items)
 row_holds s zs p from x w (Order e what v) c ready now =
-    order_each (λ (o : Out Core). o.state.node.turns.low.0 < w.0 → Holds s zs p x w c [] o.state.node.items) s p from e what v c
+    order_each (λ (o : Out Core). o.state.node.turns.low.0 < w.0 → Holds s zs p x w c [] o.state.node.items) s e what v c
     (λ low. stay (holds_in w x c.node.items)) (λ low. stay (holds_in w x c.node.items)) (λ to low. stay (holds_in w x c.node.items))
     (λ to new low. stay (holds_in w x c.node.items))
     (λ to new low. collected_hold w v x c.node.items low ∙ stay (holds_in w x c.node.items)) now

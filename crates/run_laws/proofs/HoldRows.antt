@@ -205,7 +205,7 @@ hold_comes s p from (Sweep v) c l hold has = Stood has (λ u w b eq. absurd (cc 
 hold_comes s p from (AskDone v k) c l hold has = Stood has (λ u w b eq. absurd (cc eq))
 hold_comes s p from (AskAsked v k) c l hold has = Stood has (λ u w b eq. absurd (cc eq))
 hold_comes s p from (Order e what v) c l hold has =
-    order_each (λ (o : Out Core). has_lock l o.state.locks ≡ true → HoldComes s (Order e what v) c o.state l) s p from e what v c
+    order_each (λ (o : Out Core). has_lock l o.state.locks ≡ true → HoldComes s (Order e what v) c o.state l) s e what v c
     (λ has. Stood has (λ u w b eq. absurd (cc eq))) (λ has. Stood has (λ u w b eq. absurd (cc eq)))
     (λ to has. Stood has (λ u w b eq. absurd (cc eq))) (λ to new has. Stood has (λ u w b eq. absurd (cc eq)))
     (λ to new has. Stood has (λ u w b eq. absurd (cc eq))) has

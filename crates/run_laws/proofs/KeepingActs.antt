@@ -111,7 +111,7 @@ row_plain s p from (Sweep v) c = (refl, tt)
 row_plain s p from (AskDone v k) c = tt
 row_plain s p from (AskAsked v k) c = tt
 row_plain s p from (Order e what v) c =
-    order_each (λ (o : Out Core). Plain o.acts) s p from e what v c tt tt (λ to. turned_plain v.0 (nat_lt c.node.turns.update.0 v.0))
+    order_each (λ (o : Out Core). Plain o.acts) s e what v c tt tt (λ to. turned_plain v.0 (nat_lt c.node.turns.update.0 v.0))
     (λ to new. (refl, tt)) (λ to new. (refl, tt))
 row_plain s p from (Ask e) c = ask_each (λ (o : Out Core). Plain o.acts) s e c tt tt
 row_plain s p from _ c = tt

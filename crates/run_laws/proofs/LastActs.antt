@@ -158,7 +158,7 @@ row_last s p from (Sweep v) c j a is so = none_there (acts.Swept v ∷ []) j a r
 row_last s p from (AskDone v k) c j a is so = none_there [] j a refl is so
 row_last s p from (AskAsked v k) c j a is so = none_there [] j a refl is so
 row_last s p from (Order e what v) c j a is so =
-    order_each (λ (o : Out Core). AreLast o.acts) s p from e what v c (λ i b. none_there [] i b refl) (λ i b. none_there [] i b refl)
+    order_each (λ (o : Out Core). AreLast o.acts) s e what v c (λ i b. none_there [] i b refl) (λ i b. none_there [] i b refl)
     (λ to i b. let raises : Bool = nat_lt c.node.turns.update.0 v.0 in none_there (turned_if raises v.0) i b (turned_none raises v.0))
     (λ to new i b. none_there (acts.Showed v ∷ []) i b refl) (λ to new i b. none_there (acts.Swept v ∷ []) i b refl) j a is so
 row_last s p from (Ask e) c j a is so =

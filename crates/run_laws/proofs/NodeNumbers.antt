@@ -152,7 +152,7 @@ row_leads s p from (Sweep v) c = record { update = refl; read = refl; low = refl
 row_leads s p from (AskDone v k) c = record { update = refl; read = refl; low = refl }
 row_leads s p from (AskAsked v k) c = record { update = refl; read = refl; low = refl }
 row_leads s p from (Order e what v) c =
-    order_each (LeadsOut c) s p from e what v c (record { update = refl; read = refl; low = refl })
+    order_each (LeadsOut c) s e what v c (record { update = refl; read = refl; low = refl })
     (record { update = refl; read = refl; low = refl }) (λ to. turn_leads v c.node.turns (nat_lt c.node.turns.update.0 v.0) refl)
     (λ to new. record { update = refl; read = refl; low = refl }) (λ to new. record { update = refl; read = refl; low = refl })
 row_leads s p from (Ask e) c =

@@ -182,7 +182,7 @@ row_opens s p from (Sweep v) c = (Plainly refl, tt)
 row_opens s p from (AskDone v k) c = tt
 row_opens s p from (AskAsked v k) c = tt
 row_opens s p from (Order e what v) c =
-    order_each (λ (o : Out Core). OpensWith s c (Order e what v) o.acts) s p from e what v c tt tt
+    order_each (λ (o : Out Core). OpensWith s c (Order e what v) o.acts) s e what v c tt tt
     (λ to. turn_opens s c (Order e what v) v (nat_lt c.node.turns.update.0 v.0) to refl) (λ to new. (to, tt)) (λ to new. (to, tt))
 row_opens s p from (Ask e) c = ask_each (λ (o : Out Core). OpensWith s c (Ask e) o.acts) s e c tt tt
 row_opens s p from _ c = tt

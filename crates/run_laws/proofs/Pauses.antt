@@ -24,7 +24,6 @@ use Rattle.world_model.specs.Kept.{kept_in, outstanding}
 use Rattle.world_model.specs.Node.{Node}
 use Rattle.world_model.specs.Strict.{CoreKeeping, core_row}
 use Rattle.world_model.specs.Client.{Client, nudge, with_answer, with_end}
-use Rattle.world_model.specs.Coordinator.{with_asked}
 use Rattle.world_model.specs.declared.phase.Phase.TheVariants.{Counting, Sweeping}
 use Rattle.world_model.specs.Runs.{client_in, coordinator_in, keeping_in, node_in, in_flight, MayFollow, IsStepRun}
 use Rattle.world_model.proofs.Cases.{Case, Coordinates as ByCoordinator, Does, Keeps, NodeDoes, NodeKeeps, Submits, case}
@@ -35,6 +34,7 @@ use Rattle.world_model.proofs.KeptThere.{IsCoreKeeping, OfKeeping, core_keeps}
 use Rattle.world_model.proofs.Nexts.{Order}
 use Rattle.world_model.proofs.Scripts.{SubAt, sub_there}
 use Rattle.world_model.specs.Meant.{IsMeant}
+use Rattle.advance_laws.proofs.KeptRows.{with_asked}
 use Rattle.advance_laws.proofs.Brought.{BringsTo, IsAsking, brought_meant, brought_outstanding, kept_ask}
 use Rattle.advance_laws.proofs.CoordinatorCounts.{coordinator_counts, count_in, counting_is}
 use Rattle.advance_laws.proofs.Counting.{AfterRound, Begins as BeginsRound, Count, CountStep, Denies, Holds, InRound, IsCounting, IsNudged, Lasts, Leaves, NoNudge, TakesDone, TakesRequests, TakesRow, count_asked, count_done, none_in_round, paused_in_round, Premise}

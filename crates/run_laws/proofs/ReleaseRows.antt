@@ -234,7 +234,7 @@ row_few s p from t q (AskDone v k) c = none_few s t q (core_row s p c from (AskD
 row_few s p from t q (AskAsked v k) c = none_few s t q (core_row s p c from (AskAsked v k)).sent refl
 row_few s p from t q (Order e what v) c =
     let told : ReleasesFew s t q (to_coordinator s (Obeyed e what v)) = none_few s t q (to_coordinator s (Obeyed e what v)) refl in
-    order_each (λ (o : Out Core). ReleasesFew s t q o.sent) s p from e what v c (omega arith) told (λ to. told) (λ to new. told)
+    order_each (λ (o : Out Core). ReleasesFew s t q o.sent) s e what v c (omega arith) told (λ to. told) (λ to new. told)
     (λ to new. told)
 row_few s p from t q (Ask e) c =
     let turns = c.node.turns in

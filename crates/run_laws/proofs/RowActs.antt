@@ -142,7 +142,7 @@ row_lasts s p from (Sweep v) c = refl
 row_lasts s p from (AskDone v k) c = refl
 row_lasts s p from (AskAsked v k) c = refl
 row_lasts s p from (Order e what v) c =
-    order_each (λ (o : Out Core). lasting o.acts ≡ []) s p from e what v c refl refl (λ to. by (nat_lt c.node.turns.update.0 v.0))
+    order_each (λ (o : Out Core). lasting o.acts ≡ []) s e what v c refl refl (λ to. by (nat_lt c.node.turns.update.0 v.0))
     (λ to new. refl) (λ to new. refl) where
       by : (raises : Bool) → lasting (turned_if raises v.0) ≡ []
       by true = refl

@@ -29,7 +29,7 @@ advanced = record small { rows = small.rows ++ Advance ∷ [] }
 pub all_taken : in_flight advanced (sample advanced 44) ≡ []
 all_taken = refl
 
-pub entries : length (sample advanced 44) ≡ entries_of advanced (coordinator_in advanced (sample advanced 44)).round
+pub entries : length (sample advanced 44) ≡ entries_of advanced (coordinator_in advanced (sample advanced 44)).count.number
 entries = refl
 
 pub finished : (client_in advanced (sample advanced 44)).finished ≡ true

@@ -183,7 +183,7 @@ row_sees s zs p from x u w (Sweep v) c ready le now seen =
 row_sees s zs p from x u w (AskDone v k) c ready le now seen = seen
 row_sees s zs p from x u w (AskAsked v k) c ready le now seen = seen
 row_sees s zs p from x u w (Order e what v) c ready le now seen =
-    order_each (λ (o : Out Core). o.state.node.turns.low.0 ≤ u.0 → Sees s zs p x u w [] o.state.node.items) s p from e what v c (λ now. seen)
+    order_each (λ (o : Out Core). o.state.node.turns.low.0 ≤ u.0 → Sees s zs p x u w [] o.state.node.items) s e what v c (λ now. seen)
     (λ now. seen) (λ to now. seen) (λ to new now. seen)
     (λ to new now.
     collected_shows v u x c.node.turns.low.0 c.node.items (near_from c.node.turns.low.0 c.node.items ready.near) now ∙ seen) now

@@ -266,7 +266,7 @@ row xs s p from (Sweep v) c all says = record { homes = all; sent = refl }
 row xs s p from (AskDone v k) c all says = record { homes = all; sent = refl }
 row xs s p from (AskAsked v k) c all says = record { homes = all; sent = refl }
 row xs s p from (Order e what v) c all says =
-    order_each (CoreRow xs) s p from e what v c (record { homes = all; sent = refl }) (record { homes = all; sent = refl })
+    order_each (CoreRow xs) s e what v c (record { homes = all; sent = refl }) (record { homes = all; sent = refl })
     (λ is. record { homes = all; sent = refl }) (λ is new. record { homes = all; sent = refl }) (λ is new. record { homes = all; sent = refl })
 row xs s p from (Ask e) c all says =
     ask_each (CoreRow xs) s e c (record { homes = all; sent = refl }) (record { homes = all; sent = refl })

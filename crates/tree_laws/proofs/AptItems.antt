@@ -133,7 +133,7 @@ core_changes s p from (Release t) c = Rests refl refl
 core_changes s p from (AskDone v k) c = Rests refl refl
 core_changes s p from (AskAsked v k) c = Rests refl refl
 core_changes s p from (Order e what v) c =
-    order_each (λ (o : Out Core). NodeChanges s p (Order e what v) c o.state.node) s p from e what v c (Rests refl refl) (Rests refl refl)
+    order_each (λ (o : Out Core). NodeChanges s p (Order e what v) c o.state.node) s e what v c (Rests refl refl) (Rests refl refl)
     (λ to. Raises v to refl refl) (λ to new. Shows v to refl refl) (λ to new. Collects v to refl refl)
 core_changes s p from (Ask e) c =
     ask_each (λ (o : Out Core). NodeChanges s p (Ask e) c o.state.node) s e c (Rests refl refl) (Rests refl refl)

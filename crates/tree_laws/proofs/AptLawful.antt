@@ -148,7 +148,7 @@ core_quiet s p from (Sweep v) c = refl
 core_quiet s p from (AskDone v k) c = refl
 core_quiet s p from (AskAsked v k) c = refl
 core_quiet s p from (Order e what v) c =
-    order_each (λ (o : Out Core). tally (on is_nudge) o.sent ≡ 0) s p from e what v c refl refl (λ to. refl) (λ to new. refl) (λ to new. refl)
+    order_each (λ (o : Out Core). tally (on is_nudge) o.sent ≡ 0) s e what v c refl refl (λ to. refl) (λ to new. refl) (λ to new. refl)
 core_quiet s p from (Ask e) c = ask_each (λ (o : Out Core). tally (on is_nudge) o.sent ≡ 0) s e c refl refl
 core_quiet s p from Go c = refl
 core_quiet s p from _ c = refl

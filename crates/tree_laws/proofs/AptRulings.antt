@@ -346,7 +346,7 @@ core_rules s p from (Sweep v) c = rules_none s c (Sweep v) _ (λ u its. absurd i
 core_rules s p from (AskDone v k) c = rules_none s c (AskDone v k) _ (λ u its. absurd its) (λ g of. refl) (λ f of. one_letter f _ of refl)
 core_rules s p from (AskAsked v k) c = rules_none s c (AskAsked v k) _ (λ u its. absurd its) (λ g of. refl) (λ f of. one_letter f _ of refl)
 core_rules s p from (Order e what v) c =
-    order_each (RowRules s c (Order e what v)) s p from e what v c (rules_none s c (Order e what v) _ (λ u its. absurd its) (λ g of. refl) (λ f of. refl))
+    order_each (RowRules s c (Order e what v)) s e what v c (rules_none s c (Order e what v) _ (λ u its. absurd its) (λ g of. refl) (λ f of. refl))
     (rules_none s c (Order e what v) _ (λ u its. absurd its) (λ g of. refl) (λ f of. one_letter f _ of refl))
     (λ is. rules_none s c (Order e what v) _ (λ u its. absurd its) (λ g of. turned_other g (nat_lt c.node.turns.update.0 v.0) v.0 of) (λ f of. one_letter f _ of refl))
     (λ is new. rules_none s c (Order e what v) _ (λ u its. absurd its) (λ g of. one_act g _ of refl) (λ f of. one_letter f _ of refl))

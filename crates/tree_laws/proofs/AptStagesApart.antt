@@ -194,7 +194,7 @@ core_placed s p from (Sweep v) c has = refl
 core_placed s p from (AskDone v k) c has = refl
 core_placed s p from (AskAsked v k) c has = refl
 core_placed s p from (Order e what v) c has =
-    order_each (λ (o : Out Core). tally (sent_off s) o.sent ≡ 0) s p from e what v c refl refl (λ is. refl) (λ is new. refl) (λ is new. refl)
+    order_each (λ (o : Out Core). tally (sent_off s) o.sent ≡ 0) s e what v c refl refl (λ is. refl) (λ is new. refl) (λ is new. refl)
 core_placed s p from (Ask e) c has = ask_each (λ (o : Out Core). tally (sent_off s) o.sent ≡ 0) s e c refl refl
 core_placed s p from Go c has = refl
 core_placed s p from _ c has = refl

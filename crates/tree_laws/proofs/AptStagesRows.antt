@@ -236,7 +236,7 @@ core_aside w s p from (Sweep v) c apart = record { home = refl; held = refl; rep
 core_aside w s p from (AskDone v k) c apart = record { home = refl; held = refl; replies = refl; decides = refl }
 core_aside w s p from (AskAsked v k) c apart = record { home = refl; held = refl; replies = refl; decides = refl }
 core_aside w s p from (Order e what v) c apart =
-    order_each (Aside w (Order e what v) c.node.homes c.holds) s p from e what v c (record { home = refl; held = refl; replies = refl; decides = refl })
+    order_each (Aside w (Order e what v) c.node.homes c.holds) s e what v c (record { home = refl; held = refl; replies = refl; decides = refl })
     (record { home = refl; held = refl; replies = refl; decides = refl }) (λ is. record { home = refl; held = refl; replies = refl; decides = refl })
     (λ is new. record { home = refl; held = refl; replies = refl; decides = refl }) (λ is new. record { home = refl; held = refl; replies = refl; decides = refl })
 core_aside w s p from (Ask e) c apart =

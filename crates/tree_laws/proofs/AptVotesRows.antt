@@ -244,7 +244,7 @@ core_votes w s p from (AskDone v k) c = rests s w c (AskDone v k) _ refl refl re
 core_votes w s p from (AskAsked v k) c = rests s w c (AskAsked v k) _ refl refl refl
 core_votes w s p from (Order e what v) c =
     let body : Body = Order e what v in
-    order_each (RowVotes s w c body) s p from e what v c (rests s w c body _ refl refl refl) (rests s w c body _ refl refl refl)
+    order_each (RowVotes s w c body) s e what v c (rests s w c body _ refl refl refl) (rests s w c body _ refl refl refl)
     (λ to. rests s w c body _ (turned_no w (nat_lt c.node.turns.update.0 v.0) v.0) refl refl) (λ to new. rests s w c body _ refl refl refl)
     (λ to new. rests s w c body _ refl refl refl)
 core_votes w s p from (Ask e) c =

@@ -126,7 +126,7 @@ row_here s p from (Sweep v) c named = (tt, tt)
 row_here s p from (AskDone v k) c named = tt
 row_here s p from (AskAsked v k) c named = tt
 row_here s p from (Order e what v) c named =
-    order_each (λ (o : Out Core). Here s p o.acts) s p from e what v c tt tt (λ is. turned s p v.0 (nat_lt c.node.turns.update.0 v.0))
+    order_each (λ (o : Out Core). Here s p o.acts) s e what v c tt tt (λ is. turned s p v.0 (nat_lt c.node.turns.update.0 v.0))
     (λ is new. (tt, tt)) (λ is new. (tt, tt))
 row_here s p from (Ask e) c named = ask_each (λ (o : Out Core). Here s p o.acts) s e c tt tt
 row_here s p from _ c named = tt

@@ -210,7 +210,7 @@ row_follows s p from (Sweep v) c strict can = refl
 row_follows s p from (AskDone v k) c strict can = refl
 row_follows s p from (AskAsked v k) c strict can = refl
 row_follows s p from (Order e what v) c strict can =
-    order_each (Follows s c) s p from e what v c refl refl (λ is. sym (after_turn s c.locks (nat_lt c.node.turns.update.0 v.0) v.0))
+    order_each (Follows s c) s e what v c refl refl (λ is. sym (after_turn s c.locks (nat_lt c.node.turns.update.0 v.0) v.0))
     (λ is new. refl) (λ is new. refl)
 row_follows s p from (Ask e) c strict can = ask_each (Follows s c) s e c refl refl
 row_follows s p from _ c strict can = refl

@@ -194,7 +194,7 @@ row_comes s p from (AskDone v k) c = stood s c (AskDone v k) _ refl (λ t gone. 
 row_comes s p from (AskAsked v k) c = stood s c (AskAsked v k) _ refl (λ t gone. gone)
 row_comes s p from (Order e what v) c =
     let same = λ (d : Core) (locks : d.locks ≡ c.locks). stood s c (Order e what v) d locks (λ t gone. gone) in
-    order_each (λ (o : Out Core). Comes s c (Order e what v) o.state) s p from e what v c (same _ refl) (same _ refl) (λ is. same _ refl)
+    order_each (λ (o : Out Core). Comes s c (Order e what v) o.state) s e what v c (same _ refl) (same _ refl) (λ is. same _ refl)
     (λ is new. same _ refl) (λ is new. same _ refl)
 row_comes s p from (Ask e) c =
     let same = λ (d : Core) (locks : d.locks ≡ c.locks). stood s c (Ask e) d locks (λ t gone. gone) in
@@ -257,7 +257,7 @@ row_stays s p from (Sweep v) c = stays c (Sweep v) _ refl
 row_stays s p from (AskDone v k) c = stays c (AskDone v k) _ refl
 row_stays s p from (AskAsked v k) c = stays c (AskAsked v k) _ refl
 row_stays s p from (Order e what v) c =
-    order_each (λ (o : Out Core). Stays c (Order e what v) o.state) s p from e what v c (stays c (Order e what v) _ refl)
+    order_each (λ (o : Out Core). Stays c (Order e what v) o.state) s e what v c (stays c (Order e what v) _ refl)
     (stays c (Order e what v) _ refl) (λ is. stays c (Order e what v) _ refl) (λ is new. stays c (Order e what v) _ refl)
     (λ is new. stays c (Order e what v) _ refl)
 row_stays s p from (Ask e) c =

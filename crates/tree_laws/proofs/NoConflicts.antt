@@ -179,7 +179,7 @@ row_apart s p from (Sweep v) c old is = old
 row_apart s p from (AskDone v k) c old is = old
 row_apart s p from (AskAsked v k) c old is = old
 row_apart s p from (Order e what v) c old is =
-    order_each (λ (o : Out Core). HaveNoConflict o.state.locks) s p from e what v c old old (λ turn. old) (λ show new. old) (λ sweep new. old)
+    order_each (λ (o : Out Core). HaveNoConflict o.state.locks) s e what v c old old (λ turn. old) (λ show new. old) (λ sweep new. old)
 row_apart s p from (Ask e) c old is = ask_each (λ (o : Out Core). HaveNoConflict o.state.locks) s e c old old
 row_apart s p from _ c old is = old
 

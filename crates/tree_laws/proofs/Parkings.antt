@@ -136,7 +136,7 @@ row_parks s p from (Sweep v) c = refl
 row_parks s p from (AskDone v k) c = refl
 row_parks s p from (AskAsked v k) c = refl
 row_parks s p from (Order e what v) c =
-    order_each (λ (o : Out Core). parkings o.acts ≡ []) s p from e what v c refl refl
+    order_each (λ (o : Out Core). parkings o.acts ≡ []) s e what v c refl refl
     (λ is. raise_parks (nat_lt c.node.turns.update.0 v.0) v.0) (λ is new. refl) (λ is new. refl)
 row_parks s p from (Ask e) c = ask_each (λ (o : Out Core). parkings o.acts ≡ []) s e c refl refl
 row_parks s p from _ c = refl

@@ -284,7 +284,7 @@ core_works s p from (Sweep v) c lt named = rests s c.node.turns.update (Sweep v)
 core_works s p from (AskDone v k) c lt named = rests s c.node.turns.update (AskDone v k) _ _ refl (λ f of. one_letter f _ of refl) (λ g of. refl)
 core_works s p from (AskAsked v k) c lt named = rests s c.node.turns.update (AskAsked v k) _ _ refl (λ f of. one_letter f _ of refl) (λ g of. refl)
 core_works s p from (Order e what v) c lt named =
-    order_each (CoreWorks s c.node.turns.update (Order e what v)) s p from e what v c
+    order_each (CoreWorks s c.node.turns.update (Order e what v)) s e what v c
     (rests s c.node.turns.update (Order e what v) _ _ refl (λ f of. refl) (λ g of. refl))
     (rests s c.node.turns.update (Order e what v) _ _ refl (λ f of. one_letter f _ of refl) (λ g of. refl))
     (λ is. rests s c.node.turns.update (Order e what v) _ _ refl (λ f of. one_letter f _ of refl) (λ g of. turned_none g (nat_lt c.node.turns.update.0 v.0) v.0 of))

@@ -14,7 +14,7 @@ use Rattle.world_model.specs.Tables.{coordinator_table}
 
 -- the rounds that the coordinator has begun in a history
 abbrev pub rounds_in : ScriptData → List Entry → ℕ
-rounds_in s h = (after coordinator_table (start_coordinator s.nodes) (own s.nodes h)).round
+rounds_in s h = (after coordinator_table (start_coordinator s.nodes) (own s.nodes h)).count.number
 
 -- the entries of a run to its end, with so many rounds: one takes Go; for each tree one does its root, one hears its
 -- answer and one hears the nudge; for each further subtransaction one does it and one takes down its notice; for each

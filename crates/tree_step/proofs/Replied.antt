@@ -8,9 +8,9 @@ use Rattle.letter_types.specs.declared.entries.Outgoing.{Outgoing}
 use Rattle.pair_counters.specs.Counts.{Counts}
 use Rattle.pair_counters.specs.Rows.{counts_of}
 use Rattle.tx_trees.specs.ScriptData.{ScriptData, client_of}
-use Rattle.world_model.specs.Done.{TreeOut, counted_root, counted_sub, raised_if, replied}
+use Rattle.world_model.specs.Done.{TreeOut, counted_root, counted_sub, raised_if}
 use Rattle.world_model.specs.Notices.{reply_letters}
-use Rattle.tree_step.specs.Changes.{after_change, home_after, IsNodeStepOf, IsReplied, IsTreePartOf, MayChange, MayCount, MayDo, SendsRequests}
+use Rattle.tree_step.specs.Changes.{after_change, home_after, IsNodeStepOf, IsReplied, IsTreePartOf, MayChange, MayCount, MayDo, SendsRequests, replied}
 use Rattle.tree_step.specs.Node.{Node, data_of}
 use Rattle.tree_step.specs.inside.Sent.{MOST_SENT}
 use Rattle.tree_step.specs.declared.change.Change.{Change}

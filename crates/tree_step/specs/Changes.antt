@@ -1,5 +1,5 @@
 -- How a node changes in a step that was prepared, and when it may.
-use Rattle.std.specs.Prelude.{◌≡◌, ◌<◌, ◌≤◌, ◌+◌, ◌&&◌, ⊤, if◌then◌else◌, List, [], length, take, nat_le, All, IfOk, IsTrue, IsSome, None, OnErr, OnOk, Result}
+use Rattle.std.specs.Prelude.{◌≡◌, ◌<◌, ◌≤◌, ◌+◌, ◌&&◌, ⊤, if◌then◌else◌, List, [], ◌++◌, length, take, nat_le, All, IfOk, IsTrue, IsSome, None, OnErr, OnOk, Result}
 use Rattle.tv_base.specs.declared.numbers.NoMemory.{NoMemory}
 use Rattle.item_versions.specs.Table.{pending}
 use Rattle.item_versions.specs.Window.{in_window, IsWindowedTable}
@@ -13,7 +13,8 @@ use Rattle.pair_counters.specs.Counts.{Counts}
 use Rattle.pair_counters.specs.Rows.{counts_of}
 use Rattle.tree_home.specs.Homes.{OpenTrees, begun, forgotten, home_in, misses, missing_in, noted, open_trees}
 use Rattle.item_versions.specs.Collecting.{collected_all}
-use Rattle.world_model.specs.Done.{TreeOut, counted_root, counted_sub, raised_if, replied}
+use Rattle.world_model.specs.Done.{TreeOut, counted_root, counted_sub, raised_if}
+use Rattle.world_model.specs.Notices.{reply_letters}
 use Rattle.tree_step.specs.Node.{IsInWindow, Node, data_of}
 use Rattle.tree_step.specs.declared.node.NodeParts.{NodeParts}
 use Rattle.tree_step.specs.declared.counting.Counting.{Counting}
@@ -24,7 +25,7 @@ use Rattle.tree_step.specs.declared.change.Change.{Change}
 use Rattle.tree_step.specs.declared.change.Change.TheVariants.{Still, Tree, Turn, Show, Sweep}
 use Rattle.tree_step.specs.declared.change.Prepared.{Prepared}
 use Rattle.tree_step.specs.declared.change.TreePrepared.{TreePrepared}
-use Rattle.tx_trees.specs.ScriptData.{ScriptData}
+use Rattle.tx_trees.specs.ScriptData.{ScriptData, client_of}
 use Rattle.tree_step.specs.inside.Sent.{MOST_SENT}
 
 -- the open trees afterwards
@@ -136,6 +137,14 @@ pub record IsTreePartOf (o : TreeOut) (n : NodeParts) (p : TreePrepared) : Type 
   pub row : part_row p (data_of n) ≡ o
   pub may : MayDo p.prepared.change p.prepared.out.sent n
   pub counted : SendsRequests p.prepared.change p.prepared.out.sent
+
+-- a row with the answer to the client of script s behind what it sends
+abbrev pub replied : ScriptData → TreeOut → Out Node
+replied s o = record {
+  state = o.out.state;
+  sent = o.out.sent ++ reply_letters (client_of s) o.answered;
+  acts = o.out.acts;
+}
 
 -- the same step with the answer to the client of script s behind what it sends: at any node its row is that of the
 -- step with the answer, and a node that may do the one may do the other

@@ -15,7 +15,6 @@ use Rattle.tree_step.specs.declared.change.TreePrepared.{TreePrepared}
 use Rattle.tree_step.specs.declared.node.NodeParts.{NodeParts}
 use Rattle.tree_step.proofs.Dues.{asked_near}
 use Rattle.tree_step.proofs.Replied.{replied_step}
-use Rattle.world_model.proofs.Plain.{replied_part}
 use Rattle.world_model.specs.Asked.{asked_ops, asked_version, tree_part}
 use Rattle.world_model.specs.Done.{TreeOut}
 use Rattle.update_step.specs.Rows.{can_touch, can_update, touching, update_if_made, update_part}
@@ -59,11 +58,4 @@ pub update_made : (s : ScriptData) (p from : ℕ) (body : Body) (n : NodeParts) 
     → IsReplied s part prepared → IsNodeStepOf (update_if_made s p (data_of n) from body) n prepared
 update_made s p from body n part prepared can is with_answer =
     let may : can_update s (data_of n) body ≡ true = sym can in
-    let st = data_of n in
-    let v = asked_version st.turns.update body in
-    let step = replied_step s (update_part s p st from body) n part prepared is with_answer in
-    record {
-      row = rw may (step.row ∙ replied_part s p from v (nat_lt st.turns.update.0 v.0)
-          (touching v (asked_ops s body) st.items) body st);
-      may = step.may;
-    }
+    rw may (replied_step s (update_part s p (data_of n) from body) n part prepared is with_answer)

@@ -15,7 +15,7 @@ use Rattle.tree_home.specs.Homes.{OpenTrees}
 use Rattle.tx_trees.specs.ScriptData.{ScriptData}
 use Rattle.world_model.specs.Core.{Core, in_core}
 use Rattle.world_model.specs.Epochs.{ask_core, heard_in, order_core, plain_order, was_obeyed}
-use Rattle.world_model.specs.Apt.{row}
+use Rattle.world_model.specs.Advancing.{advancing_row}
 use Rattle.world_model.specs.Node.{Node}
 use Rattle.world_model.specs.Strict.{core_keeping, core_row}
 use Rattle.tree_step.specs.Changes.{IsNodeStepOf}
@@ -119,7 +119,7 @@ old_order s l n e what v q is ready before made =
     own_done s l n (Order e what v) (still c) q is
     (sym (ap (λ (b : Bool). b || can_obey what v n.parts.turns) old) ∙ order_apt s l.to.0 l.from.0 c e what v) refl
     (sym (ap (λ (b : Bool). if b then still c else heard_in s e (Obeyed e what v)
-    (if was_obeyed what v c.node then still c else in_core c (row s l.to.0 c.node l.from.0 (plain_order what v)))) old))
+    (if was_obeyed what v c.node then still c else in_core c (advancing_row s (plain_order what v) c.node))) old))
     (still_done s l.to.0 n q ready made)
 
 -- of a version that the node can't go by
@@ -140,32 +140,32 @@ obeyed_homes s e what v st = by (was_obeyed what v st) where
   by false = order_homes s what v (Obeyed e what v) st
 
 -- an order that is done, with the epoch and the answer of one that forgets
-done_heard : (s : ScriptData) (p from : ℕ) (c : Core) (e : ℕ) (what : What) (v : Version)
+done_heard : (s : ScriptData) (c : Core) (e : ℕ) (what : What) (v : Version)
     → hearing (Some e) c (ordered_row s what v (Obeyed e what v) c.node)
-    ≡ heard_in s e (Obeyed e what v) (in_core c (row s p c.node from (plain_order what v)))
-done_heard s p from c e whats.Turn v = refl
-done_heard s p from c e whats.Show v = refl
-done_heard s p from c e whats.Sweep v = refl
+    ≡ heard_in s e (Obeyed e what v) (in_core c (advancing_row s (plain_order what v) c.node))
+done_heard s c e whats.Turn v = refl
+done_heard s c e whats.Show v = refl
+done_heard s c e whats.Sweep v = refl
 
-obeyed_heard : (s : ScriptData) (p from : ℕ) (c : Core) (e : ℕ) (what : What) (v : Version)
+obeyed_heard : (s : ScriptData) (c : Core) (e : ℕ) (what : What) (v : Version)
     → hearing (Some e) c (obeyed_row s e what v c.node)
     ≡ heard_in s e (Obeyed e what v)
-    (if was_obeyed what v c.node then still c else in_core c (row s p c.node from (plain_order what v)))
-obeyed_heard s p from c e what v = by (was_obeyed what v c.node) where
+    (if was_obeyed what v c.node then still c else in_core c (advancing_row s (plain_order what v) c.node))
+obeyed_heard s c e what v = by (was_obeyed what v c.node) where
   by : (b : Bool)
       → hearing (Some e) c
       (if b then told_row s (Obeyed e what v) c.node else ordered_row s what v (Obeyed e what v) c.node)
       ≡ heard_in s e (Obeyed e what v)
-      (if b then still c else in_core c (row s p c.node from (plain_order what v)))
+      (if b then still c else in_core c (advancing_row s (plain_order what v) c.node))
   by true = refl
-  by false = done_heard s p from c e what v
+  by false = done_heard s c e what v
 
-obeyed_done : (s : ScriptData) (p from : ℕ) (c : Core) (e : ℕ) (what : What) (v : Version) → c.epoch ≤ e
-    → hearing (Some e) c (obeyed_row s e what v c.node) ≡ order_core s p from e what v c
-obeyed_done s p from c e what v later =
-    obeyed_heard s p from c e what v
+obeyed_done : (s : ScriptData) (c : Core) (e : ℕ) (what : What) (v : Version) → c.epoch ≤ e
+    → hearing (Some e) c (obeyed_row s e what v c.node) ≡ order_core s e what v c
+obeyed_done s c e what v later =
+    obeyed_heard s c e what v
     ∙ sym (ap (λ (b : Bool). if b then still c else heard_in s e (Obeyed e what v)
-    (if was_obeyed what v c.node then still c else in_core c (row s p c.node from (plain_order what v))))
+    (if was_obeyed what v c.node then still c else in_core c (advancing_row s (plain_order what v) c.node)))
     (le-ltb e c.epoch later))
 
 either_true : (a b : Bool) → b ≡ true → true ≡ (a || b)
@@ -181,7 +181,7 @@ order_plan s l n e what v p q is ready later can step made =
     own_done s l n (Order e what v) (hearing (Some e) (core_of n) row) q is
     (either_true (nat_lt e n.epoch) (can_obey what v n.parts.turns) can
     ∙ order_apt s l.to.0 l.from.0 (core_of n) e what v) refl
-    (obeyed_done s l.to.0 l.from.0 (core_of n) e what v later)
+    (obeyed_done s (core_of n) e what v later)
     (of_parts_step row n p (Some e) q made step (obeyed_homes s e what v (data_of n.parts)) ready.apart)
 
 -- A node is asked for its versions: in an epoch before its own

@@ -43,7 +43,7 @@ IsActorStepOf s l _ _ = ⊥
 -- the actor may do it
 abbrev pub ActorMayDo : ActorPrepared → ActorState → Type 0
 ActorMayDo (NodeStep p) (Node n) = MayDoKeeping p n
-ActorMayDo (CoordinatorStep p) (Coordinator c) = MayKeep p.change.row c.current
+ActorMayDo (CoordinatorStep p) (Coordinator c) = MayKeep p.change.row c.count.current
 ActorMayDo (RestartStep p) (Restarting c) = MayTakeUp p.change.taken c
 ActorMayDo (ClientStep p) (Client k) = ⊤
 ActorMayDo _ _ = ⊥

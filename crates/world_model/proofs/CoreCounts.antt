@@ -165,7 +165,7 @@ core_grew s p from (Sweep v) c valid = sweep_grew v.0 c.node.counts
 core_grew s p from (AskDone v k) c valid = stays MOST_COUNTED c.node.counts
 core_grew s p from (AskAsked v k) c valid = stays MOST_COUNTED c.node.counts
 core_grew s p from (Order e what v) c valid =
-    order_each (λ (o : Out Core). Grew c.node.counts o.state.node.counts) s p from e what v c (stays MOST_COUNTED c.node.counts)
+    order_each (λ (o : Out Core). Grew c.node.counts o.state.node.counts) s e what v c (stays MOST_COUNTED c.node.counts)
     (stays MOST_COUNTED c.node.counts) (λ is. stays MOST_COUNTED c.node.counts) (λ is new. stays MOST_COUNTED c.node.counts)
     (λ is new. sweep_grew v.0 c.node.counts)
 core_grew s p from (Ask e) c valid =

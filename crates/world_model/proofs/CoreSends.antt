@@ -160,7 +160,7 @@ core_for s p from (Sweep v) c valid = (omega arith, tt)
 core_for s p from (AskDone v k) c valid = (omega arith, tt)
 core_for s p from (AskAsked v k) c valid = (omega arith, tt)
 core_for s p from (Order e what v) c valid =
-    order_each (λ (o : Out Core). For (s.nodes + 2) o.sent) s p from e what v c tt (omega arith, tt) (λ is. (omega arith, tt))
+    order_each (λ (o : Out Core). For (s.nodes + 2) o.sent) s e what v c tt (omega arith, tt) (λ is. (omega arith, tt))
     (λ is new. (omega arith, tt)) (λ is new. (omega arith, tt))
 core_for s p from (Ask e) c valid = ask_each (λ (o : Out Core). For (s.nodes + 2) o.sent) s e c tt (omega arith, tt)
 core_for s p from _ c valid = tt

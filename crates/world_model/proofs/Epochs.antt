@@ -43,27 +43,27 @@ order_timely s c body what v (Anew e is takes) timely =
     subst (λ (test : Bool). test || is_timely s c.node (plain_order what v) ≡ true) new all
 
 -- a fact of what comes of an order, whichever it is
-pub order_each : (P : Out Core → Type 0) (s : ScriptData) (p from e : ℕ) (what : What) (v : Version) (c : Core) → P (still c)
+pub order_each : (P : Out Core → Type 0) (s : ScriptData) (e : ℕ) (what : What) (v : Version) (c : Core) → P (still c)
     → P (heard_in s e (Obeyed e what v) (still c))
     → (Orders c (Order e what v) whats.Turn v → P (heard_in s e (Obeyed e what v) (in_core c (turn_row s v c.node))))
     → (Orders c (Order e what v) whats.Show v → was_obeyed whats.Show v c.node ≡ false
     → P (heard_in s e (Obeyed e what v) (in_core c (show_row s v c.node))))
     → (Orders c (Order e what v) whats.Sweep v → was_obeyed whats.Sweep v c.node ≡ false
     → P (heard_in s e (Obeyed e what v) (in_core c (sweep_row s v c.node))))
-    → P (order_core s p from e what v c)
-order_each P s p from e whats.Turn v c left before turn show sweep =
+    → P (order_core s e what v c)
+order_each P s e whats.Turn v c left before turn show sweep =
     pick P (nat_lt e c.epoch) _ _ (λ is. left) (λ is. by (was_obeyed whats.Turn v c.node) refl is) where
       by : (test : Bool) → was_obeyed whats.Turn v c.node ≡ test → nat_lt e c.epoch ≡ false
           → P (heard_in s e (Obeyed e whats.Turn v) (if test then still c else in_core c (turn_row s v c.node)))
       by true is new = before
       by false is new = turn (Anew e refl (both_new _ _ new is))
-order_each P s p from e whats.Show v c left before turn show sweep =
+order_each P s e whats.Show v c left before turn show sweep =
     pick P (nat_lt e c.epoch) _ _ (λ is. left) (λ is. by (was_obeyed whats.Show v c.node) refl is) where
       by : (test : Bool) → was_obeyed whats.Show v c.node ≡ test → nat_lt e c.epoch ≡ false
           → P (heard_in s e (Obeyed e whats.Show v) (if test then still c else in_core c (show_row s v c.node)))
       by true is new = before
       by false is new = show (Anew e refl (both_new _ _ new is)) is
-order_each P s p from e whats.Sweep v c left before turn show sweep =
+order_each P s e whats.Sweep v c left before turn show sweep =
     pick P (nat_lt e c.epoch) _ _ (λ is. left) (λ is. by (was_obeyed whats.Sweep v c.node) refl is) where
       by : (test : Bool) → was_obeyed whats.Sweep v c.node ≡ test → nat_lt e c.epoch ≡ false
           → P (heard_in s e (Obeyed e whats.Sweep v) (if test then still c else in_core c (sweep_row s v c.node)))

@@ -117,7 +117,7 @@ core_own s p from (Decide t v commit) c = λ own. own
 core_own s p from (Decided t v) c = λ own. acked_own t c.holds own
 core_own s p from (Release t) c = λ own. own
 core_own s p from (Order e what v) c =
-    order_each (KeepsOwn c) s p from e what v c (λ own. own) (λ own. own) (λ is own. own) (λ is new own. own) (λ is new own. own)
+    order_each (KeepsOwn c) s e what v c (λ own. own) (λ own. own) (λ is own. own) (λ is new own. own) (λ is new own. own)
 core_own s p from (Ask e) c = ask_each (KeepsOwn c) s e c (λ own. own) (λ own. own)
 core_own s p from _ c = λ own. own
 

@@ -1,9 +1,11 @@
 -- What the coordinator sends, and what it never changes.
-use Rattle.std.proofs.Common.{◌≡◌, ℕ, zero, suc, ◌+◌, ◌<◌, ◌==◌, ◌&&◌, Bool, true, false, not, List, [], ◌∷◌, refl, ◌∙◌, arith, Option, Some, None}
+use Rattle.std.proofs.Common.{◌≡◌, ℕ, zero, suc, ◌+◌, ◌<◌, ◌==◌, Bool, true, false, List, [], ◌∷◌, refl, ◌∙◌, arith}
 use Rattle.std.specs.Prelude.{if◌then◌else◌}
 use Rattle.tv_base.specs.Outside.{one_more}
 use Rattle.tv_base.specs.declared.numbers.Version.{Version}
-use Rattle.phase_out.specs.Rounds.{all_in, is_of, verdict_of}
+use Rattle.phase_out.specs.declared.count.Counted.{Counted}
+use Rattle.phase_out.specs.declared.count.Counted.TheVariants.{Goes, AsksRequests, Agrees, Recounts, Pauses}
+use Rattle.phase_out.specs.Counts.{told_asked, told_done}
 use Rattle.letter_types.specs.declared.bodies.Body.{Body}
 use Rattle.letter_types.specs.declared.bodies.Body.TheVariants.{Nudge, Advance, Turn, Show, Sweep, Turned, Shown, Swept, AskDone, AskAsked, DoneRow, AskedRow, Advanced}
 use Rattle.letter_types.specs.declared.entries.Entry.{Entry}
@@ -12,7 +14,7 @@ use Rattle.letter_types.specs.Steps.{Out}
 use Rattle.script_parts.specs.ScriptData.{ScriptData}
 use Rattle.world_model.specs.declared.phase.Phase.{Phase}
 use Rattle.world_model.specs.declared.phase.Phase.TheVariants.{Idle, Turning, Counting, Paused, Showing, Sweeping}
-use Rattle.world_model.specs.Coordinator.{Coordinator, ask_requests, begin_round, counted_version, coordinator_row, end_advance, end_count, after_verdict, keep_done, row_of, to_nodes, version, with_asked, with_done}
+use Rattle.world_model.specs.Coordinator.{Coordinator, as_counted, begin_round, counted_version, coordinator_row, end_advance, end_count, row_of, to_nodes, version}
 use Rattle.world_model.specs.Counts.{Each}
 use Rattle.world_model.specs.Runs.{coordinator_in}
 use Rattle.world_model.specs.Tables.{coordinator_table}
@@ -42,7 +44,8 @@ SendsOf P out = Each (of P) out.sent
 
 round_each : (P : ℕ → Body → Type 0) (reads : Bool) (c : Coordinator) → OfOrders P c.nodes → SendsOf P (begin_round reads c)
 round_each P reads c h =
-    to_nodes_each P c.nodes (AskDone (counted_version reads c) (one_more c.round)) (λ to lt. h.ask_done to (counted_version reads c) (one_more c.round) lt)
+    to_nodes_each P c.nodes (AskDone (counted_version reads c) (one_more c.count.number))
+    (λ to lt. h.ask_done to (counted_version reads c) (one_more c.count.number) lt)
 
 ends_each : (P : ℕ → Body → Type 0) (reads : Bool) (c : Coordinator) → OfOrders P c.nodes → SendsOf P (end_count reads c)
 ends_each P false c h = to_nodes_each P c.nodes (Show (version c.update)) (λ to lt. h.show to (version c.update) lt)
@@ -52,15 +55,15 @@ pick_each : (P : ℕ → Body → Type 0) (b : Bool) (x y : Out Coordinator) →
 pick_each P true x y p q = p
 pick_each P false x y p q = q
 
-pick_list : (P : ℕ → Body → Type 0) (b : Bool) (xs : List Outgoing) → Each (of P) xs → Each (of P) (if b then xs else [])
-pick_list P true xs all = all
-pick_list P false xs all = tt
-
-judged_each : (P : ℕ → Body → Type 0) (reads : Bool) (verdict : Option Bool) (c : Coordinator) → OfOrders P c.nodes
-    → SendsOf P (after_verdict reads verdict c)
-judged_each P reads None c h = tt
-judged_each P reads (Some true) c h = ends_each P reads c h
-judged_each P reads (Some false) c h = pick_each P c.flag _ _ (round_each P reads c h) tt
+counts_each : (P : ℕ → Body → Type 0) (reads : Bool) (asks : Counted) (c : Coordinator) → OfOrders P c.nodes
+    → SendsOf P (as_counted reads asks c)
+counts_each P reads Goes c h = tt
+counts_each P reads AsksRequests c h =
+    let r = c.count.current in
+    to_nodes_each P c.nodes (AskAsked r.version r.number) (λ to lt. h.ask_asked to r.version r.number lt)
+counts_each P reads Agrees c h = ends_each P reads c h
+counts_each P reads Recounts c h = round_each P reads c h
+counts_each P reads Pauses c h = tt
 
 advance_each : (P : ℕ → Body → Type 0) (c : Coordinator) → OfOrders P c.nodes → SendsOf P (end_advance c)
 advance_each P c h =
@@ -69,20 +72,15 @@ advance_each P c h =
       to_nodes_each P c.nodes (Turn (version (one_more (one_more c.update)))) (λ to lt. h.turn to (version (one_more (one_more c.update))) lt),
     )
 
-done_each : (P : ℕ → Body → Type 0) (from : ℕ) (row : List ℕ) (c : Coordinator) → OfOrders P c.nodes → SendsOf P (keep_done from row c)
-done_each P from row c h =
-    pick_list P (all_in (with_done from row c.current).dones && not (all_in c.current.dones)) (ask_requests c)
-    (to_nodes_each P c.nodes (AskAsked c.current.version c.current.number) (λ to lt. h.ask_asked to c.current.version c.current.number lt))
-
 row_each : (P : ℕ → Body → Type 0) (from : ℕ) (c : Coordinator) → OfOrders P c.nodes → (body : Body) (phase : Phase)
     → SendsOf P (row_of body phase from c)
 row_each P from c h Advance Idle = to_nodes_each P c.nodes (Turn (version (one_more c.update))) (λ to lt. h.turn to (version (one_more c.update)) lt)
 row_each P from c h Advance _ = tt
 row_each P from c h (Turned v) Turning = pick_each P (one_more c.acks == c.nodes) _ _ (round_each P false c h) tt
-row_each P from c h (DoneRow v k row) (Counting reads) = pick_each P (is_of from v k row c.current) _ _ (done_each P from row c h) tt
+row_each P from c h (DoneRow v k row) (Counting reads) =
+    let o = told_done from v k row c.count in counts_each P reads o.counted (record c { count = o.state }) h
 row_each P from c h (AskedRow v k row) (Counting reads) =
-    pick_each P (is_of from v k row c.current && all_in c.current.dones) _ _
-    (judged_each P reads (verdict_of (with_asked from row c.current)) (record c { current = with_asked from row c.current }) h) tt
+    let o = told_asked from v k row c.count in counts_each P reads o.counted (record c { count = o.state }) h
 row_each P from c h Nudge (Counting reads) = tt
 row_each P from c h Nudge (Paused reads) = round_each P reads c h
 row_each P from c h (Shown v) Showing = pick_each P (one_more c.acks == c.nodes) _ _ (round_each P true c h) tt
@@ -110,19 +108,21 @@ ends_plain : (reads : Bool) (c d : Coordinator) → d.nodes ≡ c.nodes → Plai
 ends_plain false c d is = same c _ refl is
 ends_plain true c d is = same c _ refl is
 
-judged_plain : (reads : Bool) (verdict : Option Bool) (c d : Coordinator) → d.nodes ≡ c.nodes → Plain c (after_verdict reads verdict d)
-judged_plain reads None c d is = same c _ refl is
-judged_plain reads (Some true) c d is = ends_plain reads c d is
-judged_plain reads (Some false) c d is = pick_plain c d.flag _ _ (same c _ refl is) (same c _ refl is)
+counts_plain : (reads : Bool) (asks : Counted) (c d : Coordinator) → d.nodes ≡ c.nodes → Plain c (as_counted reads asks d)
+counts_plain reads Agrees c d is = ends_plain reads c d is
+counts_plain reads Goes c d is = same c _ refl is
+counts_plain reads AsksRequests c d is = same c _ refl is
+counts_plain reads Recounts c d is = same c _ refl is
+counts_plain reads Pauses c d is = same c _ refl is
 
 pub row_plain : (from : ℕ) (c : Coordinator) (body : Body) (phase : Phase) → Plain c (row_of body phase from c)
 row_plain from c Advance Idle = same c _ refl refl
 row_plain from c Advance _ = same c _ refl refl
 row_plain from c (Turned v) Turning = pick_plain c (one_more c.acks == c.nodes) _ _ (same c _ refl refl) (same c _ refl refl)
-row_plain from c (DoneRow v k row) (Counting reads) = pick_plain c (is_of from v k row c.current) _ _ (same c _ refl refl) (same c _ refl refl)
+row_plain from c (DoneRow v k row) (Counting reads) =
+    let o = told_done from v k row c.count in counts_plain reads o.counted c (record c { count = o.state }) refl
 row_plain from c (AskedRow v k row) (Counting reads) =
-    pick_plain c (is_of from v k row c.current && all_in c.current.dones) _ _
-    (judged_plain reads (verdict_of (with_asked from row c.current)) c (record c { current = with_asked from row c.current }) refl) (same c _ refl refl)
+    let o = told_asked from v k row c.count in counts_plain reads o.counted c (record c { count = o.state }) refl
 row_plain from c Nudge (Counting reads) = same c _ refl refl
 row_plain from c Nudge (Paused reads) = same c _ refl refl
 row_plain from c (Shown v) Showing = pick_plain c (one_more c.acks == c.nodes) _ _ (same c _ refl refl) (same c _ refl refl)

@@ -1,10 +1,8 @@
 -- In a script without strict trees no letter is kept.
-use Rattle.std.proofs.Common.{◌≡◌, ℕ, zero, suc, ◌==◌, Bool, true, false, not, List, [], ◌∷◌, ◌++◌, sym, ap, ◌∙◌, Option, Some, None, slice_get, arith, refl}
+use Rattle.std.proofs.Common.{◌≡◌, ℕ, zero, suc, ◌==◌, true, false, not, List, [], ◌∷◌, sym, ap, ◌∙◌, Option, Some, None, slice_get, arith, refl}
 use Rattle.std.proofs.lemmas.Bool.Decides.{nat_tests}
-use Rattle.std.proofs.lemmas.List.{append-nil}
 use Rattle.tv_base.specs.Sums.{one_if}
 use Rattle.tv_base.specs.declared.numbers.TreeNo.{TreeNo}
-use Rattle.tv_base.specs.declared.numbers.Version.{Version}
 use Rattle.letter_types.specs.declared.bodies.Body.{Body}
 use Rattle.letter_types.specs.declared.bodies.Body.TheVariants.{Root, Sub as SubLetter}
 use Rattle.script_parts.specs.Counts.{has_strict, strict_trees}
@@ -12,11 +10,8 @@ use Rattle.script_parts.specs.ScriptData.{ScriptData, is_strict}
 use Rattle.script_parts.specs.declared.parts.Tree.{Tree}
 use Rattle.script_parts.specs.declared.parts.TreeKind.{TreeKind}
 use Rattle.script_parts.specs.declared.parts.TreeKind.TheVariants.{Update, Read, Strict}
-use Rattle.world_model.specs.Asked.{tree_done, tree_part}
 use Rattle.world_model.specs.Core.{Core}
-use Rattle.world_model.specs.Done.{replied}
 use Rattle.world_model.specs.Named.{is_strict_at, tree_kind_at}
-use Rattle.world_model.specs.Node.{Effect, Node}
 use Rattle.world_model.specs.Strict.{core_keeping, kept_by_kind}
 
 -- No tree is strict.
@@ -40,15 +35,6 @@ no_strict s t plain = by (slice_get s.trees t) refl where
   by : (o : Option Tree) → slice_get s.trees t ≡ o → is_strict_at s t ≡ false
   by None at = rw (at, is_strict_at) refl
   by (Some u) at = rw (at, is_strict_at) (not_strict u.kind (no_tree s.trees t u (none_of (strict_trees s.trees) plain) at))
-
--- the answer of a tree's letter is what it was
-pub replied_part : (s : ScriptData) (p from : ℕ) (v : Version) (raises : Bool) (e : Effect) (body : Body) (st : Node)
-    → replied s (tree_part s p from v raises e body st) ≡ tree_done s p from v raises e body st
-replied_part s p from v raises e (Root t) st = refl
-replied_part s p from v raises e (SubLetter t k w) st =
-    let out = tree_done s p from v raises e (SubLetter t k w) st in
-    ap (λ sent. record { state = out.state; sent = sent; acts = out.acts }) (append-nil out.sent)
-replied_part s p from v raises e _ st = refl
 
 -- A subtransaction of an update tree wants no lock, so nothing is in its way.
 keeps_by_kind : (s : ScriptData) (c : Core) (t : TreeNo) (body : Body) (kind : Option TreeKind) → has_strict s ≡ false

@@ -254,7 +254,7 @@ core_each P s p from (Sweep v) c h = (h, tt)
 core_each P s p from (AskDone v k) c h = (h _ (length_numbers s.nodes (c.node.counts.done v.0)), tt)
 core_each P s p from (AskAsked v k) c h = (h _ (length_numbers s.nodes (c.node.counts.asked v.0)), tt)
 core_each P s p from (Order e what v) c h =
-    order_each (λ (o : Out Core). Each (of P) o.sent) s p from e what v c tt (h, tt) (λ is. (h, tt)) (λ is new. (h, tt)) (λ is new. (h, tt))
+    order_each (λ (o : Out Core). Each (of P) o.sent) s e what v c tt (h, tt) (λ is. (h, tt)) (λ is new. (h, tt)) (λ is new. (h, tt))
 core_each P s p from (Ask e) c h =
     ask_each (λ (o : Out Core). Each (of P) o.sent) s e c tt (h c.node.turns.update c.node.turns.read c.node.turns.low, tt)
 core_each P s p from _ c h = tt

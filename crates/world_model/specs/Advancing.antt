@@ -3,9 +3,9 @@ use Rattle.std.specs.Prelude.{ℕ, List, [], ◌∷◌, nat_lt}
 use Rattle.tv_base.specs.declared.numbers.Version.{Version}
 use Rattle.letter_types.specs.declared.acts.Act.TheVariants as acts
 use Rattle.letter_types.specs.declared.bodies.Body.{Body}
-use Rattle.letter_types.specs.declared.bodies.Body.TheVariants.{Turned, Shown, Swept, DoneRow, AskedRow}
+use Rattle.letter_types.specs.declared.bodies.Body.TheVariants.{Turn, Show, Sweep, AskDone, AskAsked, Turned, Shown, Swept, DoneRow, AskedRow}
 use Rattle.letter_types.specs.declared.entries.Outgoing.{Outgoing}
-use Rattle.letter_types.specs.Steps.{Out}
+use Rattle.letter_types.specs.Steps.{Out, still}
 use Rattle.node_versions.specs.Turns.{raised}
 use Rattle.pair_counters.specs.Numbers.{Numbers, from_version, numbers_of}
 use Rattle.item_versions.specs.Collecting.{collected_all}
@@ -64,3 +64,12 @@ asked_row s v k st = record {
   sent = to_coordinator s (AskedRow v k (numbers_of s.nodes (st.counts.asked v.0)));
   acts = [];
 }
+
+-- the row of a letter of the coordinator
+abbrev pub advancing_row : ScriptData → Body → Node → Out Node
+advancing_row s (Turn v) st = turn_row s v st
+advancing_row s (Show v) st = show_row s v st
+advancing_row s (Sweep v) st = sweep_row s v st
+advancing_row s (AskDone v k) st = done_row s v k st
+advancing_row s (AskAsked v k) st = asked_row s v k st
+advancing_row s _ st = still st

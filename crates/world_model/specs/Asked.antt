@@ -3,11 +3,11 @@ use Rattle.std.specs.Prelude.{ℕ, Bool, List, [], length, None}
 use Rattle.tv_base.specs.declared.numbers.Version.{Version}
 use Rattle.letter_types.specs.declared.bodies.Body.{Body}
 use Rattle.letter_types.specs.declared.bodies.Body.TheVariants.{Root, Sub as SubLetter}
-use Rattle.letter_types.specs.Steps.{Out, still}
+use Rattle.letter_types.specs.Steps.{still}
 use Rattle.script_parts.specs.ScriptData.{ScriptData, ops_of, subs_at}
 use Rattle.script_parts.specs.declared.parts.SubOp.{SubOp}
 use Rattle.world_model.specs.Node.{Effect, Node}
-use Rattle.world_model.specs.Done.{TreeOut, root_done, root_part, sub_done, with_open_tree}
+use Rattle.world_model.specs.Done.{TreeOut, root_part, sub_done, with_open_tree}
 
 -- the version that a letter asks for, where a root takes version v
 abbrev pub asked_version : Version → Body → Version
@@ -20,13 +20,8 @@ asked_ops s (Root t) = ops_of s t.0 0
 asked_ops s (SubLetter t k v) = ops_of s t.0 k.0
 asked_ops s _ = []
 
--- the row of a subtransaction in version v with this effect, which may raise the node's update version to v
-abbrev pub tree_done : ScriptData → ℕ → ℕ → Version → Bool → Effect → Body → Node → Out Node
-tree_done s p from v raises e (Root t) st = root_done s p t.0 v.0 e st
-tree_done s p from v raises e (SubLetter t k w) st = sub_done s from t.0 k.0 v.0 raises e st
-tree_done s p from v raises e _ st = still st
-
--- the same before the tree is answered
+-- the row of a subtransaction in version v with this effect, which may raise the node's update version to v, before the
+-- tree is answered: a root's tree is born at its home
 abbrev pub tree_part : ScriptData → ℕ → ℕ → Version → Bool → Effect → Body → Node → TreeOut
 tree_part s p from v raises e (Root t) st =
     root_part s p t.0 v.0 e (with_open_tree t.0 (length (subs_at s t.0)) v.0 st)

@@ -1,19 +1,19 @@
 -- A subtransaction is done: what its node keeps, sends and acts, whatever kind of tree it is of. What its operations
 -- make of the items, and the values of its gets, are given.
-use Rattle.std.specs.Prelude.{ℕ, Bool, if◌then◌else◌, List, [], ◌∷◌, ◌++◌, length, Option}
+use Rattle.std.specs.Prelude.{ℕ, Bool, if◌then◌else◌, List, [], ◌∷◌, ◌++◌, Option}
 use Rattle.node_versions.specs.declared.turns.Turns.{Turns}
 use Rattle.pair_counters.specs.Numbers.{Numbers, asked_one, asked_all, done_one}
 use Rattle.tree_home.specs.Homes.{Gets, begun}
 use Rattle.tree_home.specs.declared.homes.Answered.{Answered}
 use Rattle.letter_types.specs.declared.bodies.Notice.{Notice}
-use Rattle.script_parts.specs.ScriptData.{ScriptData, client_of, subs_at, home_of}
+use Rattle.script_parts.specs.ScriptData.{ScriptData, subs_at, home_of}
 use Rattle.letter_types.specs.declared.acts.Act.{Act}
 use Rattle.letter_types.specs.declared.acts.Act.TheVariants.{Born, Turned}
 use Rattle.letter_types.specs.declared.entries.Outgoing.{Outgoing}
 use Rattle.letter_types.specs.Steps.{Out}
 use Rattle.world_model.specs.Node.{Effect, Node}
 use Rattle.world_model.specs.Children.{sub_letters, done_letter, addressees}
-use Rattle.world_model.specs.Notices.{act_of, homes_noted, answer_noted, reply_letters, values_of}
+use Rattle.world_model.specs.Notices.{act_of, homes_noted, answer_noted, values_of}
 
 -- a root at node p: one request and one completion of p with itself, and a request to each child's node
 abbrev pub counted_root : ℕ → ℕ → List Outgoing → Numbers → Numbers
@@ -28,14 +28,6 @@ counted_sub v q letters n = done_one v q (asked_all v (addressees letters) n)
 pub record TreeOut : Type 0 where
   pub out : Out Node
   pub answered : Option Answered
-
--- the client is answered
-abbrev pub replied : ScriptData → TreeOut → Out Node
-replied s o = record {
-  state = o.out.state;
-  sent = o.out.sent ++ reply_letters (client_of s) o.answered;
-  acts = o.out.acts;
-}
 
 -- the root of tree t at node p in version v, with this effect, where its home has begun the tree: its children are
 -- asked for, and its home takes down its notice
@@ -53,16 +45,9 @@ root_part s p t v e st = record {
   answered = answer_noted (record { 0 = t }) (record { 0 = 0 }) (values_of e.notice) st.homes;
 }
 
-abbrev pub root_noted : ScriptData → ℕ → ℕ → ℕ → Effect → Node → Out Node
-root_noted s p t v e st = replied s (root_part s p t v e st)
-
 -- a tree of so many subtransactions has begun at its home
 abbrev pub with_open_tree : ℕ → ℕ → ℕ → Node → Node
 with_open_tree t n v st = record st { homes = begun (record { 0 = t }) n (record { 0 = v }) st.homes }
-
--- the same where the home doesn't have the tree: the tree is born
-abbrev pub root_done : ScriptData → ℕ → ℕ → ℕ → Effect → Node → Out Node
-root_done s p t v e st = root_noted s p t v e (with_open_tree t (length (subs_at s t)) v st)
 
 -- what subtransaction k of tree t sends in version v: a Sub to each child, and its notice to the home
 abbrev pub sub_sent : ScriptData → ℕ → ℕ → ℕ → Notice → List Outgoing
@@ -100,7 +85,3 @@ note_part q t k v values st = record {
   };
   answered = answer_noted (record { 0 = t }) (record { 0 = k }) values st.homes;
 }
-
--- the same, and the client is answered if no notice is missing any more
-abbrev pub note_done : ScriptData → ℕ → ℕ → ℕ → ℕ → Gets → Node → Out Node
-note_done s q t k v values st = replied s (note_part q t k v values st)

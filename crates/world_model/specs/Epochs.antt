@@ -8,12 +8,12 @@ use Rattle.letter_types.specs.declared.bodies.What.{What}
 use Rattle.letter_types.specs.declared.bodies.What.TheVariants as whats
 use Rattle.letter_types.specs.Steps.{Out, still}
 use Rattle.script_parts.specs.ScriptData.{ScriptData}
-use Rattle.world_model.specs.Advancing.{to_coordinator}
+use Rattle.world_model.specs.Advancing.{advancing_row, to_coordinator}
 use Rattle.world_model.specs.Core.{Core, in_core}
 use Rattle.script_parts.specs.Counts.{is_lossy}
 use Rattle.world_model.specs.Node.{Node}
 use Rattle.world_model.specs.Named.{is_timely}
-use Rattle.world_model.specs.Apt.{is_widely_timely, row}
+use Rattle.world_model.specs.Apt.{is_widely_timely}
 
 -- a letter of, or to, a coordinator that forgets; and one of, or to, one that remembers
 abbrev pub is_of_forgetting : Body → Bool
@@ -61,10 +61,10 @@ abbrev pub heard_in : ScriptData → ℕ → Body → Out Core → Out Core
 heard_in s e answer out = record { state = record out.state { epoch = e }; sent = to_coordinator s answer; acts = out.acts }
 
 -- an order is left where it is of an epoch before the node's, and else obeyed, if it wasn't before
-abbrev pub order_core : ScriptData → ℕ → ℕ → ℕ → What → Version → Core → Out Core
-order_core s p from e what v c =
+abbrev pub order_core : ScriptData → ℕ → What → Version → Core → Out Core
+order_core s e what v c =
     if nat_lt e c.epoch then still c
-    else heard_in s e (Obeyed e what v) (if was_obeyed what v c.node then still c else in_core c (row s p c.node from (plain_order what v)))
+    else heard_in s e (Obeyed e what v) (if was_obeyed what v c.node then still c else in_core c (advancing_row s (plain_order what v) c.node))
 
 -- a node that is asked tells its three versions, unless the question is of an epoch before its own
 abbrev pub ask_core : ScriptData → ℕ → Core → Out Core

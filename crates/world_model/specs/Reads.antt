@@ -1,5 +1,5 @@
--- What a node does with a subtransaction of a read tree.
-use Rattle.std.specs.Prelude.{ℕ, Bool, true, false, ◌&&◌, List, [], ◌∷◌, Option, Some, None, is_some}
+-- What the operations of a read tree show of a node's items.
+use Rattle.std.specs.Prelude.{Bool, true, ◌&&◌, List, [], ◌∷◌, Option, Some, None, is_some}
 use Rattle.tv_base.specs.declared.numbers.ItemNo.{ItemNo}
 use Rattle.tv_base.specs.declared.numbers.Version.{Version}
 use Rattle.commute_ops.specs.declared.value.Value.{Value}
@@ -12,9 +12,8 @@ use Rattle.script_parts.specs.declared.parts.Deed.{Deed}
 use Rattle.script_parts.specs.declared.parts.Deed.TheVariants.{Get}
 use Rattle.letter_types.specs.declared.bodies.Body.{Body}
 use Rattle.letter_types.specs.declared.bodies.Notice.TheVariants.{Did}
-use Rattle.letter_types.specs.Steps.{Out}
 use Rattle.world_model.specs.Node.{Effect, Node}
-use Rattle.world_model.specs.Asked.{asked_ops, asked_version, tree_done}
+use Rattle.world_model.specs.Asked.{asked_ops, asked_version}
 
 -- what is seen of an item in version v; nothing where it isn't there
 abbrev pub seen_in : Version → ItemNo → Table → Option Value
@@ -47,9 +46,3 @@ getting v ops items = record { items = items; notice = Did (gets v ops items) }
 -- the operations that a letter asks for may be made; a root takes the node's read version
 abbrev pub can_read : ScriptData → Node → Body → Bool
 can_read s st body = can_get (asked_version st.turns.read body) (asked_ops s body) st.items
-
--- the row of a subtransaction of a read tree, which raises nothing
-abbrev pub read_row : ScriptData → ℕ → Node → ℕ → Body → Out Node
-read_row s p st from body =
-    let v = asked_version st.turns.read body in
-    tree_done s p from v false (getting v (asked_ops s body) st.items) body st

@@ -32,7 +32,8 @@ use Rattle.script_parts.specs.declared.parts.TreeKind.TheVariants.{Update, Read,
 use Rattle.tree_home.specs.Homes.{misses}
 use Rattle.tree_home.specs.HeldAnswers.{HeldAnswers, acked, answer_when_acked, held_in, holding}
 use Rattle.tree_home.specs.declared.homes.Answered.{Answered}
-use Rattle.world_model.specs.Apt.{can_make, row}
+use Rattle.world_model.specs.Advancing.{advancing_row}
+use Rattle.world_model.specs.Apt.{can_make}
 use Rattle.world_model.specs.Asked.{asked_ops, asked_version, tree_part}
 use Rattle.world_model.specs.declared.refusal.Refusal.{Refusal}
 use Rattle.world_model.specs.Core.{Core, Refusals, refused_by, in_core}
@@ -203,9 +204,9 @@ core_row s p c from (Done t k v notice) = note_core s from t k v notice c
 core_row s p c from (Decide t v commit) = decide_core s p from t v commit c
 core_row s p c from (Decided t v) = acked_core s from t v c
 core_row s p c from (Release t) = release_core t c
-core_row s p c from (Order e what v) = order_core s p from e what v c
+core_row s p c from (Order e what v) = order_core s e what v c
 core_row s p c from (Ask e) = ask_core s e c
-core_row s p c from body = in_core c (row s p c.node from body)
+core_row s p c from body = in_core c (advancing_row s body c.node)
 
 -- Which letters are apt.
 

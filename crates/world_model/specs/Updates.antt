@@ -1,5 +1,5 @@
--- What a node does with a subtransaction of an update tree.
-use Rattle.std.specs.Prelude.{ℕ, Bool, true, false, ◌&&◌, nat_lt, List, [], ◌∷◌}
+-- What the operations of an update tree make of a node's items.
+use Rattle.std.specs.Prelude.{Bool, true, false, ◌&&◌, List, [], ◌∷◌}
 use Rattle.tv_base.specs.declared.numbers.ItemNo.{ItemNo}
 use Rattle.tv_base.specs.declared.numbers.Version.{Version}
 use Rattle.item_versions.specs.Table.{Table, touched_in, may_touch_in}
@@ -9,9 +9,8 @@ use Rattle.script_parts.specs.declared.parts.Deed.{Deed}
 use Rattle.script_parts.specs.declared.parts.Deed.TheVariants.{Apply}
 use Rattle.letter_types.specs.declared.bodies.Body.{Body}
 use Rattle.letter_types.specs.declared.bodies.Notice.TheVariants.{Did}
-use Rattle.letter_types.specs.Steps.{Out}
 use Rattle.world_model.specs.Node.{Effect, Node}
-use Rattle.world_model.specs.Asked.{asked_ops, asked_version, tree_done}
+use Rattle.world_model.specs.Asked.{asked_ops, asked_version}
 
 -- an operation of an update may be made in version v: it is one that commutes, and the table's item takes it
 abbrev pub may_make : Version → ItemNo → Deed → Table → Bool
@@ -40,9 +39,3 @@ touching v ops items = record { items = table_after_ops v ops items; notice = Di
 -- the operations that a letter asks for may be made; a root takes the node's update version
 abbrev pub can_update : ScriptData → Node → Body → Bool
 can_update s st body = can_touch (asked_version st.turns.update body) (asked_ops s body) st.items
-
--- the row of a subtransaction of an update tree: the node's update version is raised to its version if it is less
-abbrev pub update_row : ScriptData → ℕ → Node → ℕ → Body → Out Node
-update_row s p st from body =
-    let v = asked_version st.turns.update body in
-    tree_done s p from v (nat_lt st.turns.update.0 v.0) (touching v (asked_ops s body) st.items) body st

@@ -417,7 +417,7 @@ core_told s does vs p from (Sweep v) c comes it = rest_row s does vs c _ it refl
 core_told s does vs p from (AskDone v k) c comes it = rest_row s does vs c _ it refl refl refl refl
 core_told s does vs p from (AskAsked v k) c comes it = rest_row s does vs c _ it refl refl refl refl
 core_told s does vs p from (Order e what v) c comes it =
-    order_each (RowTold s does vs) s p from e what v c (rest_row s does vs c _ it refl refl refl refl) (rest_row s does vs c _ it refl refl refl refl)
+    order_each (RowTold s does vs) s e what v c (rest_row s does vs c _ it refl refl refl refl) (rest_row s does vs c _ it refl refl refl refl)
     (λ is. rest_row s does vs c _ it refl refl refl refl) (λ is new. rest_row s does vs c _ it refl refl refl refl)
     (λ is new. rest_row s does vs c _ it refl refl refl refl)
 core_told s does vs p from (Ask e) c comes it =
