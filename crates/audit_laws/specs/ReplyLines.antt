@@ -4,7 +4,7 @@ use Rattle.tv_base.specs.declared.numbers.Version.{Version}
 use Rattle.letter_types.specs.declared.bodies.Answer.{Answer}
 use Rattle.letter_types.specs.declared.bodies.Answer.TheVariants.{Aborted, Whole}
 use Rattle.letter_types.specs.declared.bodies.Body.{Body}
-use Rattle.letter_types.specs.declared.bodies.Body.TheVariants.{Go, Reply}
+use Rattle.letter_types.specs.declared.bodies.Body.TheVariants.{Reply}
 use Rattle.letter_types.specs.declared.entries.Entry.{Entry}
 use Rattle.letter_types.specs.declared.entries.Outgoing.{Outgoing}
 use Rattle.tree_home.specs.Homes.{Gets}
@@ -42,7 +42,6 @@ line_in s h t tree =
 -- they are the same
 abbrev pub IsItsLine : ScriptData → List Entry → Body → Type 0
 IsItsLine s h (Reply t v answer) = (tree : Tree) → slice_get s.trees t.0 ≡ Some tree → line_in s h t.0 tree ≡ line_by s tree tree.kind v answer
-IsItsLine s h Go = Unit {0}
 IsItsLine s h _ = Unit {0}
 
 -- of each tree that is answered

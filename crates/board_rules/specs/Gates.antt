@@ -15,7 +15,6 @@ use Rattle.board_rules.specs.Right.{has_finished}
 -- the row is a `settle`
 abbrev pub is_settle_row : ScriptRow → Bool
 is_settle_row SettleRow = true
-is_settle_row (TreeRow t) = false
 is_settle_row _ = false
 
 -- the rows before the last `settle` among these; there are none where none is among them
@@ -30,7 +29,6 @@ awaited s i = before_settle (take i s.rows)
 -- node p has collected to version v in one of these acts
 abbrev pub sweeps_to : ℕ → Act → Bool
 sweeps_to v (Swept w) = w.0 == v
-sweeps_to v Finished = false
 sweeps_to v _ = false
 
 abbrev pub was_swept : ℕ → ℕ → List Place → Bool

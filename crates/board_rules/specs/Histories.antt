@@ -4,7 +4,7 @@ use Rattle.std.specs.List.{list_any}
 use Rattle.std.specs.Option.{option_or}
 use Rattle.tv_base.specs.declared.numbers.Version.{Version}
 use Rattle.letter_types.specs.declared.acts.Act.{Act}
-use Rattle.letter_types.specs.declared.acts.Act.TheVariants.{Born, Did, Decided, Applied, Finished}
+use Rattle.letter_types.specs.declared.acts.Act.TheVariants.{Born, Did, Decided, Applied}
 use Rattle.letter_types.specs.declared.entries.Entry.{Entry}
 use Rattle.script_parts.specs.ScriptData.{ScriptData, is_strict, subs_at}
 use Rattle.script_parts.specs.declared.parts.Sub.{Sub}
@@ -26,7 +26,6 @@ places_of (e ∷ es) = places_at e ++ places_of es
 -- the version with which the act bears tree t
 abbrev pub born_as : ℕ → Act → Option Version
 born_as t (Born u v) = if u.0 == t then Some v else None
-born_as t Finished = None
 born_as t _ = None
 
 -- the version with which tree t was first born
@@ -41,7 +40,6 @@ version_of h t = version_in t (places_of h)
 -- the act is a Did of subtransaction k of tree t
 abbrev pub does : ℕ → ℕ → Act → Bool
 does t k (Did u j values) = (u.0 == t) && (j.0 == k)
-does t k Finished = false
 does t k _ = false
 
 -- subtransaction k of tree t was done
@@ -56,7 +54,6 @@ all_done t (suc n) xs = all_done t n xs && was_done t n xs
 -- the act commits tree t
 abbrev pub commits : ℕ → Act → Bool
 commits t (Decided u commit) = (u.0 == t) && commit
-commits t Finished = false
 commits t _ = false
 
 -- tree t was decided to commit
@@ -66,7 +63,6 @@ was_committed t xs = list_any (λ (x : Place). commits t x.act) xs
 -- the act is an Applied of tree t
 abbrev pub applies : ℕ → Act → Bool
 applies t (Applied u commit) = u.0 == t
-applies t Finished = false
 applies t _ = false
 
 -- what was decided of tree t was applied at node p

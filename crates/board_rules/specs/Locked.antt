@@ -2,7 +2,7 @@
 use Rattle.std.specs.Prelude.{if◌then◌else◌, ℕ, ◌≡◌, ◌<◌, Bool, true, false, ◌==◌, List, [], fold, length, map, Option, Some, None}
 use Rattle.std.specs.List.{list_any}
 use Rattle.letter_types.specs.declared.acts.Act.{Act}
-use Rattle.letter_types.specs.declared.acts.Act.TheVariants.{Did, Voted, Freed, Applied, Finished}
+use Rattle.letter_types.specs.declared.acts.Act.TheVariants.{Did, Voted, Freed, Applied}
 use Rattle.letter_types.specs.declared.votes.Vote.TheVariants.{Yes, No}
 use Rattle.nc_locks.specs.declared.modes.Lock.{Lock}
 use Rattle.nc_locks.specs.declared.modes.Mode.{Mode}
@@ -24,7 +24,6 @@ locks_after_act s (Voted t j (Yes values)) ls = with_locks t (needed_by (ops_of 
 locks_after_act s (Voted t j (No cause)) ls = ls
 locks_after_act s (Freed t) ls = without t ls
 locks_after_act s (Applied t commit) ls = without t ls
-locks_after_act s Finished ls = ls
 locks_after_act s _ ls = ls
 
 -- and those of node p after all these acts

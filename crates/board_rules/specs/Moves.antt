@@ -18,17 +18,14 @@ use Rattle.board_rules.specs.Stands.{cause_of, refusal_in, voted_yes, was_freed,
 -- the version that the act sets a node's update, read or low version to
 abbrev pub turned_to : Act → Option Version
 turned_to (Turned v) = Some v
-turned_to Finished = None
 turned_to _ = None
 
 abbrev pub showed_to : Act → Option Version
 showed_to (Showed v) = Some v
-showed_to Finished = None
 showed_to _ = None
 
 abbrev pub swept_to : Act → Option Version
 swept_to (Swept v) = Some v
-swept_to Finished = None
 swept_to _ = None
 
 abbrev pub version_or : ℕ → Option Version → ℕ
@@ -137,7 +134,6 @@ pub record IsFreeing (s : ScriptData) (xs : List Place) (p t : ℕ) : Type 0 whe
 -- the act decides tree t so, and one of these acts does
 abbrev pub decides_as : ℕ → Bool → Act → Bool
 decides_as t commit (Decided u c) = (u.0 == t) && (if commit then c else not c)
-decides_as t commit Finished = false
 decides_as t commit _ = false
 
 abbrev pub was_decided_as : ℕ → Bool → List Place → Bool

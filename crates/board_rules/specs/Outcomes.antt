@@ -4,7 +4,7 @@ use Rattle.std.specs.Option.{option_or}
 use Rattle.tv_base.specs.declared.numbers.ItemNo.{ItemNo}
 use Rattle.commute_ops.specs.declared.value.Value.{Value}
 use Rattle.letter_types.specs.declared.acts.Act.{Act}
-use Rattle.letter_types.specs.declared.acts.Act.TheVariants.{Did, Voted, Decided, Finished}
+use Rattle.letter_types.specs.declared.acts.Act.TheVariants.{Did, Voted, Decided}
 use Rattle.letter_types.specs.declared.votes.Cause.{Cause}
 use Rattle.letter_types.specs.declared.votes.Vote.{Vote}
 use Rattle.letter_types.specs.declared.votes.Vote.TheVariants.{Yes, No}
@@ -19,7 +19,6 @@ acts_in xs = map (λ (x : Place). x.act) xs
 -- the values of a Did of subtransaction k of tree t
 abbrev pub did_by : ℕ → ℕ → Act → Option (List (ItemNo × Value))
 did_by t k (Did u j values) = if (u.0 == t) && (j.0 == k) then Some values else None
-did_by t k Finished = None
 did_by t k _ = None
 
 -- the values of the first such among these acts
@@ -30,7 +29,6 @@ did_in t k (a ∷ acts) = option_or (did_by t k a) (did_in t k acts)
 -- the vote that the act is of subtransaction k of tree t
 abbrev pub vote_by : ℕ → ℕ → Act → Option Vote
 vote_by t k (Voted u j vote) = if (u.0 == t) && (j.0 == k) then Some vote else None
-vote_by t k Finished = None
 vote_by t k _ = None
 
 -- the first vote of subtransaction k of tree t among these acts
@@ -41,7 +39,6 @@ vote_in t k (a ∷ acts) = option_or (vote_by t k a) (vote_in t k acts)
 -- what the act decides of tree t: whether it commits
 abbrev pub decision_by : ℕ → Act → Option Bool
 decision_by t (Decided u commit) = if u.0 == t then Some commit else None
-decision_by t Finished = None
 decision_by t _ = None
 
 -- what these acts first decide of tree t

@@ -3,7 +3,7 @@
 use Rattle.std.specs.Prelude.{◌≡◌, ◌<◌, ◌||◌, ℕ, Bool, true, false, IsTrue, List, length, slice_get, take, Some, None}
 use Rattle.tv_base.specs.declared.numbers.Version.{Version}
 use Rattle.letter_types.specs.declared.acts.Act.{Act}
-use Rattle.letter_types.specs.declared.acts.Act.TheVariants.{Did, Finished, Voted, Freed, Decided, Applied}
+use Rattle.letter_types.specs.declared.acts.Act.TheVariants.{Did, Voted, Freed, Decided, Applied}
 use Rattle.letter_types.specs.declared.votes.Vote.TheVariants.{Yes, No}
 use Rattle.script_parts.specs.ScriptData.{ScriptData, node_of, ops_of, subs_at, updates}
 use Rattle.board_rules.specs.Histories.{Place, born_as, is_strict_tree, is_whole_in, version_in, was_born, was_done}
@@ -37,7 +37,6 @@ IsByRule s xs p (Voted t k (No cause)) = Unit {0}
 IsByRule s xs p (Freed t) = IsFreeing s xs p t.0
 IsByRule s xs p (Decided t commit) = IsDecision s xs p t.0 commit
 IsByRule s xs p (Applied t commit) = IsApplying s xs p t.0 commit
-IsByRule s xs p Finished = Unit {0}
 IsByRule s xs p _ = Unit {0}
 
 -- each act of the list follows its rule, after those before it

@@ -4,7 +4,7 @@ use Rattle.std.specs.Prelude.{if◌then◌else◌, ℕ, zero, suc, Bool, false, 
 use Rattle.std.specs.List.{list_any}
 use Rattle.tv_base.specs.declared.numbers.Version.{Version}
 use Rattle.letter_types.specs.declared.acts.Act.{Act}
-use Rattle.letter_types.specs.declared.acts.Act.TheVariants.{Did, Decided, Finished}
+use Rattle.letter_types.specs.declared.acts.Act.TheVariants.{Did, Decided}
 use Rattle.letter_types.specs.declared.entries.Entry.{Entry}
 use Rattle.script_parts.specs.ScriptData.{ScriptData, updates}
 use Rattle.board_rules.specs.Histories.{Place, is_strict_tree, is_whole_in, places_of, version_in, was_committed}
@@ -13,7 +13,6 @@ use Rattle.board_rules.specs.Histories.{Place, is_strict_tree, is_whole_in, plac
 abbrev pub commits_by : ScriptData → Act → Option ℕ
 commits_by s (Did t k values) = if updates s t.0 then Some t.0 else None
 commits_by s (Decided t commit) = if is_strict_tree s t.0 && commit then Some t.0 else None
-commits_by s Finished = None
 commits_by s _ = None
 
 -- the number is in the list

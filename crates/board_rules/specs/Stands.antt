@@ -6,7 +6,7 @@ use Rattle.std.specs.Option.{option_or}
 use Rattle.tv_base.specs.declared.numbers.ItemNo.{ItemNo}
 use Rattle.tv_base.specs.declared.numbers.Version.{Version}
 use Rattle.letter_types.specs.declared.acts.Act.{Act}
-use Rattle.letter_types.specs.declared.acts.Act.TheVariants.{Did, Voted, Freed, Applied, Finished}
+use Rattle.letter_types.specs.declared.acts.Act.TheVariants.{Did, Voted, Freed, Applied}
 use Rattle.letter_types.specs.declared.entries.Entry.{Entry}
 use Rattle.letter_types.specs.declared.votes.Cause.{Cause}
 use Rattle.letter_types.specs.declared.votes.Cause.TheVariants.{Conflict, Newer}
@@ -36,15 +36,12 @@ lock_mode_of (deeds.Draw n) = Hold
 abbrev pub locked_by : ScriptData → ℕ → Act → List SubOp
 locked_by s k (Did t j values) = if (t.0 == k) && updates s k then ops_of s k j.0 else []
 locked_by s k (Voted t j (Yes values)) = if t.0 == k then ops_of s k j.0 else []
-locked_by s k (Voted t j (No cause)) = []
-locked_by s k Finished = []
 locked_by s k _ = []
 
 -- the act lets go of what tree k has at its node
 abbrev pub releases : ℕ → Act → Bool
 releases k (Freed t) = t.0 == k
 releases k (Applied t commit) = t.0 == k
-releases k Finished = false
 releases k _ = false
 
 -- the modes on item x among those of these operations
@@ -94,7 +91,6 @@ written_by s xs x here (Did t j values) =
     if updates s t.0 && ops_change x (ops_of s t.0 j.0) then version_or_zero (version_in t.0 xs) else 0
 written_by s xs x here (Applied t commit) =
     if here && (commit && subs_change x (subs_at s t.0)) then version_or_zero (version_in t.0 xs) else 0
-written_by s xs x here Finished = 0
 written_by s xs x here _ = 0
 
 abbrev pub written_in : ScriptData → List Place → ℕ → ℕ → Place → ℕ
@@ -133,13 +129,10 @@ refusal_in (No cause) = Some cause
 -- subtransaction k of tree t has voted, or has voted yes
 abbrev pub votes : ℕ → ℕ → Act → Bool
 votes t k (Voted u j vote) = (u.0 == t) && (j.0 == k)
-votes t k Finished = false
 votes t k _ = false
 
 abbrev pub votes_yes : ℕ → ℕ → Act → Bool
 votes_yes t k (Voted u j (Yes values)) = (u.0 == t) && (j.0 == k)
-votes_yes t k (Voted u j (No cause)) = false
-votes_yes t k Finished = false
 votes_yes t k _ = false
 
 abbrev pub was_voted : ℕ → ℕ → List Place → Bool
@@ -151,7 +144,6 @@ voted_yes t k xs = list_any (λ (x : Place). votes_yes t k x.act) xs
 -- the marks of tree t went at node p
 abbrev pub frees : ℕ → Act → Bool
 frees t (Freed u) = u.0 == t
-frees t Finished = false
 frees t _ = false
 
 abbrev pub was_freed : ℕ → ℕ → List Place → Bool

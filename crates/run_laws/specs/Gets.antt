@@ -4,9 +4,9 @@ use Rattle.std.specs.List.{before_first}
 use Rattle.tv_base.specs.declared.numbers.Version.{Version}
 use Rattle.commute_ops.specs.declared.value.Value.{Value}
 use Rattle.letter_types.specs.declared.acts.Act.{Act}
-use Rattle.letter_types.specs.declared.acts.Act.TheVariants.{Voted, Finished}
+use Rattle.letter_types.specs.declared.acts.Act.TheVariants.{Voted}
 use Rattle.letter_types.specs.declared.entries.Entry.{Entry}
-use Rattle.letter_types.specs.declared.votes.Vote.TheVariants.{Yes, No}
+use Rattle.letter_types.specs.declared.votes.Vote.TheVariants.{Yes}
 use Rattle.script_parts.specs.ScriptData.{ScriptData, ops_of}
 use Rattle.board_rules.specs.Histories.{Place, places_of, version_of, was_committed}
 use Rattle.board_rules.specs.Moves.{AtEachAct}
@@ -28,8 +28,6 @@ abbrev pub GotTheFoldBefore : ScriptData → List Entry → Act → Type 0
 GotTheFoldBefore s h (Voted t k (Yes values)) =
     IsTrue (was_committed t.0 (places_of h))
     → IsShown (worth_before s h t.0) (gets_among (ops_of s t.0 k.0)) values (version_of h t.0)
-GotTheFoldBefore s h (Voted t k (No cause)) = Unit {0}
-GotTheFoldBefore s h Finished = Unit {0}
 GotTheFoldBefore s h _ = Unit {0}
 
 -- each yes of a history does
