@@ -16,8 +16,7 @@ use Rattle.nc_locks.specs.declared.modes.Mode.{Mode}
 use Rattle.script_parts.specs.ScriptData.{ScriptData, ops_of, subs_at, updates}
 use Rattle.script_parts.specs.declared.parts.SubOp.{SubOp}
 use Rattle.board_rules.specs.ButCause.{IsMoveButCause, IsMoveButCauseAt}
-use Rattle.board_rules.specs.Histories.{Place, applies, is_strict_tree, is_whole_in, was_applied, was_done}
-use Rattle.board_rules.specs.Moves.{decides_as, was_decided_as}
+use Rattle.board_rules.specs.Histories.{Place, applies, decides_as, is_strict_tree, is_whole_in, was_applied, was_decided_as, was_done}
 use Rattle.board_rules.specs.Stands.{frees, locked_by, modes_after, modes_on, modes_standing, releases, votes, was_freed, was_voted}
 use Rattle.board_rules.proofs.ActTests.{applies_as_is, applies_as_one, decides_as_is, frees_is}
 use Rattle.board_rules.proofs.Once.{clash}

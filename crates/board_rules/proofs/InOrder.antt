@@ -8,8 +8,7 @@ use Rattle.tv_base.proofs.Truths.{left_true, right_true, same_test}
 use Rattle.letter_types.specs.declared.acts.Act.{Act}
 use Rattle.letter_types.specs.declared.acts.Act.TheVariants.{Born, Did, Turned, Showed, Swept, Finished, Waits, Parked, Voted, Freed, Decided, Applied}
 use Rattle.script_parts.specs.ScriptData.{ScriptData, ops_of, subs_at, updates}
-use Rattle.board_rules.specs.Histories.{Place, applies, does, is_strict_tree, version_in}
-use Rattle.board_rules.specs.Moves.{decides_as}
+use Rattle.board_rules.specs.Histories.{Place, applies, decides_as, does, is_strict_tree, version_in}
 use Rattle.board_rules.specs.Serial.{commits_by, commit_order, is_in}
 use Rattle.nc_locks.specs.Modes.{modes_conflict}
 use Rattle.board_rules.specs.Stands.{frees, lock_mode_of, overwrites, votes_yes}

@@ -11,8 +11,7 @@ use Rattle.script_parts.specs.ScriptData.{ScriptData, node_of, ops_of, subs_at, 
 use Rattle.script_parts.specs.declared.parts.Deed.{Deed}
 use Rattle.script_parts.specs.declared.parts.Deed.TheVariants.{Apply, Get, Set, Draw}
 use Rattle.script_parts.specs.declared.parts.SubOp.{SubOp}
-use Rattle.board_rules.specs.Histories.{Place, applies, does, is_strict_tree, is_whole_in, version_in, was_applied}
-use Rattle.board_rules.specs.Moves.{decides_as}
+use Rattle.board_rules.specs.Histories.{Place, applies, decides_as, does, is_strict_tree, is_whole_in, version_in, was_applied}
 use Rattle.nc_locks.specs.Modes.{modes_conflict}
 use Rattle.nc_locks.specs.declared.modes.Mode.{Mode}
 use Rattle.nc_locks.specs.declared.modes.Mode.TheVariants.{Mark, Look, Hold}

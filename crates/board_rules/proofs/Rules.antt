@@ -3,8 +3,8 @@ use Rattle.std.proofs.Common.{◌≡◌, ℕ, Bool, true, List, subst, Some, tak
 use Rattle.std.specs.Prelude.{slice_get}
 use Rattle.script_parts.specs.ScriptData.{ScriptData, node_of, ops_of, updates}
 use Rattle.script_parts.specs.declared.parts.SubOp.{SubOp}
-use Rattle.board_rules.specs.Histories.{Place, does, is_strict_tree}
-use Rattle.board_rules.specs.Moves.{IsApplying, IsDecision, IsFreeing, decides_as}
+use Rattle.board_rules.specs.Histories.{Place, decides_as, does, is_strict_tree}
+use Rattle.board_rules.specs.Moves.{IsApplying, IsDecision, IsFreeing}
 use Rattle.nc_locks.specs.Modes.{modes_conflict}
 use Rattle.nc_locks.specs.declared.modes.Mode.TheVariants.{Mark}
 use Rattle.board_rules.specs.Stands.{frees, lock_mode_of, votes_yes}

@@ -1,5 +1,5 @@
 -- What the acts of a history say of trees.
-use Rattle.std.specs.Prelude.{if◌then◌else◌, ℕ, zero, suc, Bool, true, false, ◌==◌, ◌&&◌, List, [], ◌∷◌, ◌++◌, length, map, Option, Some, None, IsTrue, is_some, slice_get}
+use Rattle.std.specs.Prelude.{if◌then◌else◌, ℕ, zero, suc, Bool, true, false, ◌==◌, ◌&&◌, List, [], ◌∷◌, ◌++◌, length, map, not, Option, Some, None, IsTrue, is_some, slice_get}
 use Rattle.std.specs.List.{list_any}
 use Rattle.std.specs.Option.{option_or}
 use Rattle.tv_base.specs.declared.numbers.Version.{Version}
@@ -51,14 +51,13 @@ abbrev pub all_done : ℕ → ℕ → List Place → Bool
 all_done t zero xs = true
 all_done t (suc n) xs = all_done t n xs && was_done t n xs
 
--- the act commits tree t
-abbrev pub commits : ℕ → Act → Bool
-commits t (Decided u commit) = (u.0 == t) && commit
-commits t _ = false
+-- the act decides tree t so, and one of these acts does
+abbrev pub decides_as : ℕ → Bool → Act → Bool
+decides_as t commit (Decided u c) = (u.0 == t) && (if commit then c else not c)
+decides_as t commit _ = false
 
--- tree t was decided to commit
-abbrev pub was_committed : ℕ → List Place → Bool
-was_committed t xs = list_any (λ (x : Place). commits t x.act) xs
+abbrev pub was_decided_as : ℕ → Bool → List Place → Bool
+was_decided_as t commit xs = list_any (λ (x : Place). decides_as t commit x.act) xs
 
 -- the act is an Applied of tree t
 abbrev pub applies : ℕ → Act → Bool

@@ -10,7 +10,7 @@ use Rattle.letter_types.specs.declared.entries.Entry.{Entry}
 use Rattle.letter_types.specs.declared.votes.Vote.{Vote}
 use Rattle.script_parts.specs.ScriptData.{ScriptData, home_of, node_of, ops_of, reads, sub_at, subs_at, updates, visits}
 use Rattle.script_parts.specs.declared.parts.Sub.{Sub}
-use Rattle.board_rules.specs.Histories.{Place, is_strict_tree, is_whole_in, places_at, places_of, version_in, was_applied, was_born, was_done}
+use Rattle.board_rules.specs.Histories.{Place, is_strict_tree, is_whole_in, places_at, places_of, version_in, was_applied, was_born, was_decided_as, was_done}
 use Rattle.board_rules.specs.Stands.{cause_of, refusal_in, voted_yes, was_freed, was_voted}
 
 -- The numbers of a node: 1, 0 and 0 at first, and then what its last act of the kind says.
@@ -130,14 +130,6 @@ pub record IsFreeing (s : ScriptData) (xs : List Place) (p t : ℕ) : Type 0 whe
   pub visited : IsTrue (visits (subs_at s t) p)
   pub whole : IsTrue (is_whole_in s xs t)
   pub once : was_freed t p xs ≡ false
-
--- the act decides tree t so, and one of these acts does
-abbrev pub decides_as : ℕ → Bool → Act → Bool
-decides_as t commit (Decided u c) = (u.0 == t) && (if commit then c else not c)
-decides_as t commit _ = false
-
-abbrev pub was_decided_as : ℕ → Bool → List Place → Bool
-was_decided_as t commit xs = list_any (λ (x : Place). decides_as t commit x.act) xs
 
 -- each of the first n subtransactions of tree t has voted, or has voted yes
 abbrev pub AllVoted : (ℕ → ℕ → List Place → Bool) → ScriptData → List Place → ℕ → Type 0

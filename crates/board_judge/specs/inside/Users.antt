@@ -13,7 +13,7 @@ use Rattle.script_parts.specs.declared.parts.Sub.{Sub}
 use Rattle.script_parts.specs.declared.parts.SubOp.{SubOp}
 use Rattle.script_parts.specs.declared.parts.Tree.{Tree}
 use Rattle.script_parts.specs.declared.parts.TreeKind.{TreeKind}
-use Rattle.board_rules.specs.Histories.{Place, version_in, was_applied, was_committed, was_done}
+use Rattle.board_rules.specs.Histories.{Place, version_in, was_applied, was_decided_as, was_done}
 use Rattle.board_rules.specs.Stands.{lock_mode_of, modes_on, newest_of, overwrites, version_or_zero, voted_yes, was_freed}
 use Rattle.board_judge.specs.declared.users.User.{User}
 
@@ -95,7 +95,7 @@ changes_in Hold = true
 abbrev pub has_written : ScriptData → List Place → ℕ → User → Bool
 has_written s xs p u =
     changes_in u.mode
-    && ((updates s u.tree.0 && was_done u.tree.0 u.sub.0 xs) || (was_committed u.tree.0 xs && was_applied u.tree.0 p xs))
+    && ((updates s u.tree.0 && was_done u.tree.0 u.sub.0 xs) || (was_decided_as u.tree.0 true xs && was_applied u.tree.0 p xs))
 
 -- the greatest version of a tree whose operation has written
 abbrev pub version_by : List Place → User → ℕ
