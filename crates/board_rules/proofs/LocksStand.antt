@@ -1,5 +1,6 @@
 -- The locks that a node has by its acts are those that stand by the look back over all acts.
 use Rattle.std.proofs.Common.{◌≡◌, ◌==◌, ◌&&◌, ◌||◌, ℕ, Bool, true, false, List, [], ◌∷◌, ◌++◌, refl, sym, ap, ◌∙◌, subst, arith}
+use Rattle.std.proofs.Math.Bool.{or-false}
 use Rattle.std.specs.Prelude.{if◌then◌else◌, cond, not, fold, map}
 use Rattle.std.specs.List.{AllByRecursion, list_any}
 use Rattle.std.proofs.lemmas.Bool.Decides.{nat_tests}
@@ -16,7 +17,8 @@ use Rattle.script_parts.specs.ScriptData.{ScriptData, ops_of, updates}
 use Rattle.script_parts.specs.declared.parts.SubOp.{SubOp}
 use Rattle.board_rules.specs.Histories.{Place}
 use Rattle.board_rules.specs.Locked.{AreModesOf, IsApartFrom, is_same_mode, lock_at, locks_after_act, locks_after_place, locks_at, needed_by}
-use Rattle.board_rules.specs.Stands.{releases, lock_mode_of, locked_by, modes_after, modes_on, modes_standing}
+use Rattle.board_rules.specs.Stands.{lock_mode_of, locked_by, modes_after, modes_on, modes_standing}
+use Rattle.board_rules.proofs.ActTests.{releases}
 
 -- The locks that operations need.
 needed_modes : (t : TreeNo) (k x : ℕ) (os : List SubOp) → t.0 ≡ k → modes_in x k (wanted_locks t (needed_by os)) ≡ modes_on x os
@@ -138,7 +140,7 @@ one_act s k x (Voted t j (Yes values)) ls modes are =
           same (taken_by t k x (ops_of s t.0 j.0) ls modes true is are))
       voted false is = rw is (taken_by t k x (ops_of s t.0 j.0) ls modes false is are)
 one_act s k x (Voted t j (No cause)) ls modes are = left_by k x ls modes are
-one_act s k x (Freed t) ls modes are = freed_by t k x ls modes (t.0 == k) refl are
+one_act s k x (Freed t) ls modes are = rw (or-false (t.0 == k)) (freed_by t k x ls modes (t.0 == k) refl are)
 one_act s k x (Applied t commit) ls modes are = freed_by t k x ls modes (t.0 == k) refl are
 one_act s k x Finished ls modes are = left_by k x ls modes are
 one_act s k x _ ls modes are = left_by k x ls modes are

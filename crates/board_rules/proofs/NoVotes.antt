@@ -12,9 +12,10 @@ use Rattle.script_parts.specs.ScriptData.{ScriptData, ops_of, updates}
 use Rattle.script_parts.specs.Valid.{IsValid}
 use Rattle.script_parts.specs.declared.parts.SubOp.{SubOp}
 use Rattle.board_rules.specs.Histories.{Place}
-use Rattle.board_rules.specs.Stands.{conflict_of, conflict_with, conflicts_with, holder_of, lock_mode_of, locked_by, modes_after, modes_on, modes_standing, releases}
+use Rattle.board_rules.specs.Stands.{conflict_of, conflict_with, conflicts_with, holder_of, lock_mode_of, locked_by, modes_after, modes_on, modes_standing}
 use Rattle.board_rules.proofs.Holders.{least_of_none}
 use Rattle.board_rules.proofs.ItemAt.{marks_it}
+use Rattle.board_rules.proofs.ActTests.{releases}
 
 -- the act is no vote
 abbrev pub IsNoVote : Act → Type 0

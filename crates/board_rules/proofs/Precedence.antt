@@ -1,7 +1,7 @@
 -- Who comes first where two trees that conflict touch one item, in a list of acts that follow their rules.
 use Rattle.std.proofs.Common.{◌≡◌, ◌⊎◌, inl, inr, ◌==◌, ◌&&◌, ℕ, zero, suc, ◌<◌, ◌≤◌, Bool, true, false, List, [], ◌∷◌, length, refl, sym, ap, subst, ◌∙◌, arith, Some, None, take}
 use Rattle.std.specs.Prelude.{if◌then◌else◌, ◌||◌, fold, max, nat_lt, slice_get}
-use Rattle.std.proofs.lemmas.Bool.{and_from, and_right, eqb-true, or_left, or_right}
+use Rattle.std.proofs.lemmas.Bool.{and_from, and_right, eqb-true, or_cases, or_left, or_right}
 use Rattle.std.proofs.lemmas.Bool.Decides.{nat_tests}
 use Rattle.tv_base.specs.declared.numbers.Version.{Version}
 use Rattle.tv_base.proofs.Truths.{left_true, right_true, same_test}
@@ -15,9 +15,9 @@ use Rattle.board_rules.specs.Histories.{Place, applies, decides_as, does, is_str
 use Rattle.nc_locks.specs.Modes.{modes_conflict}
 use Rattle.nc_locks.specs.declared.modes.Mode.{Mode}
 use Rattle.nc_locks.specs.declared.modes.Mode.TheVariants.{Mark, Look, Hold}
-use Rattle.board_rules.specs.Stands.{conflict_of, frees, releases, lock_mode_of, locked_by, newer_of, newest_of, overwrites, version_or_zero, votes_yes, written_by, written_in}
+use Rattle.board_rules.specs.Stands.{conflict_of, frees, lock_mode_of, locked_by, newer_of, newest_of, overwrites, version_or_zero, votes_yes, written_by, written_in}
 use Rattle.board_rules.specs.Worth.{changes, ops_change}
-use Rattle.board_rules.proofs.ActTests.{applies_as, applies_as_one, does_is, lets_go_by, votes_yes_is}
+use Rattle.board_rules.proofs.ActTests.{applies_as, applies_as_one, does_is, releases, votes_yes_is}
 use Rattle.board_rules.proofs.Once.{clash}
 use Rattle.board_rules.proofs.Positions.{ActAt, ActBelow, act_found, found, found_act, not_below}
 use Rattle.board_rules.proofs.Rules.{AreByRule, FollowsRules, IsItemAt, applying, deciding, deed, freeing, is_writer, yes_vote}
@@ -211,7 +211,7 @@ freed_where_free s zs p x t j k n i a acts item up did u strict free o lt =
     let g = gone_between zs p t i a (let_go_between s zs p x t k i a (record { node = p; act = did.act }) (ops_of s t j) (ops_of s k n) u o
     did.is (did_locks s t j did.act up did.passes) (did_stays p t t j did.act did.passes) lt free against
     (update_apart s t k up strict) (updates_there s t up)) in
-    update_gone s zs p t i a acts up g (lets_go_by t g.at.act g.at.passes)
+    update_gone s zs p t i a acts up g (or_cases (frees t g.at.act) (applies t g.at.act) g.at.passes)
 
 pub freed_before : (s : ScriptData) (zs : List Place) (p x t j k n i a : ℕ) → AreByRule s zs → IsItemAt s p x
     → updates s t ≡ true → ActAt (does t j) zs i p → OpOn x (ops_of s t j)
@@ -245,7 +245,7 @@ applied_before s zs p x t j k n i a acts item up did u voted o lt =
     let g = gone_between zs p k a i (let_go_between s zs p x k t a i (record { node = p; act = voted.act }) (ops_of s k n) (ops_of s t j) o u
     voted.is (vote_locks s k n voted.act voted.passes) (vote_stays p k k n voted.act voted.passes) lt (d.free up) against
     (strict_apart s t k up y.strict) (strict_there s k y.strict)) in
-    strict_gone s zs p k a i acts y.strict g (lets_go_by k g.at.act g.at.passes)
+    strict_gone s zs p k a i acts y.strict g (or_cases (frees k g.at.act) (applies k g.at.act) g.at.passes)
 
 -- where strict tree k meets no lock that conflicts on x after strict tree t voted yes on x in a mode that conflicts, t
 -- was applied between; so where k votes yes
@@ -257,7 +257,7 @@ applied_where_free s zs p x t j k n a b acts other one u free o against lt =
     let y = yes_vote s zs a p t j acts one in
     let g = gone_between zs p t a b (let_go_between s zs p x t k a b (record { node = p; act = one.act }) (ops_of s t j) (ops_of s k n) u o
     one.is (vote_locks s t j one.act one.passes) (vote_stays p t t j one.act one.passes) lt free against other (strict_there s t y.strict)) in
-    strict_gone s zs p t a b acts y.strict g (lets_go_by t g.at.act g.at.passes)
+    strict_gone s zs p t a b acts y.strict g (or_cases (frees t g.at.act) (applies t g.at.act) g.at.passes)
 
 pub applied_between : (s : ScriptData) (zs : List Place) (p x t j k n a b : ℕ) → AreByRule s zs → (t == k) ≡ false
     → ActAt (votes_yes t j) zs a p → (u : OpOn x (ops_of s t j)) → ActAt (votes_yes k n) zs b p → (o : OpOn x (ops_of s k n))

@@ -12,9 +12,10 @@ use Rattle.script_parts.specs.declared.parts.SubOp.{SubOp}
 use Rattle.board_rules.specs.Histories.{Place}
 use Rattle.nc_locks.specs.Modes.{modes_conflict}
 use Rattle.nc_locks.specs.declared.modes.Mode.{Mode}
-use Rattle.board_rules.specs.Stands.{conflict_of, conflict_with, holder_of, least_from, releases, lock_mode_of, locked_by, modes_after, modes_on, conflicts_with}
+use Rattle.board_rules.specs.Stands.{conflict_of, conflict_with, holder_of, least_from, lock_mode_of, locked_by, modes_after, modes_on, conflicts_with}
 use Rattle.board_rules.proofs.Once.{clash}
 use Rattle.board_rules.proofs.Positions.{Found}
+use Rattle.board_rules.proofs.ActTests.{releases}
 
 -- an operation on item x among these
 pub record OpOn (x : ℕ) (os : List SubOp) : Type 0 where

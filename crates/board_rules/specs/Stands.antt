@@ -1,6 +1,6 @@
 -- Which locks are at a place of a history, and why a subtransaction of a strict tree votes no: a look back over the
 -- acts.
-use Rattle.std.specs.Prelude.{if◌then◌else◌, ℕ, zero, suc, Bool, false, ◌==◌, ◌&&◌, not, max, nat_lt, List, [], ◌∷◌, ◌++◌, fold, filter, length, map, Option, Some, None}
+use Rattle.std.specs.Prelude.{if◌then◌else◌, ℕ, zero, suc, Bool, false, ◌==◌, ◌&&◌, ◌||◌, not, max, nat_lt, List, [], ◌∷◌, ◌++◌, fold, filter, length, map, Option, Some, None}
 use Rattle.std.specs.List.{list_any}
 use Rattle.std.specs.Option.{option_or}
 use Rattle.tv_base.specs.declared.numbers.ItemNo.{ItemNo}
@@ -21,7 +21,7 @@ use Rattle.script_parts.specs.ScriptData.{ScriptData, ops_of, subs_at, updates}
 use Rattle.script_parts.specs.declared.parts.Deed.{Deed}
 use Rattle.script_parts.specs.declared.parts.Deed.TheVariants as deeds
 use Rattle.script_parts.specs.declared.parts.SubOp.{SubOp}
-use Rattle.board_rules.specs.Histories.{Place, version_in}
+use Rattle.board_rules.specs.Histories.{Place, applies, version_in}
 use Rattle.board_rules.specs.Worth.{ops_change, subs_change, worth}
 
 -- how a tree has an item: marked by a commuting operation, looked at by a get, held by a set or a draw
@@ -38,20 +38,23 @@ locked_by s k (Did t j values) = if (t.0 == k) && updates s k then ops_of s k j.
 locked_by s k (Voted t j (Yes values)) = if t.0 == k then ops_of s k j.0 else []
 locked_by s k _ = []
 
--- the act lets go of what tree k has at its node
-abbrev pub releases : ℕ → Act → Bool
-releases k (Freed t) = t.0 == k
-releases k (Applied t commit) = t.0 == k
-releases k _ = false
+-- the marks of tree t went at node p
+abbrev pub frees : ℕ → Act → Bool
+frees t (Freed u) = u.0 == t
+frees t _ = false
+
+abbrev pub was_freed : ℕ → ℕ → List Place → Bool
+was_freed t p xs = list_any (λ (x : Place). (x.node == p) && frees t x.act) xs
 
 -- the modes on item x among those of these operations
 abbrev pub modes_on : ℕ → List SubOp → List Mode
 modes_on x os = map (λ (o : SubOp). lock_mode_of o.deed) (filter (λ (o : SubOp). o.item.0 == x) os)
 
--- the modes in which tree k has item x, which is at node p, after an act and after these acts
+-- the modes in which tree k has item x, which is at node p, after an act and after these acts: what it has at its node
+-- goes with its marks, and where what was decided of it is applied
 abbrev pub modes_after : ScriptData → ℕ → ℕ → ℕ → List Mode → Place → List Mode
 modes_after s p x k modes y =
-    if (y.node == p) && releases k y.act then [] else modes ++ modes_on x (locked_by s k y.act)
+    if (y.node == p) && (frees k y.act || applies k y.act) then [] else modes ++ modes_on x (locked_by s k y.act)
 
 abbrev pub modes_standing : ScriptData → List Place → ℕ → ℕ → ℕ → List Mode
 modes_standing s xs p x k = fold (modes_after s p x k) [] xs
@@ -140,11 +143,3 @@ was_voted t k xs = list_any (λ (x : Place). votes t k x.act) xs
 
 abbrev pub voted_yes : ℕ → ℕ → List Place → Bool
 voted_yes t k xs = list_any (λ (x : Place). votes_yes t k x.act) xs
-
--- the marks of tree t went at node p
-abbrev pub frees : ℕ → Act → Bool
-frees t (Freed u) = u.0 == t
-frees t _ = false
-
-abbrev pub was_freed : ℕ → ℕ → List Place → Bool
-was_freed t p xs = list_any (λ (x : Place). (x.node == p) && frees t x.act) xs

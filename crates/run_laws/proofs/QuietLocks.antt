@@ -12,7 +12,8 @@ use Rattle.nc_locks.specs.Modes.{modes_conflict}
 use Rattle.script_parts.specs.declared.parts.SubOp.{SubOp}
 use Rattle.script_parts.specs.ScriptData.{ScriptData}
 use Rattle.board_rules.specs.Histories.{Place}
-use Rattle.board_rules.specs.Stands.{conflict_of, conflict_with, conflicts_with, holder_of, least_from, lock_mode_of, locked_by, modes_after, modes_on, modes_standing, releases}
+use Rattle.board_rules.specs.Stands.{conflict_of, conflict_with, conflicts_with, holder_of, least_from, lock_mode_of, locked_by, modes_after, modes_on, modes_standing}
+use Rattle.board_rules.proofs.ActTests.{releases}
 use Rattle.run_laws.proofs.RowActs.{is_lasting, lasting}
 use Rattle.run_laws.proofs.Fronts.{placed}
 

@@ -1,6 +1,7 @@
 -- In runs of apt letters, of every script: where a subtransaction of a strict tree voted yes, its locks stand until the
 -- decision on its tree is applied.
 use Rattle.std.proofs.Common.{◌≡◌, ◌≢◌, ◌⊎◌, inl, inr, ℕ, zero, suc, ◌+◌, ◌<◌, ◌≤◌, ◌==◌, ◌&&◌, Bool, true, false, not, List, [], ◌∷◌, refl, sym, ap, subst, ◌∙◌, arith, Option, Some, None}
+use Rattle.std.proofs.Math.Bool.{or-false}
 use Rattle.std.specs.Prelude.{if◌then◌else◌, slice_get}
 use Rattle.std.proofs.lemmas.Bool.{or_left}
 use Rattle.std.proofs.lemmas.Bool.Decides.{nat_tests}
@@ -39,7 +40,8 @@ use Rattle.world_model.proofs.Cases.{Case, Coordinates, Does, NodeDoes, NodeKeep
 use Rattle.world_model.proofs.Every.{each_map, each_none, moved_says}
 use Rattle.world_model.proofs.Outstanding.{keeping_elsewhere, keeping_here}
 use Rattle.board_rules.specs.Locked.{locks_after_act, needed_by}
-use Rattle.board_rules.specs.Stands.{releases, votes_yes}
+use Rattle.board_rules.specs.Stands.{votes_yes}
+use Rattle.board_rules.proofs.ActTests.{releases}
 use Rattle.tree_laws.specs.Applied.{applied_at, applies_as}
 use Rattle.tree_laws.proofs.AptSteps.{done_before}
 use Rattle.tree_laws.proofs.NodeLoads.{strict_there}
@@ -84,7 +86,8 @@ act_stays s l (acts.Did u j values) ls none has = by (updates s u.0) where
   by false = has
 act_stays s l (acts.Voted u j (Yes values)) ls none has = more_locks l u (needed_by (ops_of s u.0 j.0)) ls has
 act_stays s l (acts.Voted u j (No cause)) ls none has = has
-act_stays s l (acts.Freed u) ls none has = still_there l u ls none has
+act_stays s l (acts.Freed u) ls none has =
+    still_there l u ls (ap one_if (sym (or-false (u.0 == l.tree.0))) ∙ none) has
 act_stays s l (acts.Applied u commit) ls none has = still_there l u ls none has
 act_stays s l acts.Finished ls none has = has
 act_stays s l _ ls none has = has
@@ -188,7 +191,7 @@ row_lets : (s : ScriptData) (c : Core) (t : ℕ) (body : Body) → is_strict_at 
 row_lets s c t (Root u) strict up none = asked_lets s c t u (record { 0 = 0 }) (Root u) (tree_kind_at s u.0)
 row_lets s c t (SubLetter u k v) strict up none = asked_lets s c t u k (SubLetter u k v) (tree_kind_at s u.0)
 row_lets s c t (Decide u v commit) strict up none = omega (arith, none, applied_one (u.0 == t) commit)
-row_lets s c t (Release u) strict up none = omega (arith, plain_update s t u.0 strict up)
+row_lets s c t (Release u) strict up none = omega (arith, ap one_if (or-false (u.0 == t)), plain_update s t u.0 strict up)
 row_lets s c t Go strict up none = refl
 row_lets s c t _ strict up none = refl
 
