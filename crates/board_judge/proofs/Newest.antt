@@ -17,7 +17,7 @@ use Rattle.script_parts.specs.declared.parts.Tree.{Tree}
 use Rattle.script_parts.specs.declared.parts.TreeKind.{TreeKind}
 use Rattle.board_rules.specs.ButCause.{IsMoveButCauseAt}
 use Rattle.board_rules.specs.Histories.{Place, applies, decides_as, does, version_in, was_applied, was_decided_as, was_done}
-use Rattle.board_rules.specs.Stands.{lock_mode_of, newest_of, version_or_zero, written_by, written_in}
+use Rattle.board_rules.specs.Stands.{newest_of, version_or_zero, written_by, written_in}
 use Rattle.board_rules.specs.Worth.{changes, ops_change, subs_change}
 use Rattle.board_rules.proofs.ActTests.{applies_as_is, applies_as_one, decides_as_is, does_is}
 use Rattle.board_rules.proofs.Once.{clash, same_tests}
@@ -27,6 +27,7 @@ use Rattle.board_judge.specs.declared.users.User.{User}
 use Rattle.board_judge.specs.Settled.{IsMoveRun}
 use Rattle.board_judge.specs.inside.Users.{changes_in, has_written, is_tree_of, newest_by, ops_users, subs_users, tree_users, trees_users, user_of, users_of, version_by}
 use Rattle.board_judge.proofs.Holding.{any_at, drop_head, drop_next}
+use Rattle.nc_locks.specs.Wants.{mode_wanted}
 
 -- Numbers that pass the same thresholds are equal.
 same_numbers : (a b : ℕ) → ((w : ℕ) → 0 < w → nat_le w a ≡ nat_le w b) → a ≡ b
@@ -76,7 +77,7 @@ newest_at_least s xs p w lt (u ∷ us) = by (has_written s xs p u) (newest_at_le
   by false rest = rest
 
 -- Operations among those of an item.
-mode_changes : (d : Deed) → changes_in (lock_mode_of d) ≡ changes d
+mode_changes : (d : Deed) → changes_in (mode_wanted d) ≡ changes d
 mode_changes (deeds.Apply op) = refl
 mode_changes deeds.Get = refl
 mode_changes (deeds.Set n) = refl

@@ -10,7 +10,8 @@ use Rattle.script_parts.specs.Valid.{IsValid}
 use Rattle.board_rules.specs.Histories.{Place, applies, decides_as, does, is_strict_tree, is_whole_in, version_in, was_decided_as}
 use Rattle.board_rules.specs.Serial.{commit_order, is_in, is_settled_in, serial_in}
 use Rattle.nc_locks.specs.Modes.{modes_conflict}
-use Rattle.board_rules.specs.Stands.{lock_mode_of, votes, votes_yes}
+use Rattle.nc_locks.specs.Wants.{mode_wanted}
+use Rattle.board_rules.specs.Stands.{votes, votes_yes}
 use Rattle.board_rules.specs.Worth.{first_value, worth_after, worth_in}
 use Rattle.board_rules.proofs.ActTests.{applies_as, applies_as_one, votes_yes_is}
 use Rattle.board_rules.proofs.AtEntry.{vote_sees_worth_before}
@@ -154,11 +155,11 @@ module _ (s : ScriptData) (zs : List Place) (p x k n : ℕ) (v : Version) (a e :
         by : w.0 ≡ v.0 → (h.place < a) ⊎ (a ≤ h.place) → (a < h.place) ⊎ (h.place ≤ a) → ActBelow (applies q.0) zs p a
         by same (inl lt) d =
             let f = applied_between s zs p x q.0 q.1 k n h.place a g.rules.acts (ne_eqb q.0 k (not_itself q.0 first)) h.at h.on g.voted g.on
-            (ap (modes_conflict (lock_mode_of g.on.op.deed)) (held_by h.on.op.deed h.over) ∙ hold_right (lock_mode_of g.on.op.deed)) lt in
+            (ap (modes_conflict (mode_wanted g.on.op.deed)) (held_by h.on.op.deed h.over) ∙ hold_right (mode_wanted g.on.op.deed)) lt in
             record { place = f.place; below = f.before; at = f.at }
         by same (inr ge) (inl gt) =
             let f = applied_between s zs p x k n q.0 q.1 a h.place g.rules.acts (ne_eqb k q.0 (λ is. not_itself q.0 first (sym is))) g.voted g.on h.at h.on
-            (ap (λ m. modes_conflict m (lock_mode_of g.on.op.deed)) (held_by h.on.op.deed h.over) ∙ hold_left (lock_mode_of g.on.op.deed)) gt in
+            (ap (λ m. modes_conflict m (mode_wanted g.on.op.deed)) (held_by h.on.op.deed h.over) ∙ hold_left (mode_wanted g.on.op.deed)) gt in
             let after = applied_after f.place f.at in
             absurd (not_after q.0 w c same first
             (there_from (closes_tree s q.0) zs i (e + 1) (record { node = home; act = decided.act }) decided.is

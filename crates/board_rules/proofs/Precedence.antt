@@ -15,7 +15,8 @@ use Rattle.board_rules.specs.Histories.{Place, applies, decides_as, does, is_str
 use Rattle.nc_locks.specs.Modes.{modes_conflict}
 use Rattle.nc_locks.specs.declared.modes.Mode.{Mode}
 use Rattle.nc_locks.specs.declared.modes.Mode.TheVariants.{Mark, Look, Hold}
-use Rattle.board_rules.specs.Stands.{conflict_of, frees, lock_mode_of, locked_by, newer_of, newest_of, overwrites, version_or_zero, votes_yes, written_by, written_in}
+use Rattle.nc_locks.specs.Wants.{mode_wanted}
+use Rattle.board_rules.specs.Stands.{conflict_of, frees, locked_by, newer_of, newest_of, overwrites, version_or_zero, votes_yes, written_by, written_in}
 use Rattle.board_rules.specs.Worth.{changes, ops_change}
 use Rattle.board_rules.proofs.ActTests.{applies_as, applies_as_one, does_is, releases, votes_yes_is}
 use Rattle.board_rules.proofs.Once.{clash}
@@ -108,13 +109,13 @@ turned Mark is = is
 turned Look is = refl
 turned Hold is = refl
 
-pub overwritten : (d : Deed) → changes d ≡ true → modes_conflict Mark (lock_mode_of d) ≡ true → overwrites d ≡ true
+pub overwritten : (d : Deed) → changes d ≡ true → modes_conflict Mark (mode_wanted d) ≡ true → overwrites d ≡ true
 overwritten (Apply op) c m = absurd (cc m)
 overwritten Get c m = absurd (cc c)
 overwritten (Set n) c m = refl
 overwritten (Draw n) c m = refl
 
-pub held_by : (d : Deed) → overwrites d ≡ true → lock_mode_of d ≡ Hold
+pub held_by : (d : Deed) → overwrites d ≡ true → mode_wanted d ≡ Hold
 held_by (Apply op) is = absurd (cc is)
 held_by Get is = absurd (cc is)
 held_by (Set n) is = refl
@@ -205,9 +206,9 @@ pub freed_where_free : (s : ScriptData) (zs : List Place) (p x t j k n i a : ℕ
     → is_strict_tree s k ≡ true → conflict_of s (take a zs) p k (ops_of s k n) ≡ None → OpOn x (ops_of s k n) → i < a
     → ActBetween (frees t) zs p i a
 freed_where_free s zs p x t j k n i a acts item up did u strict free o lt =
-    let mark : lock_mode_of u.op.deed ≡ Mark = item.marks t j u.index u.op up u.is in
-    let against : modes_conflict (lock_mode_of o.op.deed) (lock_mode_of u.op.deed) ≡ true =
-    ap (modes_conflict (lock_mode_of o.op.deed)) mark ∙ turned (lock_mode_of o.op.deed) (item.strict k n o.index o.op strict o.is) in
+    let mark : mode_wanted u.op.deed ≡ Mark = item.marks t j u.index u.op up u.is in
+    let against : modes_conflict (mode_wanted o.op.deed) (mode_wanted u.op.deed) ≡ true =
+    ap (modes_conflict (mode_wanted o.op.deed)) mark ∙ turned (mode_wanted o.op.deed) (item.strict k n o.index o.op strict o.is) in
     let g = gone_between zs p t i a (let_go_between s zs p x t k i a (record { node = p; act = did.act }) (ops_of s t j) (ops_of s k n) u o
     did.is (did_locks s t j did.act up did.passes) (did_stays p t t j did.act did.passes) lt free against
     (update_apart s t k up strict) (updates_there s t up)) in
@@ -239,9 +240,9 @@ pub applied_before : (s : ScriptData) (zs : List Place) (p x t j k n i a : ℕ) 
 applied_before s zs p x t j k n i a acts item up did u voted o lt =
     let y = yes_vote s zs a p k n acts voted in
     let d = deed s zs i p t j acts did in
-    let mark : lock_mode_of u.op.deed ≡ Mark = item.marks t j u.index u.op up u.is in
-    let against : modes_conflict (lock_mode_of u.op.deed) (lock_mode_of o.op.deed) ≡ true =
-    ap (λ m. modes_conflict m (lock_mode_of o.op.deed)) mark ∙ item.strict k n o.index o.op y.strict o.is in
+    let mark : mode_wanted u.op.deed ≡ Mark = item.marks t j u.index u.op up u.is in
+    let against : modes_conflict (mode_wanted u.op.deed) (mode_wanted o.op.deed) ≡ true =
+    ap (λ m. modes_conflict m (mode_wanted o.op.deed)) mark ∙ item.strict k n o.index o.op y.strict o.is in
     let g = gone_between zs p k a i (let_go_between s zs p x k t a i (record { node = p; act = voted.act }) (ops_of s k n) (ops_of s t j) o u
     voted.is (vote_locks s k n voted.act voted.passes) (vote_stays p k k n voted.act voted.passes) lt (d.free up) against
     (strict_apart s t k up y.strict) (strict_there s k y.strict)) in
@@ -251,7 +252,7 @@ applied_before s zs p x t j k n i a acts item up did u voted o lt =
 -- was applied between; so where k votes yes
 pub applied_where_free : (s : ScriptData) (zs : List Place) (p x t j k n a b : ℕ) → AreByRule s zs → (t == k) ≡ false
     → ActAt (votes_yes t j) zs a p → (u : OpOn x (ops_of s t j)) → conflict_of s (take b zs) p k (ops_of s k n) ≡ None
-    → (o : OpOn x (ops_of s k n)) → modes_conflict (lock_mode_of o.op.deed) (lock_mode_of u.op.deed) ≡ true → a < b
+    → (o : OpOn x (ops_of s k n)) → modes_conflict (mode_wanted o.op.deed) (mode_wanted u.op.deed) ≡ true → a < b
     → ActBetween (applies t) zs p a b
 applied_where_free s zs p x t j k n a b acts other one u free o against lt =
     let y = yes_vote s zs a p t j acts one in
@@ -261,7 +262,7 @@ applied_where_free s zs p x t j k n a b acts other one u free o against lt =
 
 pub applied_between : (s : ScriptData) (zs : List Place) (p x t j k n a b : ℕ) → AreByRule s zs → (t == k) ≡ false
     → ActAt (votes_yes t j) zs a p → (u : OpOn x (ops_of s t j)) → ActAt (votes_yes k n) zs b p → (o : OpOn x (ops_of s k n))
-    → modes_conflict (lock_mode_of o.op.deed) (lock_mode_of u.op.deed) ≡ true → a < b → ActBetween (applies t) zs p a b
+    → modes_conflict (mode_wanted o.op.deed) (mode_wanted u.op.deed) ≡ true → a < b → ActBetween (applies t) zs p a b
 applied_between s zs p x t j k n a b acts other one u two o against lt =
     applied_where_free s zs p x t j k n a b acts other one u (yes_vote s zs b p k n acts two).free o against lt
 

@@ -16,20 +16,11 @@ use Rattle.letter_types.specs.declared.votes.Vote.TheVariants.{Yes, No}
 pub use Rattle.script_parts.specs.Deeds.{found_short, overwrites}
 use Rattle.nc_locks.specs.Modes.{modes_conflict}
 use Rattle.nc_locks.specs.declared.modes.Mode.{Mode}
-use Rattle.nc_locks.specs.declared.modes.Mode.TheVariants.{Mark, Look, Hold}
+use Rattle.nc_locks.specs.Wants.{mode_wanted}
 use Rattle.script_parts.specs.ScriptData.{ScriptData, ops_of, subs_at, updates}
-use Rattle.script_parts.specs.declared.parts.Deed.{Deed}
-use Rattle.script_parts.specs.declared.parts.Deed.TheVariants as deeds
 use Rattle.script_parts.specs.declared.parts.SubOp.{SubOp}
 use Rattle.board_rules.specs.Histories.{Place, applies, version_in}
 use Rattle.board_rules.specs.Worth.{ops_change, subs_change, worth}
-
--- how a tree has an item: marked by a commuting operation, looked at by a get, held by a set or a draw
-abbrev pub lock_mode_of : Deed → Mode
-lock_mode_of (deeds.Apply op) = Mark
-lock_mode_of deeds.Get = Look
-lock_mode_of (deeds.Set n) = Hold
-lock_mode_of (deeds.Draw n) = Hold
 
 -- the operations whose locks the act takes for tree k: those that an update tree has done, and those that a strict tree
 -- has voted yes for; a read tree takes none
@@ -48,7 +39,7 @@ was_freed t p xs = list_any (λ (x : Place). (x.node == p) && frees t x.act) xs
 
 -- the modes on item x among those of these operations
 abbrev pub modes_on : ℕ → List SubOp → List Mode
-modes_on x os = map (λ (o : SubOp). lock_mode_of o.deed) (filter (λ (o : SubOp). o.item.0 == x) os)
+modes_on x os = map (λ (o : SubOp). mode_wanted o.deed) (filter (λ (o : SubOp). o.item.0 == x) os)
 
 -- the modes in which tree k has item x, which is at node p, after an act and after these acts: what it has at its node
 -- goes with its marks, and where what was decided of it is applied
@@ -81,7 +72,7 @@ conflict_with x (Some k) = Some (Conflict x (record { 0 = k }))
 abbrev pub conflict_of : ScriptData → List Place → ℕ → ℕ → List SubOp → Option Cause
 conflict_of s xs p t [] = None
 conflict_of s xs p t (o ∷ os) =
-    option_or (conflict_with o.item (holder_of s xs p t o.item.0 (lock_mode_of o.deed))) (conflict_of s xs p t os)
+    option_or (conflict_with o.item (holder_of s xs p t o.item.0 (mode_wanted o.deed))) (conflict_of s xs p t os)
 
 -- the version of the tree by whose act item x was written, else 0: an update tree's Did writes, and the Applied of a
 -- commit at the item's node

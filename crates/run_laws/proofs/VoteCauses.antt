@@ -22,6 +22,7 @@ use Rattle.item_versions.specs.Table.{Table, item_in}
 use Rattle.item_versions.proofs.Holding.{IsHeld-item_in}
 use Rattle.item_versions.proofs.Window.{AllUpTo}
 use Rattle.nc_locks.specs.Locks.{met_in}
+use Rattle.nc_locks.specs.Wants.{wanted_by}
 use Rattle.script_parts.specs.Deeds.{found_short, overwrites}
 use Rattle.script_parts.specs.declared.parts.SubOp.{SubOp}
 use Rattle.script_parts.specs.declared.parts.TreeKind.TheVariants.{Strict}
@@ -34,7 +35,7 @@ use Rattle.world_model.specs.Notices.{act_of}
 use Rattle.world_model.specs.Reads.{gets, seen_in}
 use Rattle.world_model.specs.Runs.{IsStepRun, keeping_in, node_in}
 use Rattle.world_model.specs.Strict.{notice_by}
-use Rattle.world_model.specs.Votes.{cause_in, conflict_by, greatest_version, newer_by, newer_in, short_at, short_in, voted, wanted_by}
+use Rattle.world_model.specs.Votes.{cause_in, conflict_by, greatest_version, newer_by, newer_in, short_at, short_in, voted}
 use Rattle.world_model.proofs.Bags.{one_if_both}
 use Rattle.board_rules.specs.Histories.{Place, places_at, version_in}
 use Rattle.board_rules.specs.Stands.{cause_of, conflict_of, newer_of, newest_of, short_of, version_or_zero}

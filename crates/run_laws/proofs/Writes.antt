@@ -27,6 +27,7 @@ use Rattle.script_parts.specs.ScriptData.{ScriptData, node_of, ops_of, sub_at, s
 use Rattle.script_parts.specs.Valid.{IsValid}
 use Rattle.nc_locks.specs.declared.modes.Mode.TheVariants.{Mark}
 use Rattle.nc_locks.specs.Modes.{modes_conflict}
+use Rattle.nc_locks.specs.Wants.{mode_wanted}
 use Rattle.world_model.specs.Asked.{asked_version}
 use Rattle.world_model.specs.Core.{Core}
 use Rattle.world_model.specs.Decisions.{applied_in, ops_at}
@@ -39,7 +40,7 @@ use Rattle.world_model.proofs.Cases.{Case, Coordinates, NodeDoes, NodeKeeps, Sub
 use Rattle.world_model.proofs.Keepings.{of_kept}
 use Rattle.world_model.proofs.Outstanding.{keeping_elsewhere}
 use Rattle.board_rules.specs.Histories.{Place, is_strict_tree, places_at, version_in}
-use Rattle.board_rules.specs.Stands.{lock_mode_of, version_or_zero, written_by, written_in}
+use Rattle.board_rules.specs.Stands.{version_or_zero, written_by, written_in}
 use Rattle.board_rules.specs.Worth.{changes, ops_change, subs_change}
 use Rattle.board_rules.proofs.ItemAt.{item_at, marks_it, holds_it}
 use Rattle.board_rules.proofs.Places.{version_stays, places_more}
@@ -205,7 +206,7 @@ strict_append : (os more : List SubOp) → AreStrict os → AreStrict more → A
 strict_append [] more a b = b
 strict_append (o ∷ os) more a b = (a.0, strict_append os more a.1 b)
 
-strict_list : (os : List SubOp) → ((i : ℕ) (o : SubOp) → slice_get os i ≡ Some o → modes_conflict Mark (lock_mode_of o.deed) ≡ true) → AreStrict os
+strict_list : (os : List SubOp) → ((i : ℕ) (o : SubOp) → slice_get os i ≡ Some o → modes_conflict Mark (mode_wanted o.deed) ≡ true) → AreStrict os
 strict_list [] each = tt
 strict_list (o ∷ os) each = (each 0 o refl, strict_list os (λ i q is. each (suc i) q is))
 

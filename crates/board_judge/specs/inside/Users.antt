@@ -8,13 +8,14 @@ use Rattle.letter_types.specs.declared.votes.Cause.TheVariants.{Newer}
 use Rattle.nc_locks.specs.Modes.{modes_conflict}
 use Rattle.nc_locks.specs.declared.modes.Mode.{Mode}
 use Rattle.nc_locks.specs.declared.modes.Mode.TheVariants.{Mark, Look, Hold}
+use Rattle.nc_locks.specs.Wants.{mode_wanted}
 use Rattle.script_parts.specs.ScriptData.{ScriptData, is_strict, is_update, updates}
 use Rattle.script_parts.specs.declared.parts.Sub.{Sub}
 use Rattle.script_parts.specs.declared.parts.SubOp.{SubOp}
 use Rattle.script_parts.specs.declared.parts.Tree.{Tree}
 use Rattle.script_parts.specs.declared.parts.TreeKind.{TreeKind}
 use Rattle.board_rules.specs.Histories.{Place, version_in, was_applied, was_decided_as, was_done}
-use Rattle.board_rules.specs.Stands.{lock_mode_of, modes_on, newest_of, overwrites, version_or_zero, voted_yes, was_freed}
+use Rattle.board_rules.specs.Stands.{modes_on, newest_of, overwrites, version_or_zero, voted_yes, was_freed}
 use Rattle.board_judge.specs.declared.users.User.{User}
 
 -- subtransaction j of tree k has taken its items: an update tree's was done, or it has voted yes
@@ -29,7 +30,7 @@ any_taken s xs x k test j (sub ∷ subs) =
 
 -- the operations of a script's trees of a kind on item x, in order of trees, subtransactions and operations
 abbrev pub user_of : ℕ → ℕ → SubOp → User
-user_of t j o = record { tree = record { 0 = t }; sub = record { 0 = j }; mode = lock_mode_of o.deed }
+user_of t j o = record { tree = record { 0 = t }; sub = record { 0 = j }; mode = mode_wanted o.deed }
 
 abbrev pub ops_users : ℕ → ℕ → ℕ → List SubOp → List User
 ops_users t j x [] = []
