@@ -21,10 +21,6 @@ use Rattle.history_text.specs.TreeNames.{got_text}
 use Rattle.history_text.specs.Values.{value_text}
 use Rattle.report_text.specs.Parts.{version_text}
 
--- how many advancements a script asks for
-abbrev pub advances : ScriptData → ℕ
-advances s = advances_in s.rows
-
 -- the mark of a tree that is undone
 abbrev pub undone_mark : Option Written → List ℕ
 undone_mark None = []
@@ -86,4 +82,6 @@ items_text s h a x (row ∷ rows) =
 
 -- trees in the script's order, then nodes by number, then items in the script's order
 abbrev pub report_of : ScriptData → List Entry → List ℕ
-report_of s h = trees_text s h 0 s.trees ++ (nodes_text (advances s) s.nodes ++ items_text s h (advances s) 0 s.items)
+report_of s h =
+    trees_text s h 0 s.trees
+    ++ (nodes_text (advances_in s.rows) s.nodes ++ items_text s h (advances_in s.rows) 0 s.items)
