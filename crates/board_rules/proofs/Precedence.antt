@@ -11,12 +11,12 @@ use Rattle.script_parts.specs.ScriptData.{ScriptData, node_of, ops_of, subs_at, 
 use Rattle.script_parts.specs.declared.parts.Deed.{Deed}
 use Rattle.script_parts.specs.declared.parts.Deed.TheVariants.{Apply, Get, Set, Draw}
 use Rattle.script_parts.specs.declared.parts.SubOp.{SubOp}
-use Rattle.board_rules.specs.Histories.{Place, applies, decides_as, does, is_strict_tree, is_whole_in, version_in, was_applied}
+use Rattle.board_rules.specs.Histories.{Place, applies, decides_as, does, is_strict_tree, is_whole_in, version_in, version_or, was_applied}
 use Rattle.nc_locks.specs.Modes.{modes_conflict}
 use Rattle.nc_locks.specs.declared.modes.Mode.{Mode}
 use Rattle.nc_locks.specs.declared.modes.Mode.TheVariants.{Mark, Look, Hold}
 use Rattle.nc_locks.specs.Wants.{mode_wanted}
-use Rattle.board_rules.specs.Stands.{conflict_of, frees, locked_by, newer_of, newest_of, overwrites, version_or_zero, votes_yes, written_by, written_in}
+use Rattle.board_rules.specs.Stands.{conflict_of, frees, locked_by, newer_of, newest_of, overwrites, votes_yes, written_by, written_in}
 use Rattle.board_rules.specs.Worth.{changes, ops_change}
 use Rattle.board_rules.proofs.ActTests.{applies_as, applies_as_one, does_is, releases, votes_yes_is}
 use Rattle.board_rules.proofs.Once.{clash}
@@ -333,10 +333,10 @@ none_newer s xs p v (suc i) o (y ∷ os) none is over =
       rest false h = h
 
 did_wrote : (s : ScriptData) (xs : List Place) (p q x t j : ℕ) (a : Act) → updates s t ≡ true → ops_change x (ops_of s t j) ≡ true
-    → does t j a ≡ true → written_in s xs p x (record { node = q; act = a }) ≡ version_or_zero (version_in t xs)
+    → does t j a ≡ true → written_in s xs p x (record { node = q; act = a }) ≡ version_or 0 (version_in t xs)
 did_wrote s xs p q x t j a up changes_x is =
     ap (written_by s xs x (q == p)) (does_is t j a is).1
-    ∙ choose (updates s t && ops_change x (ops_of s t j)) (version_or_zero (version_in t xs)) 0
+    ∙ choose (updates s t && ops_change x (ops_of s t j)) (version_or 0 (version_in t xs)) 0
     (and_from (updates s t) (ops_change x (ops_of s t j)) up changes_x)
 
 pub none_later : (s : ScriptData) (zs : List Place) (p q x t j k n i a : ℕ) (w v : Version) → AreByRule s zs → updates s t ≡ true
@@ -352,13 +352,13 @@ none_later s zs p q x t j k n i a w v acts up did changes_x voted o over lt one 
     let ek : vk.0.0 ≡ v.0 = same_version vk.0 v (sym (version_more k a vk.0 zs vk.1) ∙ two) in
     let et : vt.0.0 ≡ w.0 = same_version vt.0 w (sym (version_more t i vt.0 zs vt.1) ∙ one) in
     let le : i ≤ a = omega (arith, lt) in
-    let known : version_or_zero (version_in t xs) ≡ vt.0.0 = ap version_or_zero (version_later t i a vt.0 zs le vt.1) in
+    let known : version_or 0 (version_in t xs) ≡ vt.0.0 = ap (version_or 0) (version_later t i a vt.0 zs le vt.1) in
     let wrote = did_wrote s xs p q x t j did.act up changes_x did.passes in
     let most : written_in s xs p x (record { node = q; act = did.act }) ≤ newest_of s xs p x
     = fold_at (λ (z : Place). written_in s xs p x z) i a 0 (record { node = q; act = did.act }) zs did.is lt in
-    let least = none_newer s xs p (version_or_zero (version_in k xs)) o.index o.op (ops_of s k n) y.newest o.is over in
+    let least = none_newer s xs p (version_or 0 (version_in k xs)) o.index o.op (ops_of s k n) y.newest o.is over in
     let item : newest_of s xs p o.op.item.0 ≡ newest_of s xs p x = ap (newest_of s xs p) (eqb-true o.op.item.0 x o.on) in
-    let mine : version_or_zero (version_in k xs) ≡ vk.0.0 = ap version_or_zero vk.1 in
+    let mine : version_or 0 (version_in k xs) ≡ vk.0.0 = ap (version_or 0) vk.1 in
     omega (arith, ek, et, known, wrote, most, least, item, mine) where
       same_version : (b c : Version) → Some b ≡ Some c → b.0 ≡ c.0
       same_version b c is = let same : b ≡ c = cc is in ap (λ (z : Version). z.0) same

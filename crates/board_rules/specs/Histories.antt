@@ -33,6 +33,11 @@ abbrev pub version_in : ℕ → List Place → Option Version
 version_in t [] = None
 version_in t (x ∷ xs) = option_or (born_as t x.act) (version_in t xs)
 
+-- the number of a version, or n where there is none
+abbrev pub version_or : ℕ → Option Version → ℕ
+version_or n None = n
+version_or n (Some v) = v.0
+
 -- the version of tree t in a history; an unborn tree has none
 abbrev pub version_of : List Entry → ℕ → Option Version
 version_of h t = version_in t (places_of h)

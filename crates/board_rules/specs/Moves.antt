@@ -9,7 +9,7 @@ use Rattle.letter_types.specs.declared.entries.Entry.{Entry}
 use Rattle.letter_types.specs.declared.votes.Vote.{Vote}
 use Rattle.script_parts.specs.ScriptData.{ScriptData, home_of, node_of, ops_of, reads, sub_at, subs_at, updates, visits}
 use Rattle.script_parts.specs.declared.parts.Sub.{Sub}
-use Rattle.board_rules.specs.Histories.{Place, is_strict_tree, is_whole_in, places_at, places_of, version_in, was_applied, was_born, was_decided_as, was_done}
+use Rattle.board_rules.specs.Histories.{Place, is_strict_tree, is_whole_in, places_at, places_of, version_in, version_or, was_applied, was_born, was_decided_as, was_done}
 use Rattle.board_rules.specs.Stands.{cause_of, refusal_in, voted_yes, was_freed, was_voted}
 
 -- The numbers of a node: 1, 0 and 0 at first, and then what its last act of the kind says.
@@ -26,10 +26,6 @@ showed_to _ = None
 abbrev pub swept_to : Act → Option Version
 swept_to (Swept v) = Some v
 swept_to _ = None
-
-abbrev pub version_or : ℕ → Option Version → ℕ
-version_or n None = n
-version_or n (Some v) = v.0
 
 -- node p's number after an act
 abbrev pub number_after : (Act → Option Version) → ℕ → ℕ → Place → ℕ

@@ -4,7 +4,6 @@ use Rattle.std.specs.Prelude.{if◌then◌else◌, ℕ, zero, suc, Bool, false, 
 use Rattle.std.specs.List.{list_any}
 use Rattle.std.specs.Option.{option_or}
 use Rattle.tv_base.specs.declared.numbers.ItemNo.{ItemNo}
-use Rattle.tv_base.specs.declared.numbers.Version.{Version}
 use Rattle.letter_types.specs.declared.acts.Act.{Act}
 use Rattle.letter_types.specs.declared.acts.Act.TheVariants.{Did, Voted, Freed, Applied}
 use Rattle.letter_types.specs.declared.entries.Entry.{Entry}
@@ -19,7 +18,7 @@ use Rattle.nc_locks.specs.declared.modes.Mode.{Mode}
 use Rattle.nc_locks.specs.Wants.{mode_wanted}
 use Rattle.script_parts.specs.ScriptData.{ScriptData, ops_of, subs_at, updates}
 use Rattle.script_parts.specs.declared.parts.SubOp.{SubOp}
-use Rattle.board_rules.specs.Histories.{Place, applies, version_in}
+use Rattle.board_rules.specs.Histories.{Place, applies, version_in, version_or}
 use Rattle.board_rules.specs.Worth.{ops_change, subs_change, worth}
 
 -- the operations whose locks the act takes for tree k: those that an update tree has done, and those that a strict tree
@@ -76,15 +75,11 @@ conflict_of s xs p t (o ∷ os) =
 
 -- the version of the tree by whose act item x was written, else 0: an update tree's Did writes, and the Applied of a
 -- commit at the item's node
-abbrev pub version_or_zero : Option Version → ℕ
-version_or_zero None = 0
-version_or_zero (Some v) = v.0
-
 abbrev pub written_by : ScriptData → List Place → ℕ → Bool → Act → ℕ
 written_by s xs x here (Did t j values) =
-    if updates s t.0 && ops_change x (ops_of s t.0 j.0) then version_or_zero (version_in t.0 xs) else 0
+    if updates s t.0 && ops_change x (ops_of s t.0 j.0) then version_or 0 (version_in t.0 xs) else 0
 written_by s xs x here (Applied t commit) =
-    if here && (commit && subs_change x (subs_at s t.0)) then version_or_zero (version_in t.0 xs) else 0
+    if here && (commit && subs_change x (subs_at s t.0)) then version_or 0 (version_in t.0 xs) else 0
 written_by s xs x here _ = 0
 
 abbrev pub written_in : ScriptData → List Place → ℕ → ℕ → Place → ℕ
@@ -113,7 +108,7 @@ cause_at s before xs p t v os =
     option_or (conflict_of s xs p t os) (option_or (newer_of s xs p v os) (short_of s before v os))
 
 abbrev pub cause_of : ScriptData → List Entry → List Place → ℕ → ℕ → List SubOp → Option Cause
-cause_of s before xs p t os = cause_at s before xs p t (version_or_zero (version_in t xs)) os
+cause_of s before xs p t os = cause_at s before xs p t (version_or 0 (version_in t xs)) os
 
 -- the cause that a vote names
 abbrev pub refusal_in : Vote → Option Cause

@@ -16,8 +16,8 @@ use Rattle.letter_types.specs.declared.entries.Entry.{Entry}
 use Rattle.script_parts.specs.ScriptData.{ScriptData}
 use Rattle.board_rules.specs.ButCause.{IsMoveButCauseAt}
 use Rattle.board_rules.specs.Gates.{was_swept}
-use Rattle.board_rules.specs.Histories.{Place}
-use Rattle.board_rules.specs.Moves.{low_after, number_after, showed_to, swept_to, turned_to, version_or}
+use Rattle.board_rules.specs.Histories.{Place, version_or}
+use Rattle.board_rules.specs.Moves.{low_after, number_after, showed_to, swept_to, turned_to}
 use Rattle.board_rules.specs.Serial.{is_version}
 use Rattle.board_tallies.specs.Board.{ShowsNode, first_numbers, numbers_at}
 use Rattle.board_tallies.specs.inside.Noting.{nodes_with, numbers_with}

@@ -34,8 +34,8 @@ use Rattle.world_model.specs.Named.{is_strict_at, tree_kind_at}
 use Rattle.world_model.specs.Runs.{IsStepRun, keeping_in, node_in}
 use Rattle.world_model.specs.Votes.{cause_in, conflict_by, newer_at, newer_by, newer_in, short_in}
 use Rattle.world_model.proofs.Bags.{one_if_both}
-use Rattle.board_rules.specs.Histories.{Place, places_at, version_in}
-use Rattle.board_rules.specs.Stands.{conflict_of, newer_of, newest_of, version_or_zero, written_in}
+use Rattle.board_rules.specs.Histories.{Place, places_at, version_in, version_or}
+use Rattle.board_rules.specs.Stands.{conflict_of, newer_of, newest_of, written_in}
 use Rattle.board_rules.proofs.ItemAt.{op_row}
 use Rattle.board_rules.proofs.Places.{version_stays}
 use Rattle.board_rules.specs.Rules.{IsFreeVote}
@@ -191,6 +191,6 @@ yes_by_rule s past e j p r t k values g asks of at free none =
       once = not_voted t.0 k.0 (front past e j) (turn_once s past e j (acts.Voted t k (Yes values)) t.0 k.0 there.at g.valid g.run at own);
       node = there.node ∙ sym g.does.brings.at;
       free = conflict_front s past e j e.actor.0 t.0 os none ∙ ap (λ (q : ℕ). conflict_of s (before past) q t.0 os) g.does.brings.at ∙ met;
-      newest = ap (λ (q : ℕ). newer_of s (front past e j) q (version_or_zero (version_in t.0 (front past e j))) os) g.does.brings.at
-          ∙ ap (λ (o : Option Version). newer_of s (front past e j) p (version_or_zero o) os) version ∙ newer;
+      newest = ap (λ (q : ℕ). newer_of s (front past e j) q (version_or 0 (version_in t.0 (front past e j))) os) g.does.brings.at
+          ∙ ap (λ (o : Option Version). newer_of s (front past e j) p (version_or 0 o) os) version ∙ newer;
     }

@@ -14,8 +14,8 @@ use Rattle.script_parts.specs.declared.parts.Sub.{Sub}
 use Rattle.script_parts.specs.declared.parts.SubOp.{SubOp}
 use Rattle.script_parts.specs.declared.parts.Tree.{Tree}
 use Rattle.script_parts.specs.declared.parts.TreeKind.{TreeKind}
-use Rattle.board_rules.specs.Histories.{Place, version_in, was_applied, was_decided_as, was_done}
-use Rattle.board_rules.specs.Stands.{modes_on, newest_of, overwrites, version_or_zero, voted_yes, was_freed}
+use Rattle.board_rules.specs.Histories.{Place, version_in, version_or, was_applied, was_decided_as, was_done}
+use Rattle.board_rules.specs.Stands.{modes_on, newest_of, overwrites, voted_yes, was_freed}
 use Rattle.board_judge.specs.declared.users.User.{User}
 
 -- subtransaction j of tree k has taken its items: an update tree's was done, or it has voted yes
@@ -100,7 +100,7 @@ has_written s xs p u =
 
 -- the greatest version of a tree whose operation has written
 abbrev pub version_by : List Place → User → ℕ
-version_by xs u = version_or_zero (version_in u.tree.0 xs)
+version_by xs u = version_or 0 (version_in u.tree.0 xs)
 
 abbrev pub newest_by : ScriptData → List Place → ℕ → List User → ℕ
 newest_by s xs p [] = 0
