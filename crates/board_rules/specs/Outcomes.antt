@@ -1,6 +1,6 @@
 -- How a tree comes out, by acts: what its subtransactions did and voted, what was decided of it, and what it gives.
 use Rattle.std.specs.Prelude.{if◌then◌else◌, ℕ, ◌+◌, Bool, ◌==◌, ◌&&◌, List, [], ◌∷◌, ◌++◌, map, Option, Some, None}
-use Rattle.std.specs.Option.{option_or}
+use Rattle.std.specs.Option.{option_and_then, option_map_or, option_or, unwrap_or}
 use Rattle.tv_base.specs.declared.numbers.ItemNo.{ItemNo}
 use Rattle.commute_ops.specs.declared.value.Value.{Value}
 use Rattle.letter_types.specs.declared.acts.Act.{Act}
@@ -46,37 +46,22 @@ abbrev pub decision_in : ℕ → List Act → Option Bool
 decision_in t [] = None
 decision_in t (a ∷ acts) = option_or (decision_by t a) (decision_in t acts)
 
--- values that may not be there
-abbrev pub did_values : Option (List (ItemNo × Value)) → List (ItemNo × Value)
-did_values None = []
-did_values (Some values) = values
-
 -- the values of the Dids of tree t in these acts, by subtransaction, where the list begins with subtransaction k
 abbrev pub did_from : List Act → ℕ → ℕ → List Sub → List (ItemNo × Value)
 did_from acts t k [] = []
-did_from acts t k (sub ∷ subs) = did_values (did_in t k acts) ++ did_from acts t (k + 1) subs
+did_from acts t k (sub ∷ subs) = unwrap_or (did_in t k acts) [] ++ did_from acts t (k + 1) subs
 
 -- the values that a vote gives
 abbrev pub got_of : Vote → List (ItemNo × Value)
 got_of (Yes values) = values
 got_of (No cause) = []
 
--- the same of a vote that may not be there
-abbrev pub got_by : Option Vote → List (ItemNo × Value)
-got_by None = []
-got_by (Some vote) = got_of vote
-
 -- the values of the yes votes of tree t in these acts, by subtransaction, where the list begins with subtransaction k
 abbrev pub got_from : List Act → ℕ → ℕ → List Sub → List (ItemNo × Value)
 got_from acts t k [] = []
-got_from acts t k (sub ∷ subs) = got_by (vote_in t k acts) ++ got_from acts t (k + 1) subs
-
--- the cause that a vote names, which may not be there
-abbrev pub cause_by : Option Vote → Option Cause
-cause_by None = None
-cause_by (Some vote) = refusal_in vote
+got_from acts t k (sub ∷ subs) = option_map_or got_of (vote_in t k acts) [] ++ got_from acts t (k + 1) subs
 
 -- the cause of the first of these subtransactions that votes no
 abbrev pub cause_from : List Act → ℕ → ℕ → List Sub → Option Cause
 cause_from acts t k [] = None
-cause_from acts t k (sub ∷ subs) = option_or (cause_by (vote_in t k acts)) (cause_from acts t (k + 1) subs)
+cause_from acts t k (sub ∷ subs) = option_or (option_and_then refusal_in (vote_in t k acts)) (cause_from acts t (k + 1) subs)
