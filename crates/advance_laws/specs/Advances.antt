@@ -1,7 +1,7 @@
 -- Where the advancements are that the client has asked for.
 use Rattle.std.specs.Prelude.{ℕ, ◌+◌, ◌*◌, ◌≤◌, ◌≡◌, List, length, take}
 use Rattle.letter_types.specs.declared.bodies.Body.{Body}
-use Rattle.letter_types.specs.declared.bodies.Body.TheVariants.{Go, Advance, Advanced}
+use Rattle.letter_types.specs.declared.bodies.Body.TheVariants.{Advance, Advanced}
 use Rattle.letter_types.specs.declared.entries.Entry.{Entry}
 use Rattle.tx_trees.specs.Counts.{advances_in}
 use Rattle.tx_trees.specs.ScriptData.{ScriptData}
@@ -18,13 +18,11 @@ running _ = 1
 -- the letters that ask for an advancement
 abbrev pub is_advance_letter : Body → ℕ
 is_advance_letter Advance = 1
-is_advance_letter Go = 0
 is_advance_letter _ = 0
 
 -- the letters that tell that one has ended
 abbrev pub is_advanced : Body → ℕ
 is_advanced (Advanced v) = 1
-is_advanced Go = 0
 is_advanced _ = 0
 
 -- how many advancements the client has asked for

@@ -1,7 +1,7 @@
 -- Requests, completions and the counted letters between them.
 use Rattle.std.specs.Prelude.{ℕ, Bool, false, ◌==◌, ◌&&◌, ◌+◌, ◌<◌, ◌≤◌, ◌≡◌, ◌⊎◌, List}
 use Rattle.letter_types.specs.declared.bodies.Body.{Body}
-use Rattle.letter_types.specs.declared.bodies.Body.TheVariants.{Go, Sub, Done, Decide, Decided}
+use Rattle.letter_types.specs.declared.bodies.Body.TheVariants.{Sub, Done, Decide, Decided}
 use Rattle.letter_types.specs.declared.entries.Entry.{Entry}
 use Rattle.letter_types.specs.declared.entries.Letter.{Letter}
 use Rattle.tx_trees.specs.ScriptData.{ScriptData}
@@ -16,7 +16,6 @@ version_is v (Sub t k w) = w.0 == v
 version_is v (Done t k w notice) = w.0 == v
 version_is v (Decide t w commit) = w.0 == v
 version_is v (Decided t w) = w.0 == v
-version_is v Go = false
 version_is v _ = false
 
 -- 1 for a counted letter of version v from p to q

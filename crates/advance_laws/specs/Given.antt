@@ -1,7 +1,7 @@
 -- The greatest versions of which orders were sent so far, whatever became of them.
 use Rattle.std.specs.Prelude.{ℕ, ◌+◌, ◌<◌, ◌≤◌, ◌≡◌, ◌⊎◌, max, List, [], ◌∷◌}
 use Rattle.letter_types.specs.declared.bodies.Body.{Body}
-use Rattle.letter_types.specs.declared.bodies.Body.TheVariants.{Go, Turn, Show, Sweep, Order}
+use Rattle.letter_types.specs.declared.bodies.Body.TheVariants.{Turn, Show, Sweep, Order}
 use Rattle.letter_types.specs.declared.bodies.What.TheVariants as whats
 use Rattle.letter_types.specs.declared.entries.Entry.{Entry}
 use Rattle.letter_types.specs.declared.entries.Outgoing.{Outgoing}
@@ -51,7 +51,6 @@ IsGivenAnew s past (Show v) = IsShownAnew s past v.0
 IsGivenAnew s past (Sweep v) = IsSweptAnew s past v.0
 IsGivenAnew s past (Order e whats.Show v) = IsShownAnew s past v.0
 IsGivenAnew s past (Order e whats.Sweep v) = IsSweptAnew s past v.0
-IsGivenAnew s past Go = Unit {0}
 IsGivenAnew s past _ = Unit {0}
 
 -- two nodes are never far apart: the one updates at most two versions above what the other keeps, reads a version below the one

@@ -1,5 +1,5 @@
 -- What a node sees of its items, and why its subtransactions vote no, is of the script.
-use Rattle.std.proofs.Common.{ℕ, zero, suc, ◌≡◌, ◌<◌, ◌+◌, ◌==◌, ◌&&◌, Bool, true, false, List, [], ◌∷◌, length, reverse, refl, sym, ap, subst, ◌∙◌, arith, Option, Some, None}
+use Rattle.std.proofs.Common.{ℕ, zero, suc, ◌≡◌, ◌<◌, ◌+◌, ◌==◌, ◌&&◌, Bool, true, false, List, [], ◌∷◌, length, reverse, refl, sym, subst, ◌∙◌, arith, Option, Some, None}
 use Rattle.std.specs.Prelude.{if◌then◌else◌, ℤ, int_lt, nat_lt, not, slice_get}
 use Rattle.std.specs.List.{AllByRecursion}
 use Rattle.std.specs.Option.{IfSome, option_or}
@@ -18,7 +18,8 @@ use Rattle.letter_types.specs.declared.votes.Cause.{Cause}
 use Rattle.letter_types.specs.declared.votes.Cause.TheVariants.{Newer}
 use Rattle.item_versions.specs.Item.{Held, seen}
 use Rattle.item_versions.specs.Table.{Table, item_in}
-use Rattle.nc_locks.specs.Locks.{Wanted, met_in}
+use Rattle.nc_locks.specs.Locks.{met_in}
+use Rattle.nc_locks.specs.Wants.{mode_wanted, wanted_by}
 use Rattle.script_parts.specs.Counts.{has_strict}
 use Rattle.script_parts.specs.Deeds.{found_short, overwrites}
 use Rattle.script_parts.specs.ScriptData.{ScriptData, node_of, ops_of}
@@ -29,12 +30,11 @@ use Rattle.script_parts.specs.declared.parts.ItemRow.{ItemRow}
 use Rattle.script_parts.specs.declared.parts.SubOp.{SubOp}
 use Rattle.script_parts.specs.declared.parts.TreeKind.{TreeKind}
 use Rattle.board_rules.specs.Histories.{Place, places_of}
-use Rattle.board_rules.specs.Stands.{conflict_of, conflict_with, conflicts_with, holder_of, least_from, lock_mode_of}
+use Rattle.board_rules.specs.Stands.{conflict_of, conflict_with, conflicts_with, holder_of, least_from}
 use Rattle.world_model.specs.Reads.{got_by_deed, gets, seen_in, with_get}
 use Rattle.world_model.specs.Runs.{IsStepRun, keeping_in}
-use Rattle.world_model.specs.Votes.{cause_in, conflict_by, newer_at, newer_by, newer_in, greatest_version, short_at, short_in, wanted_by}
+use Rattle.world_model.specs.Votes.{cause_in, conflict_by, newer_at, newer_by, newer_in, greatest_version, short_at, short_in}
 use Rattle.world_model.proofs.Scripts.{get_below}
-use Rattle.tree_laws.proofs.ByActs.{wanted_needed}
 use Rattle.tree_laws.proofs.RunConflicts.{runs_meet_conflicts}
 use Rattle.tree_laws.proofs.Tables.{ItemIn, TableIn}
 use Rattle.tree_laws.proofs.Values.{HeldIn, ValueIn, seen_in as seen_value}
@@ -184,9 +184,9 @@ pub conflict_cause : (s : ScriptData) (xs : List Place) (kind : TreeKind) (p t :
     → MayCause s (conflict_of s xs p t os)
 conflict_cause s xs kind p t [] fits = tt
 conflict_cause s xs kind p t (o ∷ os) fits =
-    let test : ℕ → Bool = λ k. not (k == t) && conflicts_with s xs p o.item.0 (lock_mode_of o.deed) k in
-    either_cause s (conflict_with o.item (holder_of s xs p t o.item.0 (lock_mode_of o.deed))) (conflict_of s xs p t os)
-    (conflict_one s o.item (holder_of s xs p t o.item.0 (lock_mode_of o.deed)) (there (slice_get s.items o.item.0) refl)
+    let test : ℕ → Bool = λ k. not (k == t) && conflicts_with s xs p o.item.0 (mode_wanted o.deed) k in
+    either_cause s (conflict_with o.item (holder_of s xs p t o.item.0 (mode_wanted o.deed))) (conflict_of s xs p t os)
+    (conflict_one s o.item (holder_of s xs p t o.item.0 (mode_wanted o.deed)) (there (slice_get s.items o.item.0) refl)
     (least_below test 0 (length s.trees)))
     (conflict_cause s xs kind p t os fits.1) where
       there : (found : Option ItemRow) → slice_get s.items o.item.0 ≡ found → IsItemOf s o.item.0
@@ -198,8 +198,7 @@ pub met_cause : (s : ScriptData) (past : List Entry) (kind : TreeKind) (p : ℕ)
     → IsStepRun s past → p < s.nodes → node_of s t.0 k.0 ≡ p → AllByRecursion (IsOp s.items kind p) (ops_of s t.0 k.0)
     → MayCause s (conflict_by (met_in t (wanted_by (ops_of s t.0 k.0)) (keeping_in s past p).core.locks))
 met_cause s past kind p t k strict valid run lt home fits =
-    let is = ap (λ (ws : Wanted). conflict_by (met_in t ws (keeping_in s past p).core.locks)) (wanted_needed (ops_of s t.0 k.0))
-    ∙ runs_meet_conflicts s past p t k strict valid run lt home in
+    let is = runs_meet_conflicts s past p t k strict valid run lt home in
     subst (MayCause s) (sym is) (conflict_cause s (places_of (reverse past)) kind p t.0 (ops_of s t.0 k.0) fits)
 
 -- whatever the cause of a no

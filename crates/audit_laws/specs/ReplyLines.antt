@@ -4,7 +4,7 @@ use Rattle.tv_base.specs.declared.numbers.Version.{Version}
 use Rattle.letter_types.specs.declared.bodies.Answer.{Answer}
 use Rattle.letter_types.specs.declared.bodies.Answer.TheVariants.{Aborted, Whole}
 use Rattle.letter_types.specs.declared.bodies.Body.{Body}
-use Rattle.letter_types.specs.declared.bodies.Body.TheVariants.{Go, Reply}
+use Rattle.letter_types.specs.declared.bodies.Body.TheVariants.{Reply}
 use Rattle.letter_types.specs.declared.entries.Entry.{Entry}
 use Rattle.letter_types.specs.declared.entries.Outgoing.{Outgoing}
 use Rattle.tree_home.specs.Homes.{Gets}
@@ -17,7 +17,7 @@ use Rattle.board_rules.specs.Histories.{places_of, version_of}
 use Rattle.board_rules.specs.Outcomes.{acts_in}
 use Rattle.history_text.specs.TreeNames.{got_text}
 use Rattle.report_text.specs.Outcomes.{outcome_of, strict_line, why_text}
-use Rattle.report_text.specs.Report.{gets_text, read_line, tree_line, update_line, values_text}
+use Rattle.report_text.specs.Report.{gets_text, read_line, tree_line, update_line}
 
 -- the values of an answer, and how it says that a strict tree came out
 abbrev pub answer_values : Answer → Gets
@@ -31,7 +31,7 @@ outcome_by s (Aborted cause) = codes " aborted" ++ why_text s (Some cause)
 -- the line of a tree, by its reply
 abbrev pub line_by : ScriptData → Tree → TreeKind → Version → Answer → List ℕ
 line_by s tree Update v answer = update_line tree.name v.0 tree.written
-line_by s tree Read v answer = read_line tree.name v.0 (values_text s.items (answer_values answer))
+line_by s tree Read v answer = read_line tree.name v.0 (got_text s (answer_values answer))
 line_by s tree Strict v answer = strict_line tree.name v.0 (outcome_by s answer)
 
 -- the line of tree t, by the report of a history
@@ -42,7 +42,6 @@ line_in s h t tree =
 -- they are the same
 abbrev pub IsItsLine : ScriptData → List Entry → Body → Type 0
 IsItsLine s h (Reply t v answer) = (tree : Tree) → slice_get s.trees t.0 ≡ Some tree → line_in s h t.0 tree ≡ line_by s tree tree.kind v answer
-IsItsLine s h Go = Unit {0}
 IsItsLine s h _ = Unit {0}
 
 -- of each tree that is answered

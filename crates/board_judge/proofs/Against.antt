@@ -12,6 +12,7 @@ use Rattle.letter_types.specs.declared.votes.Cause.{Cause}
 use Rattle.letter_types.specs.declared.votes.Cause.TheVariants.{Conflict, Newer}
 use Rattle.nc_locks.specs.declared.modes.Mode.{Mode}
 use Rattle.nc_locks.specs.declared.modes.Mode.TheVariants.{Mark, Look, Hold}
+use Rattle.nc_locks.specs.Wants.{mode_wanted}
 use Rattle.script_parts.specs.Counts.{has_strict, strict_trees}
 use Rattle.script_parts.specs.Deeds.{overwrites}
 use Rattle.script_parts.specs.ScriptData.{ScriptData, is_strict, is_update}
@@ -21,7 +22,7 @@ use Rattle.script_parts.specs.declared.parts.TreeKind.{TreeKind}
 use Rattle.script_parts.specs.declared.parts.TreeKind.TheVariants.{Update, Read, Strict}
 use Rattle.script_parts.proofs.Loading.{rest_at}
 use Rattle.board_rules.specs.Histories.{Place, is_strict_tree}
-use Rattle.board_rules.specs.Stands.{conflict_of, conflict_with, holder_of, lock_mode_of, newer_of, newest_of}
+use Rattle.board_rules.specs.Stands.{conflict_of, conflict_with, holder_of, newer_of, newest_of}
 use Rattle.board_tallies.specs.Board.{BoardData}
 use Rattle.board_judge.specs.declared.users.User.{User}
 use Rattle.board_judge.specs.Views.{IsView, MayNeed, UsersData}
@@ -116,9 +117,9 @@ module _ (s : ScriptData) (xs : List Place) (b : BoardData) (u : UsersData) (vie
 
 -- The first conflict.
 module _ (s : ScriptData) (xs : List Place) (p t : ℕ) (os : List SubOp) (i : ℕ) (d : SubOp) (m : Mode) (h : Option TreeNo)
-    (within : i < length os) (mode : m ≡ lock_mode_of (get_or os i d).deed)
+    (within : i < length os) (mode : m ≡ mode_wanted (get_or os i d).deed)
     (holder : option_map (λ (k : TreeNo). k.0) h ≡ holder_of s xs p t (get_or os i d).item.0 m) where
-  found : option_map (λ (k : TreeNo). k.0) h ≡ holder_of s xs p t (get_or os i d).item.0 (lock_mode_of (get_or os i d).deed)
+  found : option_map (λ (k : TreeNo). k.0) h ≡ holder_of s xs p t (get_or os i d).item.0 (mode_wanted (get_or os i d).deed)
   found = holder ∙ ap (holder_of s xs p t (get_or os i d).item.0) mode
 
   front : conflict_of s xs p t (drop i os)

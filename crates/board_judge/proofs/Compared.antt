@@ -11,10 +11,9 @@ use Rattle.letter_types.specs.declared.entries.Entry.{Entry}
 use Rattle.script_parts.specs.ScriptData.{ScriptData, subs_at}
 use Rattle.script_parts.specs.Valid.{IsValid}
 use Rattle.board_rules.specs.ButCause.{IsMoveButCauseAt}
-use Rattle.board_rules.specs.Histories.{Place, places_of}
+use Rattle.board_rules.specs.Histories.{Place, places_of, version_or}
 use Rattle.board_rules.specs.Moves.{IsMove, OneByOne}
 use Rattle.board_rules.specs.Serial.{commits_by, is_settled_in}
-use Rattle.board_rules.specs.Stands.{version_or_zero}
 use Rattle.board_rules.specs.Worth.{first_value}
 use Rattle.board_rules.proofs.Places.{version_stays}
 use Rattle.board_rules.proofs.Judging.{fails_at}
@@ -55,7 +54,7 @@ closed_alike s xs later y closed b x valid run closing = by closed closing.close
   by None is = refl
   by (Some t) is =
       let born = settled_born s (xs ++ y ∷ []) t.0 valid run (closed_settled s (xs ++ y ∷ []) y.act t.0 (sym is)) in
-      ap (λ (o : Option _). subs_noted (version_or_zero o) x (subs_at s t.0)) (version_stays t.0 (xs ++ y ∷ []) later born)
+      ap (λ (o : Option _). subs_noted (version_or 0 o) x (subs_at s t.0)) (version_stays t.0 (xs ++ y ∷ []) later born)
 
 -- The worths with one act more.
 pub known_more : (s : ScriptData) (xs later : List Place) (y : Place) (closed : Option TreeNo) (b : BoardData) (ws vs : List WorthsData)

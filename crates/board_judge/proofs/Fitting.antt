@@ -6,6 +6,7 @@ use Rattle.std.proofs.lemmas.Bool.{or_left, or_right}
 use Rattle.commute_ops.specs.declared.kinds.Kind.{Kind}
 use Rattle.commute_ops.specs.declared.kinds.Kind.TheVariants.{Sum as SumKind, Top as TopKind, Bag as BagKind}
 use Rattle.nc_locks.specs.declared.modes.Mode.TheVariants.{Mark}
+use Rattle.nc_locks.specs.Wants.{mode_wanted}
 use Rattle.script_parts.specs.Counts.{has_strict}
 use Rattle.script_parts.specs.ScriptData.{ScriptData, is_read, ops_of, reads, sub_at, subs_at, updates}
 use Rattle.script_parts.specs.Valid.{IsOp, IsTree, IsValid, OpAt, deed_fits}
@@ -20,7 +21,6 @@ use Rattle.script_parts.specs.declared.parts.TreeKind.TheVariants.{Update, Read,
 use Rattle.script_parts.proofs.SubsOf.{all_at, found_subs}
 use Rattle.tx_trees.proofs.Stays.{op_within}
 use Rattle.board_rules.specs.Right.{gets_among, is_get}
-use Rattle.board_rules.specs.Stands.{lock_mode_of}
 use Rattle.board_rules.proofs.ItemAt.{ops_of_subs}
 use Rattle.board_rules.proofs.NoVotes.{updates_mark}
 use Rattle.board_rules.proofs.TreeSubs.{found_ops}
@@ -60,7 +60,7 @@ ops_there s t k valid = elim (fit_here s t k valid) [
 -- an update tree needs marks alone, and where a strict tree asks there is one
 pub marks_asked : (s : ScriptData) (t k : ℕ) → IsValid s → updates s t ≡ true → MayLook s (ops_of s t k)
 marks_asked s t k valid up =
-    each_op (λ (o : SubOp). lock_mode_of o.deed ≡ Mark) (λ (o : SubOp). MayNeed s (lock_mode_of o.deed)) (ops_of s t k) (λ o is. inl is)
+    each_op (λ (o : SubOp). mode_wanted o.deed ≡ Mark) (λ (o : SubOp). MayNeed s (mode_wanted o.deed)) (ops_of s t k) (λ o is. inl is)
     (updates_mark s t k valid up)
 
 pub all_asked : (s : ScriptData) (os : List SubOp) → has_strict s ≡ true → MayLook s os

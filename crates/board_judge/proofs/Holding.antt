@@ -13,6 +13,7 @@ use Rattle.letter_types.specs.declared.votes.Vote.TheVariants.{Yes, No}
 use Rattle.nc_locks.specs.Modes.{modes_conflict}
 use Rattle.nc_locks.specs.declared.modes.Mode.{Mode}
 use Rattle.nc_locks.specs.declared.modes.Mode.TheVariants.{Mark}
+use Rattle.nc_locks.specs.Wants.{mode_wanted}
 use Rattle.script_parts.specs.ScriptData.{ScriptData, is_strict, is_update, ops_of, sub_at, subs_at, updates}
 use Rattle.script_parts.specs.Valid.{IsValid}
 use Rattle.script_parts.specs.declared.parts.Sub.{Sub}
@@ -21,7 +22,7 @@ use Rattle.script_parts.specs.declared.parts.Tree.{Tree}
 use Rattle.script_parts.specs.declared.parts.TreeKind.{TreeKind}
 use Rattle.board_rules.specs.ButCause.{IsMoveButCauseAt}
 use Rattle.board_rules.specs.Histories.{Place, does, is_strict_tree, was_done}
-use Rattle.board_rules.specs.Stands.{conflicts_with, holder_of, least_from, lock_mode_of, locked_by, modes_on, votes_yes, voted_yes}
+use Rattle.board_rules.specs.Stands.{conflicts_with, holder_of, least_from, locked_by, modes_on, votes_yes, voted_yes}
 use Rattle.board_rules.proofs.ActTests.{does_is, votes_yes_is}
 use Rattle.board_rules.proofs.Holders.{least_of_none}
 use Rattle.board_rules.proofs.NoVotes.{AreMarking, updates_mark}
@@ -189,10 +190,10 @@ against_ops s xs p t x k j mode (o ∷ os) = by (o.item.0 == x) (against_ops s x
       ≡ (not (k == t) && (not (was_let_go k p xs) && (has_taken s xs k j && list_any (modes_conflict mode) (modes_on x os))))
       → list_any (stands_against s xs p t mode) (if here then user_of k j o ∷ ops_users k j x os else ops_users k j x os)
       ≡ (not (k == t) && (not (was_let_go k p xs) && (has_taken s xs k j
-      && list_any (modes_conflict mode) (map (λ (q : SubOp). lock_mode_of q.deed) (cond here (o ∷ filter (λ (q : SubOp). q.item.0 == x) os) (filter (λ (q : SubOp). q.item.0 == x) os))))))
+      && list_any (modes_conflict mode) (map (λ (q : SubOp). mode_wanted q.deed) (cond here (o ∷ filter (λ (q : SubOp). q.item.0 == x) os) (filter (λ (q : SubOp). q.item.0 == x) os))))))
   by true rest =
-      ap (λ (b : Bool). (not (k == t) && (not (was_let_go k p xs) && (has_taken s xs k j && modes_conflict mode (lock_mode_of o.deed)))) || b) rest
-      ∙ join (not (k == t)) (not (was_let_go k p xs)) (has_taken s xs k j) (modes_conflict mode (lock_mode_of o.deed)) (list_any (modes_conflict mode) (modes_on x os))
+      ap (λ (b : Bool). (not (k == t) && (not (was_let_go k p xs) && (has_taken s xs k j && modes_conflict mode (mode_wanted o.deed)))) || b) rest
+      ∙ join (not (k == t)) (not (was_let_go k p xs)) (has_taken s xs k j) (modes_conflict mode (mode_wanted o.deed)) (list_any (modes_conflict mode) (modes_on x os))
   by false rest = rest
 
 against_subs : (s : ScriptData) (xs : List Place) (p t x k j : ℕ) (mode : Mode) (subs : List Sub)
@@ -366,7 +367,7 @@ marks_pass : (os : List SubOp) (x : ℕ) → AreMarking os → list_any (modes_c
 marks_pass [] x all = refl
 marks_pass (o ∷ os) x all = by (o.item.0 == x) (marks_pass os x all.1) where
   by : (here : Bool) → list_any (modes_conflict Mark) (modes_on x os) ≡ false
-      → list_any (modes_conflict Mark) (map (λ (q : SubOp). lock_mode_of q.deed) (cond here (o ∷ filter (λ (q : SubOp). q.item.0 == x) os) (filter (λ (q : SubOp). q.item.0 == x) os))) ≡ false
+      → list_any (modes_conflict Mark) (map (λ (q : SubOp). mode_wanted q.deed) (cond here (o ∷ filter (λ (q : SubOp). q.item.0 == x) os) (filter (λ (q : SubOp). q.item.0 == x) os))) ≡ false
   by true rest = rw (all.0) rest
   by false rest = rest
 

@@ -5,7 +5,7 @@ use Rattle.std.proofs.lemmas.Bool.Decides.{nat_tests}
 use Rattle.std.proofs.lemmas.List.{length-append, take_all}
 use Rattle.std.proofs.lemmas.Option.{slice_get-get_or}
 use Rattle.nc_locks.specs.declared.modes.Mode.{Mode}
-use Rattle.board_rules.specs.Stands.{lock_mode_of}
+use Rattle.nc_locks.specs.Wants.{mode_wanted}
 use Rattle.script_parts.specs.ScriptData.{ScriptData}
 use Rattle.script_parts.specs.declared.parts.Sub.{Sub}
 use Rattle.script_parts.specs.declared.parts.SubOp.{SubOp}
@@ -124,7 +124,7 @@ put_more_at olds p us vs u lt is put =
     subst (λ (ws : List User). HasMore (λ x. if p == x then u ∷ [] else []) olds (slice_set olds p ws)) (sym put) (put_more olds p us u lt is)
 
 pub ops_on : (t j : ℕ) (m : Mode) (i : ℕ) (os : List SubOp) (d : SubOp) (olds mids news : List (List User)) → i < length os
-    → m ≡ lock_mode_of (get_or os i d).deed
+    → m ≡ mode_wanted (get_or os i d).deed
     → HasMore (λ x. ops_users t j x (take i os)) olds mids
     → HasMore (λ x. if (get_or os i d).item.0 == x then record { tree = record { 0 = t }; sub = record { 0 = j }; mode = m } ∷ [] else []) mids news
     → HasMore (λ x. ops_users t j x (take (i + 1) os)) olds news

@@ -16,11 +16,10 @@ use Rattle.script_parts.specs.declared.parts.SubOp.{SubOp}
 use Rattle.script_parts.specs.declared.parts.Tree.{Tree}
 use Rattle.script_parts.specs.declared.parts.TreeKind.{TreeKind}
 use Rattle.board_rules.specs.ButCause.{IsMoveButCauseAt}
-use Rattle.board_rules.specs.Histories.{Place, applies, commits, does, version_in, was_applied, was_committed, was_done}
-use Rattle.board_rules.specs.Moves.{decides_as, was_decided_as}
-use Rattle.board_rules.specs.Stands.{lock_mode_of, newest_of, version_or_zero, written_by, written_in}
+use Rattle.board_rules.specs.Histories.{Place, applies, decides_as, does, version_in, version_or, was_applied, was_decided_as, was_done}
+use Rattle.board_rules.specs.Stands.{newest_of, written_by, written_in}
 use Rattle.board_rules.specs.Worth.{changes, ops_change, subs_change}
-use Rattle.board_rules.proofs.ActTests.{applies_as_is, applies_as_one, as_commits, commits_as, decides_as_is, does_is}
+use Rattle.board_rules.proofs.ActTests.{applies_as_is, applies_as_one, decides_as_is, does_is}
 use Rattle.board_rules.proofs.Once.{clash, same_tests}
 use Rattle.board_rules.proofs.Positions.{found_all, taken_is, there}
 use Rattle.board_rules.proofs.ItemAt.{changed_in}
@@ -28,6 +27,7 @@ use Rattle.board_judge.specs.declared.users.User.{User}
 use Rattle.board_judge.specs.Settled.{IsMoveRun}
 use Rattle.board_judge.specs.inside.Users.{changes_in, has_written, is_tree_of, newest_by, ops_users, subs_users, tree_users, trees_users, user_of, users_of, version_by}
 use Rattle.board_judge.proofs.Holding.{any_at, drop_head, drop_next}
+use Rattle.nc_locks.specs.Wants.{mode_wanted}
 
 -- Numbers that pass the same thresholds are equal.
 same_numbers : (a b : ℕ) → ((w : ℕ) → 0 < w → nat_le w a ≡ nat_le w b) → a ≡ b
@@ -77,7 +77,7 @@ newest_at_least s xs p w lt (u ∷ us) = by (has_written s xs p u) (newest_at_le
   by false rest = rest
 
 -- Operations among those of an item.
-mode_changes : (d : Deed) → changes_in (lock_mode_of d) ≡ changes d
+mode_changes : (d : Deed) → changes_in (mode_wanted d) ≡ changes d
 mode_changes (deeds.Apply op) = refl
 mode_changes deeds.Get = refl
 mode_changes (deeds.Set n) = refl
@@ -209,13 +209,13 @@ which_tree of s test x k (tree ∷ trees) from is =
 -- What has written.
 abbrev writing : ScriptData → List Place → ℕ → ℕ → ℕ → ℕ → Bool
 writing s xs p w t j =
-    ((updates s t && was_done t j xs) || (was_committed t xs && was_applied t p xs)) && nat_le w (version_or_zero (version_in t xs))
+    ((updates s t && was_done t j xs) || (was_decided_as t true xs && was_applied t p xs)) && nat_le w (version_or 0 (version_in t xs))
 
 wrote_op : (s : ScriptData) (xs : List Place) (p w t j : ℕ) (o : SubOp)
     → wrote_from s xs p w (user_of t j o) ≡ (changes o.deed && writing s xs p w t j)
 wrote_op s xs p w t j o =
-    ap (λ (b : Bool). (b && ((updates s t && was_done t j xs) || (was_committed t xs && was_applied t p xs))) && nat_le w (version_or_zero (version_in t xs))) (mode_changes o.deed)
-    ∙ assoc (changes o.deed) ((updates s t && was_done t j xs) || (was_committed t xs && was_applied t p xs)) (nat_le w (version_or_zero (version_in t xs))) where
+    ap (λ (b : Bool). (b && ((updates s t && was_done t j xs) || (was_decided_as t true xs && was_applied t p xs))) && nat_le w (version_or 0 (version_in t xs))) (mode_changes o.deed)
+    ∙ assoc (changes o.deed) ((updates s t && was_done t j xs) || (was_decided_as t true xs && was_applied t p xs)) (nat_le w (version_or 0 (version_in t xs))) where
       assoc : (a b c : Bool) → ((a && b) && c) ≡ (a && (b && c))
       assoc true b c = refl
       assoc false b c = refl
@@ -247,7 +247,7 @@ by_place : (s : ScriptData) (xs : List Place) (p w x i q : ℕ) (a : Act) → 0 
     → nat_le w (written_by s xs x (q == p) a) ≡ true
     → (list_any (wrote_from s xs p w) (users_of is_update s x) || list_any (wrote_from s xs p w) (users_of is_strict s x)) ≡ true
 by_place s xs p w x i q (Did t j values) lt run at is =
-    let c = if_some (updates s t.0 && ops_change x (ops_of s t.0 j.0)) w (version_or_zero (version_in t.0 xs)) lt is in
+    let c = if_some (updates s t.0 && ops_change x (ops_of s t.0 j.0)) w (version_or 0 (version_in t.0 xs)) lt is in
     let parts = and_parts (updates s t.0) (ops_change x (ops_of s t.0 j.0)) c.0 in
     let done : was_done t.0 j.0 xs ≡ true
     = any_at (λ (y : Place). does t.0 j.0 y.act) xs i (record { node = q; act = Did t j values }) at
@@ -256,18 +256,18 @@ by_place s xs p w x i q (Did t j values) lt run at is =
     (of_sub is_update s (wrote_from s xs p w) t.0 j.0 x parts.0
     (wrote_ops s xs p w t.0 j.0 x (ops_of s t.0 j.0)
     ∙ and_from (ops_change x (ops_of s t.0 j.0)) (writing s xs p w t.0 j.0) parts.1
-    (and_from ((updates s t.0 && was_done t.0 j.0 xs) || (was_committed t.0 xs && was_applied t.0 p xs)) (nat_le w (version_or_zero (version_in t.0 xs)))
-    (or_left (updates s t.0 && was_done t.0 j.0 xs) (was_committed t.0 xs && was_applied t.0 p xs) (and_from (updates s t.0) (was_done t.0 j.0 xs) parts.0 done)) c.1)))
+    (and_from ((updates s t.0 && was_done t.0 j.0 xs) || (was_decided_as t.0 true xs && was_applied t.0 p xs)) (nat_le w (version_or 0 (version_in t.0 xs)))
+    (or_left (updates s t.0 && was_done t.0 j.0 xs) (was_decided_as t.0 true xs && was_applied t.0 p xs) (and_from (updates s t.0) (was_done t.0 j.0 xs) parts.0 done)) c.1)))
 by_place s xs p w x i q (Applied t commit) lt run at is =
-    let c = if_some ((q == p) && (commit && subs_change x (subs_at s t.0))) w (version_or_zero (version_in t.0 xs)) lt is in
+    let c = if_some ((q == p) && (commit && subs_change x (subs_at s t.0))) w (version_or 0 (version_in t.0 xs)) lt is in
     let parts = and_parts (q == p) (commit && subs_change x (subs_at s t.0)) c.0 in
     let more = and_parts commit (subs_change x (subs_at s t.0)) parts.1 in
     let move = run i (record { node = q; act = Applied t commit }) at in
     let decided : was_decided_as t.0 true (take i xs) ≡ true = subst (λ (b : Bool). was_decided_as t.0 b (take i xs) ≡ true) more.0 move.decided in
-    let committed : was_committed t.0 xs ≡ true
+    let committed : was_decided_as t.0 true xs ≡ true
     = (let f = found_all (λ (y : Place). decides_as t.0 true y.act) (take i xs) decided in
     let old = taken_is xs i f.place f.item f.is in
-    any_at (λ (y : Place). commits t.0 y.act) xs f.place f.item old.1 (as_commits t.0 f.item.act f.passes)) in
+    any_at (λ (y : Place). decides_as t.0 true y.act) xs f.place f.item old.1 f.passes) in
     let applied : was_applied t.0 p xs ≡ true
     = any_at (λ (y : Place). (y.node == p) && applies t.0 y.act) xs i (record { node = q; act = Applied t commit }) at
     (and_from (q == p) (t.0 == t.0) parts.0 (same_test t.0)) in
@@ -278,8 +278,8 @@ by_place s xs p w x i q (Applied t commit) lt run at is =
     (of_sub is_strict s (wrote_from s xs p w) t.0 k.number x move.strict
     (wrote_ops s xs p w t.0 k.number x (ops_of s t.0 k.number)
     ∙ and_from (ops_change x (ops_of s t.0 k.number)) (writing s xs p w t.0 k.number) ops
-    (and_from ((updates s t.0 && was_done t.0 k.number xs) || (was_committed t.0 xs && was_applied t.0 p xs)) (nat_le w (version_or_zero (version_in t.0 xs)))
-    (or_right (updates s t.0 && was_done t.0 k.number xs) (was_committed t.0 xs && was_applied t.0 p xs) (and_from (was_committed t.0 xs) (was_applied t.0 p xs) committed applied)) c.1)))
+    (and_from ((updates s t.0 && was_done t.0 k.number xs) || (was_decided_as t.0 true xs && was_applied t.0 p xs)) (nat_le w (version_or 0 (version_in t.0 xs)))
+    (or_right (updates s t.0 && was_done t.0 k.number xs) (was_decided_as t.0 true xs && was_applied t.0 p xs) (and_from (was_decided_as t.0 true xs) (was_applied t.0 p xs) committed applied)) c.1)))
 by_place s xs p w x i q (Born u v) lt run at is = absurd (let no_one = none_of w lt in cc (is, no_one))
 by_place s xs p w x i q (Turned v) lt run at is = absurd (let no_one = none_of w lt in cc (is, no_one))
 by_place s xs p w x i q (Showed v) lt run at is = absurd (let no_one = none_of w lt in cc (is, no_one))
@@ -296,12 +296,12 @@ if_all : (b : Bool) (w n : ℕ) → b ≡ true → nat_le w n ≡ true → nat_l
 if_all true w n so is = is
 if_all false w n so is = absurd (cc so)
 
-one_decision : (s : ScriptData) (xs : List Place) (t : ℕ) (i : ℕ) (commit : Bool) → IsMoveRun s xs → was_committed t xs ≡ true
+one_decision : (s : ScriptData) (xs : List Place) (t : ℕ) (i : ℕ) (commit : Bool) → IsMoveRun s xs → was_decided_as t true xs ≡ true
     → was_decided_as t commit (take i xs) ≡ true → commit ≡ true
 one_decision s xs t i true run committed decided = refl
 one_decision s xs t i false run committed decided =
-    let f = found_all (λ (y : Place). commits t y.act) xs committed in
-    let yes_act = decides_as_is t true f.item.act (commits_as t f.item.act f.passes) in
+    let f = found_all (λ (y : Place). decides_as t true y.act) xs committed in
+    let yes_act = decides_as_is t true f.item.act f.passes in
     let yes_move = subst (IsMoveButCauseAt s [] (take f.place xs) f.item.node) yes_act (run f.place f.item f.is) in
     let g = found_all (λ (y : Place). decides_as t false y.act) (take i xs) decided in
     let old = taken_is xs i g.place g.item g.is in
@@ -310,7 +310,7 @@ one_decision s xs t i false run committed decided =
     elim (cases_lt f.place g.place) [
       | inl early ↦
           clash (was_decided_as t true (take g.place xs))
-          (there (λ (y : Place). decides_as t true y.act) xs f.place g.place f.item f.is (commits_as t f.item.act f.passes) early) (no_move.once true)
+          (there (λ (y : Place). decides_as t true y.act) xs f.place g.place f.item f.is f.passes early) (no_move.once true)
       | inr late ↦ later f.place g.place f.item g.item f.is old.1 yes_act no_act yes_move.once late
     ] where
       later : (a b : ℕ) (y z : Place) → slice_get xs a ≡ Some y → slice_get xs b ≡ Some z → y.act ≡ Decided (record { 0 = t }) true
@@ -333,18 +333,18 @@ by_user of s xs p w x lt run is =
     let u = which_tree of s (wrote_from s xs p w) x 0 s.trees refl is in
     let all = sym (wrote_ops s xs p w u.tree u.number x (ops_of s u.tree u.number)) ∙ u.is in
     let parts = and_parts (ops_change x (ops_of s u.tree u.number)) (writing s xs p w u.tree u.number) all in
-    let how = and_parts ((updates s u.tree && was_done u.tree u.number xs) || (was_committed u.tree xs && was_applied u.tree p xs)) (nat_le w (version_or_zero (version_in u.tree xs))) parts.1 in
-    elim (or_cases (updates s u.tree && was_done u.tree u.number xs) (was_committed u.tree xs && was_applied u.tree p xs) how.0) [
+    let how = and_parts ((updates s u.tree && was_done u.tree u.number xs) || (was_decided_as u.tree true xs && was_applied u.tree p xs)) (nat_le w (version_or 0 (version_in u.tree xs))) parts.1 in
+    elim (or_cases (updates s u.tree && was_done u.tree u.number xs) (was_decided_as u.tree true xs && was_applied u.tree p xs) how.0) [
       | inl d ↦
           let two = and_parts (updates s u.tree) (was_done u.tree u.number xs) d in
           let f = found_all (λ (y : Place). does u.tree u.number y.act) xs two.1 in
           let act = does_is u.tree u.number f.item.act f.passes in
           any_at (λ (y : Place). nat_le w (written_in s xs p x y)) xs f.place f.item f.is
           (ap (λ (a : Act). nat_le w (written_by s xs x (f.item.node == p) a)) act.1
-          ∙ if_all (updates s u.tree && ops_change x (ops_of s u.tree u.number)) w (version_or_zero (version_in u.tree xs))
+          ∙ if_all (updates s u.tree && ops_change x (ops_of s u.tree u.number)) w (version_or 0 (version_in u.tree xs))
           (and_from (updates s u.tree) (ops_change x (ops_of s u.tree u.number)) two.0 parts.0) how.1)
       | inr c ↦
-          let two = and_parts (was_committed u.tree xs) (was_applied u.tree p xs) c in
+          let two = and_parts (was_decided_as u.tree true xs) (was_applied u.tree p xs) c in
           let f = found_all (λ (y : Place). (y.node == p) && applies u.tree y.act) xs two.1 in
           let here = and_parts (f.item.node == p) (applies u.tree f.item.act) f.passes in
           let one = applies_as_one u.tree f.item.act here.1 in
@@ -354,7 +354,7 @@ by_user of s xs p w x lt run is =
           let changed = of_ops u.tree u.number (sub_at s u.tree u.number) refl parts.0 in
           any_at (λ (y : Place). nat_le w (written_in s xs p x y)) xs f.place f.item f.is
           (ap (λ (a : Act). nat_le w (written_by s xs x (f.item.node == p) a)) act
-          ∙ if_all ((f.item.node == p) && (one.0 && subs_change x (subs_at s u.tree))) w (version_or_zero (version_in u.tree xs))
+          ∙ if_all ((f.item.node == p) && (one.0 && subs_change x (subs_at s u.tree))) w (version_or 0 (version_in u.tree xs))
           (and_from (f.item.node == p) (one.0 && subs_change x (subs_at s u.tree)) here.0 (and_from one.0 (subs_change x (subs_at s u.tree)) commit changed)) how.1)
     ] where
       of_ops : (t j : ℕ) (found : Option Sub) → sub_at s t j ≡ found → ops_change x (elim found [ Some sub ↦ sub.ops | None ↦ [] ]) ≡ true

@@ -13,9 +13,8 @@ use Rattle.script_parts.specs.Valid.{IsValid}
 use Rattle.script_parts.specs.declared.parts.Sub.{Sub}
 use Rattle.script_parts.specs.declared.parts.SubOp.{SubOp}
 use Rattle.board_rules.specs.ButCause.{IsMoveButCause}
-use Rattle.board_rules.specs.Histories.{Place, version_in}
+use Rattle.board_rules.specs.Histories.{Place, version_in, version_or}
 use Rattle.board_rules.specs.Serial.{commit_order, is_member_in, is_settled_in, is_version, members_in, serial_in}
-use Rattle.board_rules.specs.Stands.{version_or_zero}
 use Rattle.board_rules.specs.Worth.{after_ops, after_subs, after_tree, first_value, worth_in}
 use Rattle.board_rules.proofs.Places.{version_stays}
 use Rattle.board_rules.proofs.ReadDids.{filter_same}
@@ -62,14 +61,14 @@ subs_in_version v u x (sub ∷ subs) =
 
 -- the version in which a tree's deeds are noted is this one
 abbrev in_version : List Place → ℕ → ℕ → Bool
-in_version xs v t = version_or_zero (version_in t xs) == v
+in_version xs v t = version_or 0 (version_in t xs) == v
 
 trees_in_version : (s : ScriptData) (xs : List Place) (v x : ℕ) (ts : List ℕ)
     → noted_in v (trees_noted s xs x ts) ≡ trees_noted s xs x (filter (in_version xs v) ts)
 trees_in_version s xs v x [] = refl
 trees_in_version s xs v x (t ∷ ts) =
     filter-append (λ (n : Noted). n.version == v) (tree_noted s xs x t) (trees_noted s xs x ts)
-    ∙ ap (λ (ns : List Noted). ns ++ noted_in v (trees_noted s xs x ts)) (subs_in_version v (version_or_zero (version_in t xs)) x (subs_at s t))
+    ∙ ap (λ (ns : List Noted). ns ++ noted_in v (trees_noted s xs x ts)) (subs_in_version v (version_or 0 (version_in t xs)) x (subs_at s t))
     ∙ ap (λ (ns : List Noted). (if in_version xs v t then tree_noted s xs x t else []) ++ ns) (trees_in_version s xs v x ts)
     ∙ by (in_version xs v t) where
       by : (b : Bool) → (if b then tree_noted s xs x t else []) ++ trees_noted s xs x (filter (in_version xs v) ts)
@@ -85,7 +84,7 @@ noted-append s xs x (t ∷ ts) us =
     ∙ sym (append_assoc (tree_noted s xs x t) (trees_noted s xs x ts) (trees_noted s xs x us))
 
 -- The members of a version.
-version_there : (v : ℕ) (o : Option Version) → is_some o ≡ true → (version_or_zero o == v) ≡ is_version v o
+version_there : (v : ℕ) (o : Option Version) → is_some o ≡ true → (version_or 0 o == v) ≡ is_version v o
 version_there v None is = absurd (cc is)
 version_there v (Some w) is = refl
 
@@ -139,7 +138,7 @@ after_trees_noted : (s : ScriptData) (xs : List Place) (x : ℕ) (ts : List ℕ)
 after_trees_noted s xs x [] w = refl
 after_trees_noted s xs x (t ∷ ts) w =
     fold-append after_noted w (tree_noted s xs x t) (trees_noted s xs x ts)
-    ∙ ap (λ (z : Value). fold after_noted z (trees_noted s xs x ts)) (after_subs_noted (version_or_zero (version_in t xs)) x (subs_at s t) w)
+    ∙ ap (λ (z : Value). fold after_noted z (trees_noted s xs x ts)) (after_subs_noted (version_or 0 (version_in t xs)) x (subs_at s t) w)
     ∙ after_trees_noted s xs x ts (after_tree s x w t)
 
 -- so they make the worth
@@ -161,7 +160,7 @@ same_versions : (s : ScriptData) (xs ys : List Place) (x : ℕ) (ts : List ℕ) 
     → trees_noted s ys x ts ≡ trees_noted s xs x ts
 same_versions s xs ys x [] all = refl
 same_versions s xs ys x (t ∷ ts) all =
-    ap (λ (o : Option Version). subs_noted (version_or_zero o) x (subs_at s t) ++ trees_noted s ys x ts) all.0
+    ap (λ (o : Option Version). subs_noted (version_or 0 o) x (subs_at s t) ++ trees_noted s ys x ts) all.0
     ∙ ap (λ (ns : List Noted). tree_noted s xs x t ++ ns) (same_versions s xs ys x ts all.1)
 
 -- the deeds of a tree, if there is one

@@ -17,15 +17,15 @@ use Rattle.script_parts.specs.declared.parts.Sub.{Sub}
 use Rattle.script_parts.specs.declared.parts.Tree.{Tree}
 use Rattle.script_parts.proofs.SubsOf.{has_root}
 use Rattle.board_rules.specs.ButCause.{IsMoveButCause, IsMoveButCauseAt}
-use Rattle.board_rules.specs.Histories.{Place, all_done, born_as, commits, does, is_complete, is_strict_tree, is_whole_in, version_in, was_born, was_committed, was_done}
-use Rattle.board_rules.specs.Moves.{IsAskedBy, decides_as, was_decided_as}
+use Rattle.board_rules.specs.Histories.{Place, all_done, born_as, decides_as, does, is_complete, is_strict_tree, is_whole_in, version_in, was_born, was_decided_as, was_done}
+use Rattle.board_rules.specs.Moves.{IsAskedBy}
 use Rattle.board_rules.specs.Serial.{commit_order, commits_by, is_settled_in, with_closed}
 use Rattle.board_judge.specs.Settled.{IsMoveRun, closes_in, if_settled, settled_order}
 use Rattle.board_rules.specs.Stands.{votes, was_voted}
-use Rattle.board_rules.proofs.ActTests.{commits_as, decides_as_is, does_is}
+use Rattle.board_rules.proofs.ActTests.{decides_as_is, does_is}
 use Rattle.board_rules.proofs.Closings.{closings-append, is_out}
 use Rattle.board_rules.proofs.Once.{clash, same_tests}
-use Rattle.board_rules.proofs.Places.{version_in-append, was_committed-append, was_done-append}
+use Rattle.board_rules.proofs.Places.{version_in-append, was_decided_as-append, was_done-append}
 use Rattle.board_rules.proofs.Positions.{found_all, taken_is, there}
 use Rattle.board_rules.proofs.SerialOrder.{done_of}
 use Rattle.board_rules.proofs.Wholes.{any_more, born_version, strict_there, update_not_strict, updates_there, version_more, whole_done, whole_more}
@@ -80,11 +80,11 @@ run_before s xs n run i y is =
     let old = taken_is xs n i y is in
     subst (λ (zs : List Place). IsMoveButCause s [] zs y) (sym (take-take i n xs (omega (arith, old.0)))) (run i y old.1)
 
-pub committed_born : (s : ScriptData) (xs : List Place) (t : ℕ) → IsValid s → IsMoveRun s xs → was_committed t xs ≡ true
+pub committed_born : (s : ScriptData) (xs : List Place) (t : ℕ) → IsValid s → IsMoveRun s xs → was_decided_as t true xs ≡ true
     → was_born xs t ≡ true
 committed_born s xs t valid run is =
-    let f = found_all (λ (x : Place). commits t x.act) xs is in
-    let d = decides_as_is t true f.item.act (commits_as t f.item.act f.passes) in
+    let f = found_all (λ (x : Place). decides_as t true x.act) xs is in
+    let d = decides_as_is t true f.item.act f.passes in
     let move = subst (IsMoveButCauseAt s [] (take f.place xs) f.item.node) d (run f.place f.item f.is) in
     let root = has_root s t valid (strict_there s t move.strict) in
     born_at t f.place xs (voted_born s (take f.place xs) t 0 (run_before s xs f.place run) (move.voted 0 root))
@@ -93,23 +93,23 @@ committed_born s xs t valid run is =
 pub settled_born : (s : ScriptData) (xs : List Place) (t : ℕ) → IsValid s → IsMoveRun s xs → is_settled_in s xs t ≡ true
     → was_born xs t ≡ true
 settled_born s xs t valid run is =
-    elim (or_cases (updates s t && is_whole_in s xs t) (is_strict_tree s t && was_committed t xs) is) [
+    elim (or_cases (updates s t && is_whole_in s xs t) (is_strict_tree s t && was_decided_as t true xs) is) [
       | inl up ↦ left_true (was_born xs t) (is_complete s xs t) (right_true (updates s t) (is_whole_in s xs t) up)
-      | inr strict ↦ committed_born s xs t valid run (right_true (is_strict_tree s t) (was_committed t xs) strict)
+      | inr strict ↦ committed_born s xs t valid run (right_true (is_strict_tree s t) (was_decided_as t true xs) strict)
     ]
 
 -- It goes on to take effect.
 settled_more : (s : ScriptData) (xs ys : List Place) (t : ℕ) → is_settled_in s xs t ≡ true → is_settled_in s (xs ++ ys) t ≡ true
 settled_more s xs ys t is =
-    elim (or_cases (updates s t && is_whole_in s xs t) (is_strict_tree s t && was_committed t xs) is) [
+    elim (or_cases (updates s t && is_whole_in s xs t) (is_strict_tree s t && was_decided_as t true xs) is) [
       | inl up ↦
           let parts = and_parts (updates s t) (is_whole_in s xs t) up in
-          or_left (updates s t && is_whole_in s (xs ++ ys) t) (is_strict_tree s t && was_committed t (xs ++ ys))
+          or_left (updates s t && is_whole_in s (xs ++ ys) t) (is_strict_tree s t && was_decided_as t true (xs ++ ys))
           (and_from (updates s t) (is_whole_in s (xs ++ ys) t) parts.0 (whole_more s xs ys t parts.1))
       | inr strict ↦
-          let parts = and_parts (is_strict_tree s t) (was_committed t xs) strict in
-          or_right (updates s t && is_whole_in s (xs ++ ys) t) (is_strict_tree s t && was_committed t (xs ++ ys))
-          (and_from (is_strict_tree s t) (was_committed t (xs ++ ys)) parts.0 (any_more (λ (x : Place). commits t x.act) xs ys parts.1))
+          let parts = and_parts (is_strict_tree s t) (was_decided_as t true xs) strict in
+          or_right (updates s t && is_whole_in s (xs ++ ys) t) (is_strict_tree s t && was_decided_as t true (xs ++ ys))
+          (and_from (is_strict_tree s t) (was_decided_as t true (xs ++ ys)) parts.0 (any_more (λ (x : Place). decides_as t true x.act) xs ys parts.1))
     ]
 
 -- An act that neither bears the tree nor does a part of it leaves it as it is.
@@ -189,34 +189,34 @@ tree_before s xs p (Freed u) t valid run move up settled whole = inl (whole_less
 tree_before s xs p (Decided u d) t valid run move up settled whole = inl (whole_less s t xs (record { node = p; act = Decided u d }) up (λ k. refl) refl whole)
 tree_before s xs p (Applied u d) t valid run move up settled whole = inl (whole_less s t xs (record { node = p; act = Applied u d }) up (λ k. refl) refl whole)
 
-decided_by : (s : ScriptData) (t : ℕ) (a : Act) → is_strict_tree s t ≡ true → commits t a ≡ true → commits_by s a ≡ Some t
+decided_by : (s : ScriptData) (t : ℕ) (a : Act) → is_strict_tree s t ≡ true → decides_as t true a ≡ true → commits_by s a ≡ Some t
 decided_by s t a strict is =
-    let d = decides_as_is t true a (commits_as t a is) in rw (d, strict) refl
+    let d = decides_as_is t true a is in rw (d, strict) refl
 
 settled_before : (s : ScriptData) (xs : List Place) (x : Place) (t : ℕ) → IsValid s → IsMoveRun s xs → IsMoveButCause s [] xs x
     → is_settled_in s (xs ++ x ∷ []) t ≡ true → (is_settled_in s xs t ≡ true) ⊎ (commits_by s x.act ≡ Some t)
-settled_before s xs x t valid run move is = by (or_cases (updates s t && is_whole_in s ys t) (is_strict_tree s t && was_committed t ys) is) where
+settled_before s xs x t valid run move is = by (or_cases (updates s t && is_whole_in s ys t) (is_strict_tree s t && was_decided_as t true ys) is) where
   ys : List Place
   ys = xs ++ x ∷ []
 
   more : (is_whole_in s xs t ≡ true) ⊎ (commits_by s x.act ≡ Some t) → updates s t ≡ true
       → (is_settled_in s xs t ≡ true) ⊎ (commits_by s x.act ≡ Some t)
-  more (inl whole) up = inl (or_left (updates s t && is_whole_in s xs t) (is_strict_tree s t && was_committed t xs) (and_from (updates s t) (is_whole_in s xs t) up whole))
+  more (inl whole) up = inl (or_left (updates s t && is_whole_in s xs t) (is_strict_tree s t && was_decided_as t true xs) (and_from (updates s t) (is_whole_in s xs t) up whole))
   more (inr closed) up = inr closed
 
-  last : (was_committed t xs ≡ true) ⊎ ((commits t x.act || false) ≡ true) → is_strict_tree s t ≡ true
+  last : (was_decided_as t true xs ≡ true) ⊎ ((decides_as t true x.act || false) ≡ true) → is_strict_tree s t ≡ true
       → (is_settled_in s xs t ≡ true) ⊎ (commits_by s x.act ≡ Some t)
-  last (inl old) strict = inl (or_right (updates s t && is_whole_in s xs t) (is_strict_tree s t && was_committed t xs) (and_from (is_strict_tree s t) (was_committed t xs) strict old))
-  last (inr new) strict = inr (decided_by s t x.act strict (elim (or_cases (commits t x.act) false new) [ inl so ↦ so | inr none ↦ absurd (cc none) ]))
+  last (inl old) strict = inl (or_right (updates s t && is_whole_in s xs t) (is_strict_tree s t && was_decided_as t true xs) (and_from (is_strict_tree s t) (was_decided_as t true xs) strict old))
+  last (inr new) strict = inr (decided_by s t x.act strict (elim (or_cases (decides_as t true x.act) false new) [ inl so ↦ so | inr none ↦ absurd (cc none) ]))
 
-  by : ((updates s t && is_whole_in s ys t) ≡ true) ⊎ ((is_strict_tree s t && was_committed t ys) ≡ true)
+  by : ((updates s t && is_whole_in s ys t) ≡ true) ⊎ ((is_strict_tree s t && was_decided_as t true ys) ≡ true)
       → (is_settled_in s xs t ≡ true) ⊎ (commits_by s x.act ≡ Some t)
   by (inl up) =
       let parts = and_parts (updates s t) (is_whole_in s ys t) up in
       more (tree_before s xs x.node x.act t valid run move parts.0 is parts.1) parts.0
   by (inr strict) =
-      let parts = and_parts (is_strict_tree s t) (was_committed t ys) strict in
-      last (or_cases (was_committed t xs) (commits t x.act || false) (sym (was_committed-append t xs (x ∷ [])) ∙ parts.1)) parts.0
+      let parts = and_parts (is_strict_tree s t) (was_decided_as t true ys) strict in
+      last (or_cases (was_decided_as t true xs) (decides_as t true x.act || false) (sym (was_decided_as-append t true xs (x ∷ [])) ∙ parts.1)) parts.0
 
 -- a tree that the act doesn't close takes effect after it as before
 pub settled_kept : (s : ScriptData) (xs : List Place) (x : Place) (t : ℕ) → IsValid s → IsMoveRun s xs → IsMoveButCause s [] xs x
@@ -233,35 +233,25 @@ asked_there had k ks is = by (slice_get ks k) refl is where
   by None at none = absurd none
   by (Some sub) at some = slice_get_within ks k sub at
 
-decided_once : (t : ℕ) (xs : List Place) → was_decided_as t true xs ≡ false → was_committed t xs ≡ false
-decided_once t xs none =
-    false_from_ne_true (was_committed t xs)
-    (λ is.
-    let f = found_all (λ (x : Place). commits t x.act) xs is in
-    let all : list_any (λ (x : Place). decides_as t true x.act) (take (length xs) xs) ≡ true =
-    there (λ (x : Place). decides_as t true x.act) xs f.place (length xs) f.item f.is (commits_as t f.item.act f.passes)
-    (slice_get_within xs f.place f.item f.is) in
-    clash (was_decided_as t true xs) (sym (ap (was_decided_as t true) (take_all (length xs) xs (omega arith))) ∙ all) none)
-
 not_yet_by : (s : ScriptData) (xs : List Place) (p : ℕ) (a : Act) (t : ℕ) → IsMoveButCauseAt s [] xs p a → commits_by s a ≡ Some t
     → is_settled_in s xs t ≡ true → ⊥
 not_yet_by s xs p (Did u j values) t move is settled =
     let c = cond_some (updates s u.0) u.0 t is in
     let up : updates s t ≡ true = ap (updates s) (sym c.1) ∙ c.0 in
     let lt = asked_there (λ (k : ℕ). was_done u.0 k xs) j.0 (subs_at s u.0) move.asked in
-    elim (or_cases (updates s t && is_whole_in s xs t) (is_strict_tree s t && was_committed t xs) settled) [
+    elim (or_cases (updates s t && is_whole_in s xs t) (is_strict_tree s t && was_decided_as t true xs) settled) [
       | inl whole ↦
           let done = whole_done s xs t j.0 up (right_true (updates s t) (is_whole_in s xs t) whole) (subst (λ (m : ℕ). j.0 < length (subs_at s m)) c.1 lt) in
           clash (was_done t j.0 xs) done (subst (λ (m : ℕ). was_done m j.0 xs ≡ false) c.1 move.once)
-      | inr strict ↦ clash (is_strict_tree s t) (left_true (is_strict_tree s t) (was_committed t xs) strict) (update_not_strict s t up)
+      | inr strict ↦ clash (is_strict_tree s t) (left_true (is_strict_tree s t) (was_decided_as t true xs) strict) (update_not_strict s t up)
     ]
 not_yet_by s xs p (Decided u commit) t move is settled =
     let c = cond_some (is_strict_tree s u.0 && commit) u.0 t is in
     let strict : is_strict_tree s t ≡ true = ap (is_strict_tree s) (sym c.1) ∙ left_true (is_strict_tree s u.0) commit c.0 in
-    let none : was_committed t xs ≡ false = decided_once t xs (subst (λ (m : ℕ). was_decided_as m true xs ≡ false) c.1 (move.once true)) in
-    elim (or_cases (updates s t && is_whole_in s xs t) (is_strict_tree s t && was_committed t xs) settled) [
+    let none : was_decided_as t true xs ≡ false = subst (λ (m : ℕ). was_decided_as m true xs ≡ false) c.1 (move.once true) in
+    elim (or_cases (updates s t && is_whole_in s xs t) (is_strict_tree s t && was_decided_as t true xs) settled) [
       | inl whole ↦ clash (is_strict_tree s t) strict (update_not_strict s t (left_true (updates s t) (is_whole_in s xs t) whole))
-      | inr committed ↦ clash (was_committed t xs) (right_true (is_strict_tree s t) (was_committed t xs) committed) none
+      | inr committed ↦ clash (was_decided_as t true xs) (right_true (is_strict_tree s t) (was_decided_as t true xs) committed) none
     ]
 not_yet_by s xs p (Born u v) t move is settled = absurd (cc is)
 not_yet_by s xs p (Turned v) t move is settled = absurd (cc is)

@@ -16,10 +16,9 @@ use Rattle.nc_locks.specs.declared.modes.Mode.{Mode}
 use Rattle.script_parts.specs.ScriptData.{ScriptData, ops_of, subs_at, updates}
 use Rattle.script_parts.specs.declared.parts.SubOp.{SubOp}
 use Rattle.board_rules.specs.ButCause.{IsMoveButCause, IsMoveButCauseAt}
-use Rattle.board_rules.specs.Histories.{Place, applies, is_strict_tree, is_whole_in, was_applied, was_done}
-use Rattle.board_rules.specs.Moves.{decides_as, was_decided_as}
-use Rattle.board_rules.specs.Stands.{frees, locked_by, modes_after, modes_on, modes_standing, releases, votes, was_freed, was_voted}
-use Rattle.board_rules.proofs.ActTests.{applies_as_is, applies_as_one, decides_as_is, frees_is}
+use Rattle.board_rules.specs.Histories.{Place, applies, decides_as, is_strict_tree, is_whole_in, was_applied, was_decided_as, was_done}
+use Rattle.board_rules.specs.Stands.{frees, locked_by, modes_after, modes_on, modes_standing, votes, was_freed, was_voted}
+use Rattle.board_rules.proofs.ActTests.{applies_as_is, applies_as_one, decides_as_is, frees_is, releases}
 use Rattle.board_rules.proofs.Once.{clash}
 use Rattle.board_rules.proofs.Positions.{found_all}
 use Rattle.board_rules.proofs.Wholes.{any_more, whole_all, whole_done, update_not_strict}
@@ -128,23 +127,6 @@ none_locked s xs p k (Decided u d) go move = refl
 none_locked s xs p k (Applied u d) go move = refl
 
 -- What stands.
-releases_is : (k : ℕ) (a : Act) → releases k a ≡ (frees k a || applies k a)
-releases_is k (Freed t) = sym (or_none (t.0 == k)) where
-  or_none : (b : Bool) → (b || false) ≡ b
-  or_none true = refl
-  or_none false = refl
-releases_is k (Applied t c) = refl
-releases_is k (Did t j values) = refl
-releases_is k (Voted t j vote) = refl
-releases_is k (Born u v) = refl
-releases_is k (Turned v) = refl
-releases_is k (Showed v) = refl
-releases_is k (Swept v) = refl
-releases_is k Finished = refl
-releases_is k (Waits u b c) = refl
-releases_is k (Parked u b c h) = refl
-releases_is k (Decided u d) = refl
-
 -- the act locks for tree k, on item x, in a mode that passes
 abbrev pub locks_on : ScriptData → ℕ → ℕ → (Mode → Bool) → Place → Bool
 locks_on s x k test y = list_any test (modes_on x (locked_by s k y.act))
@@ -183,7 +165,6 @@ module _ (s : ScriptData) (p x k : ℕ) (test : Mode → Bool) where
       ap (λ (b : Bool). b || was_applied k p (xs ++ y ∷ [])) one
       ∙ ap (λ (b : Bool). (was_freed k p xs || ((y.node == p) && frees k y.act)) || b) two
       ∙ now_or (was_freed k p xs) (was_applied k p xs) (y.node == p) (frees k y.act) (applies k y.act) true true
-      ∙ ap (λ (b : Bool). gone xs || ((y.node == p) && b)) (sym (releases_is k y.act))
 
   stand_more : (xs : List Place) (y : Place) → IsMoveRun s (xs ++ y ∷ []) → stands_so xs → (released : Bool)
       → ((y.node == p) && releases k y.act) ≡ released → stands_so (xs ++ y ∷ [])

@@ -5,8 +5,7 @@ use Rattle.script_parts.specs.Valid.{IsValid}
 use Rattle.script_parts.specs.declared.parts.ItemRow.{ItemRow}
 use Rattle.script_parts.specs.declared.parts.Sub.{Sub}
 use Rattle.script_parts.specs.declared.parts.SubOp.{SubOp}
-use Rattle.board_rules.specs.Histories.{Place, version_in}
-use Rattle.board_rules.specs.Stands.{version_or_zero}
+use Rattle.board_rules.specs.Histories.{Place, version_in, version_or}
 use Rattle.board_rules.specs.Worth.{first_value}
 use Rattle.worth_steps.specs.Kept.{AreWorths, WorthsData}
 use Rattle.worth_steps.specs.Worth.{Noted, deed_suits}
@@ -24,7 +23,7 @@ subs_noted v x (sub ∷ subs) = ops_noted v x sub.ops ++ subs_noted v x subs
 
 -- those of a tree, in its version
 abbrev pub tree_noted : ScriptData → List Place → ℕ → ℕ → List Noted
-tree_noted s xs x t = subs_noted (version_or_zero (version_in t xs)) x (subs_at s t)
+tree_noted s xs x t = subs_noted (version_or 0 (version_in t xs)) x (subs_at s t)
 
 abbrev pub trees_noted : ScriptData → List Place → ℕ → List ℕ → List Noted
 trees_noted s xs x [] = []

@@ -3,12 +3,12 @@ use Rattle.std.specs.Prelude.{false, true, ◌≡◌, ◌<◌, ◌⊎◌, List, 
 use Rattle.std.specs.List.{AllByRecursion}
 use Rattle.nc_locks.specs.declared.modes.Mode.{Mode}
 use Rattle.nc_locks.specs.declared.modes.Mode.TheVariants.{Mark}
+use Rattle.nc_locks.specs.Wants.{mode_wanted}
 use Rattle.script_parts.specs.Counts.{has_strict}
 use Rattle.script_parts.specs.ScriptData.{ScriptData}
 use Rattle.script_parts.specs.Valid.{IsValid}
 use Rattle.script_parts.specs.declared.parts.SubOp.{SubOp}
 use Rattle.board_rules.specs.Histories.{Place}
-use Rattle.board_rules.specs.Stands.{lock_mode_of}
 use Rattle.board_tallies.specs.Board.{BoardData, IsBoardOf}
 use Rattle.board_judge.specs.Settled.{IsMoveRun}
 use Rattle.board_judge.specs.inside.Users.{AreUsersBy}
@@ -36,7 +36,7 @@ abbrev pub MayNeed : ScriptData → Mode → Type 0
 MayNeed s mode = (mode ≡ Mark) ⊎ (has_strict s ≡ true)
 
 abbrev pub MayLook : ScriptData → List SubOp → Type 0
-MayLook s ops = AllByRecursion (λ (o : SubOp). MayNeed s (lock_mode_of o.deed)) ops
+MayLook s ops = AllByRecursion (λ (o : SubOp). MayNeed s (mode_wanted o.deed)) ops
 
 -- the items of these operations are there
 abbrev pub AreThere : ScriptData → List SubOp → Type 0

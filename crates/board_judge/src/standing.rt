@@ -6,8 +6,8 @@ ghost use Rattle.nc_locks.specs.Modes.{modes_conflict};
 ghost use Rattle.script_parts.specs.Counts.{has_strict};
 ghost use Rattle.script_parts.specs.Deeds.{overwrites};
 ghost use Rattle.script_parts.specs.ScriptData.{ScriptData, updates};
-ghost use Rattle.board_rules.specs.Histories.{Place, version_in, was_done};
-ghost use Rattle.board_rules.specs.Stands.{conflict_of, holder_of, newer_of, newest_of, version_or_zero};
+ghost use Rattle.board_rules.specs.Histories.{Place, version_in, version_or, was_done};
+ghost use Rattle.board_rules.specs.Stands.{conflict_of, holder_of, newer_of, newest_of};
 ghost use Rattle.board_tallies.specs.Board.{IsBoardOf};
 ghost use Rattle.board_judge.specs.Views.{AreThere, IsView, MayLook, MayNeed};
 ghost use Rattle.board_judge.specs.inside.Users.{changes_in, first_tree, has_taken, has_written, is_mark, lesser_tree, newer_item, newest_by, stands_against, version_by};
@@ -208,7 +208,7 @@ fn has_written(script: &Script, board: &Board, node: ActorNo, user: User) -> boo
 
 // The version of a tree, or 0 where it isn't born.
 pub(crate) fn version_or_zero(board: &Board, tree: TreeNo) -> u64
-    ensures { (s : ScriptData) (xs : List Place) → IsBoardOf s xs board.now → result ≡ version_or_zero (version_in tree.0 xs) }
+    ensures { (s : ScriptData) (xs : List Place) → IsBoardOf s xs board.now → result ≡ version_or 0 (version_in tree.0 xs) }
 {
     match board.version_of(tree) {
         Some(version) => version.0,

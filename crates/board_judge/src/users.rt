@@ -1,7 +1,7 @@
 // Which operations of a script are on which item.
 ghost use Rattle.std.specs.Prelude.{true, false, get_or, if◌then◌else◌, ℕ, ◌≡◌, ◌==◌, ◌≤◌, [], ◌∷◌, length, IfOk, OnOk};
 ghost use Rattle.board_judge.specs.inside.Users.{AreUsersBy, is_meant, HasMore, HaveNoUsers, ops_users, subs_users, tree_users};
-ghost use Rattle.board_rules.specs.Stands.{lock_mode_of};
+ghost use Rattle.nc_locks.specs.Wants.{mode_wanted};
 ghost use Rattle.script_parts.specs.Counts.{has_strict};
 ghost use Rattle.script_parts.specs.ScriptData.{is_strict, is_update};
 
@@ -77,7 +77,7 @@ pub(crate) fn on(users: &ByItem, item: ItemNo) -> &[User]
 
 // How a tree has an item by such a deed.
 pub(crate) fn lock_mode(deed: &Deed) -> Mode
-    ensures { result ≡ lock_mode_of deed.now }
+    ensures { result ≡ mode_wanted deed.now }
 {
     match deed {
         Deed::Apply(_) => Mode::Mark,

@@ -22,7 +22,7 @@ use Rattle.board_model.specs.declared.standings.Standing.{Standing}
 use Rattle.board_model.specs.Balances.{all_after_op, all_after_ops, all_after_subs, all_after_tree, by_number, first_values, on_item, worths, written_items}
 use Rattle.board_model.specs.inside.Balances.{mark_op, mark_ops, mark_subs, mark_trees, may_write_by, no_marks, writes_by}
 use Rattle.board_model.specs.inside.May.{all_op_may, all_ops_may, all_subs_may, all_trees_may, deed_may, deed_may_at, ops_may, subs_may, trees_may}
-use Rattle.board_rules.specs.Histories.{places_of, version_of, was_committed}
+use Rattle.board_rules.specs.Histories.{places_of, version_of, was_decided_as}
 use Rattle.board_rules.specs.Serial.{is_version, serial_to}
 use Rattle.board_model.specs.Standings.{standings_from, standings_of}
 use Rattle.board_rules.specs.Worth.{after_deed, after_ops, after_subs, after_tree, changes, first_value, is_written, may_write, ops_change, subs_change, trees_write, worth, writes}
@@ -292,7 +292,7 @@ trees_mark v (t ∷ ts) (st ∷ sts) ms =
     let next : List Bool = if writes_by v t.kind st then mark_subs t.subs ms else ms in
     then_marked (λ (x : ℕ). writes_at x v t st) (λ (x : ℕ). standing_write x v ts sts) ms next (mark_trees v ts sts next) (tree_marks v t st ms) (trees_mark v ts sts next)
 
-kind_writes : (h : List Entry) (t : ℕ) (kind : TreeKind) → may_write_by kind (was_committed t (places_of h)) ≡ may_write h t kind
+kind_writes : (h : List Entry) (t : ℕ) (kind : TreeKind) → may_write_by kind (was_decided_as t true (places_of h)) ≡ may_write h t kind
 kind_writes h t Update = refl
 kind_writes h t Read = refl
 kind_writes h t Strict = refl

@@ -30,7 +30,7 @@ use Rattle.board_model.specs.declared.standings.Standing.{Standing}
 use Rattle.board_model.specs.declared.tallies.Tally.{Tally}
 use Rattle.board_model.specs.inside.Closed.{Closed, closed_after_act, none_closed, with_tree_closed}
 use Rattle.board_model.specs.inside.Closed.{closed_back}
-use Rattle.board_rules.specs.Histories.{Place, all_applied, all_done, applies, born_as, commits, does, is_strict_tree, is_complete, places_at, places_of, version_in, version_of, was_applied, was_committed, was_done}
+use Rattle.board_rules.specs.Histories.{Place, all_applied, all_done, applies, born_as, decides_as, does, is_strict_tree, is_complete, places_at, places_of, version_in, version_of, was_applied, was_decided_as, was_done}
 use Rattle.board_rules.specs.Serial.{commits_by, commit_order, is_in, is_member, takes_effect, is_version, members, with_closed}
 use Rattle.board_model.specs.SerialList.{is_of_version, trees_of_members}
 use Rattle.board_model.specs.inside.SerialList.{counted_at, counts_by, found_back, member_of, with_version}
@@ -63,7 +63,7 @@ pub record Tells (t : ℕ) (xs : List Place) (row : Tally) : Type 0 where
   pub done : (k : ℕ) → k < 64 → get_or row.done k false ≡ was_done t k xs
   pub nodes : length row.applied ≡ 64
   pub applied : (p : ℕ) → p < 64 → get_or row.applied p false ≡ was_applied t p xs
-  pub committed : row.committed ≡ was_committed t xs
+  pub committed : row.committed ≡ was_decided_as t true xs
 
 -- the same of all rows, where the list begins with tree t
 abbrev pub AllTell : ℕ → List Place → List Tally → Type 0
@@ -140,7 +140,7 @@ and_true false = refl
 
 -- an act that says nothing of tree t
 untouched : (t : ℕ) (x : Place) (xs : List Place) (row : Tally) → born_as t x.act ≡ None → ((k : ℕ) → does t k x.act ≡ false)
-    → commits t x.act ≡ false → applies t x.act ≡ false → Tells t xs row → Tells t (x ∷ xs) row
+    → decides_as t true x.act ≡ false → applies t x.act ≡ false → Tells t xs row → Tells t (x ∷ xs) row
 untouched t x xs row bears did committed applied h =
     record {
       born = h.born ∙ sym (ap (λ (o : Option Version). option_or o (version_in t xs)) bears);
@@ -150,7 +150,7 @@ untouched t x xs row bears did committed applied h =
       applied = λ (q : ℕ) small.
           h.applied q small ∙ or_none (x.node == q) (was_applied t q xs)
           ∙ sym (ap (λ (b : Bool). ((x.node == q) && b) || was_applied t q xs) applied);
-      committed = h.committed ∙ sym (ap (λ (b : Bool). b || was_committed t xs) committed);
+      committed = h.committed ∙ sym (ap (λ (b : Bool). b || was_decided_as t true xs) committed);
     }
 
 did_told : (t p : ℕ) (u : TreeNo) (j : SubNo) (vs : List (ItemNo × Value)) (xs : List Place) (row : Tally) → u.0 ≡ t → Tells t xs row
@@ -181,7 +181,7 @@ decided_told t p u commit xs row e h =
       applied = λ (q : ℕ) small. h.applied q small ∙ or_none (p == q) (was_applied t q xs);
       committed =
           ap (λ (b : Bool). commit || b) h.committed
-          ∙ sym (ap (λ (b : Bool). (b && commit) || was_committed t xs) yes);
+          ∙ sym (ap (λ (b : Bool). (b && commit) || was_decided_as t true xs) yes);
     }
 
 applied_told : (t p : ℕ) (u : TreeNo) (commit : Bool) (xs : List Place) (row : Tally) → u.0 ≡ t → Tells t xs row

@@ -1,7 +1,7 @@
 -- Of the acts of a history, the votes of each tree and what is decided of it. Only the text of reports cites it.
 use Rattle.std.specs.Prelude.{ℕ, ◌+◌, Bool, false, ◌==◌, List, [], ◌∷◌, filter}
 use Rattle.letter_types.specs.declared.acts.Act.{Act}
-use Rattle.letter_types.specs.declared.acts.Act.TheVariants.{Voted, Decided, Finished}
+use Rattle.letter_types.specs.declared.acts.Act.TheVariants.{Voted, Decided}
 use Rattle.letter_types.specs.declared.entries.Entry.{Entry}
 use Rattle.tx_trees.specs.ScriptData.{ScriptData}
 use Rattle.tx_trees.specs.declared.parts.Tree.{Tree}
@@ -12,7 +12,6 @@ use Rattle.board_rules.specs.Outcomes.{acts_in}
 abbrev pub tells_of : ℕ → Act → Bool
 tells_of t (Voted u j vote) = u.0 == t
 tells_of t (Decided u commit) = u.0 == t
-tells_of t Finished = false
 tells_of t _ = false
 
 -- of these acts, the votes of each tree and what is decided of it, where the list begins with tree t

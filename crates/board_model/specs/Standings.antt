@@ -1,13 +1,13 @@
 -- What a history says of each tree, side by side. Only the code of the report cites it.
-use Rattle.std.specs.Prelude.{ℕ, ◌+◌, List, [], ◌∷◌}
+use Rattle.std.specs.Prelude.{ℕ, ◌+◌, true, List, [], ◌∷◌}
 use Rattle.letter_types.specs.declared.entries.Entry.{Entry}
 use Rattle.tx_trees.specs.ScriptData.{ScriptData}
 use Rattle.tx_trees.specs.declared.parts.Tree.{Tree}
 use Rattle.board_model.specs.declared.standings.Standing.{Standing}
-use Rattle.board_rules.specs.Histories.{is_whole, places_of, version_of, was_committed}
+use Rattle.board_rules.specs.Histories.{is_whole, places_of, version_of, was_decided_as}
 
 abbrev pub standing_of : ScriptData → List Entry → ℕ → Standing
-standing_of s h t = record { born = version_of h t; whole = is_whole s h t; committed = was_committed t (places_of h) }
+standing_of s h t = record { born = version_of h t; whole = is_whole s h t; committed = was_decided_as t true (places_of h) }
 
 -- where the list begins with tree t
 abbrev pub standings_from : ScriptData → List Entry → ℕ → List Tree → List Standing

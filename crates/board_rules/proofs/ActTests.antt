@@ -1,6 +1,6 @@
 -- What a test of an act says of it.
-use Rattle.std.proofs.Common.{◌≡◌, ◌⊎◌, inl, inr, ◌==◌, ◌&&◌, ℕ, Bool, true, false, List, refl}
-use Rattle.std.specs.Prelude.{if◌then◌else◌, not}
+use Rattle.std.proofs.Common.{◌≡◌, ◌==◌, ◌&&◌, ℕ, Bool, true, false, List, refl}
+use Rattle.std.specs.Prelude.{if◌then◌else◌, not, ◌||◌}
 use Rattle.std.proofs.lemmas.Bool.{and_from, eqb-true}
 use Rattle.tv_base.specs.declared.numbers.ItemNo.{ItemNo}
 use Rattle.tv_base.proofs.Truths.{left_true, right_true}
@@ -8,9 +8,8 @@ use Rattle.commute_ops.specs.declared.value.Value.{Value}
 use Rattle.letter_types.specs.declared.acts.Act.{Act}
 use Rattle.letter_types.specs.declared.acts.Act.TheVariants.{Born, Did, Turned, Showed, Swept, Finished, Waits, Parked, Voted, Freed, Decided, Applied}
 use Rattle.letter_types.specs.declared.votes.Vote.TheVariants.{Yes, No}
-use Rattle.board_rules.specs.Histories.{applies, commits, does}
-use Rattle.board_rules.specs.Moves.{decides_as}
-use Rattle.board_rules.specs.Stands.{frees, releases, votes_yes}
+use Rattle.board_rules.specs.Histories.{applies, decides_as, does}
+use Rattle.board_rules.specs.Stands.{frees, votes_yes}
 
 -- the act applies tree t, which was decided so
 abbrev pub applies_as : ℕ → Bool → Act → Bool
@@ -142,46 +141,6 @@ applied_any t c (Voted u j vote) is = absurd (cc is)
 applied_any t c (Freed u) is = absurd (cc is)
 applied_any t c (Decided u d) is = absurd (cc is)
 
--- a decision to commit
-pub commits_as : (t : ℕ) (a : Act) → commits t a ≡ true → decides_as t true a ≡ true
-commits_as t (Decided u d) is = is
-commits_as t (Born u v) is = absurd (cc is)
-commits_as t (Did u j values) is = absurd (cc is)
-commits_as t (Turned v) is = absurd (cc is)
-commits_as t (Showed v) is = absurd (cc is)
-commits_as t (Swept v) is = absurd (cc is)
-commits_as t Finished is = absurd (cc is)
-commits_as t (Waits u a b) is = absurd (cc is)
-commits_as t (Parked u a b h) is = absurd (cc is)
-commits_as t (Voted u j vote) is = absurd (cc is)
-commits_as t (Freed u) is = absurd (cc is)
-commits_as t (Applied u d) is = absurd (cc is)
-
-pub as_commits : (t : ℕ) (a : Act) → decides_as t true a ≡ true → commits t a ≡ true
-as_commits t (Decided u d) is = is
-as_commits t (Born u v) is = absurd (cc is)
-as_commits t (Did u j values) is = absurd (cc is)
-as_commits t (Turned v) is = absurd (cc is)
-as_commits t (Showed v) is = absurd (cc is)
-as_commits t (Swept v) is = absurd (cc is)
-as_commits t Finished is = absurd (cc is)
-as_commits t (Waits u a b) is = absurd (cc is)
-as_commits t (Parked u a b h) is = absurd (cc is)
-as_commits t (Voted u j vote) is = absurd (cc is)
-as_commits t (Freed u) is = absurd (cc is)
-as_commits t (Applied u d) is = absurd (cc is)
-
--- what lets go is a Freed or an Applied
-pub lets_go_by : (t : ℕ) (a : Act) → releases t a ≡ true → (frees t a ≡ true) ⊎ (applies t a ≡ true)
-lets_go_by t (Freed u) is = inl is
-lets_go_by t (Applied u d) is = inr is
-lets_go_by t (Born u v) is = absurd (cc is)
-lets_go_by t (Did u j values) is = absurd (cc is)
-lets_go_by t (Turned v) is = absurd (cc is)
-lets_go_by t (Showed v) is = absurd (cc is)
-lets_go_by t (Swept v) is = absurd (cc is)
-lets_go_by t Finished is = absurd (cc is)
-lets_go_by t (Waits u a b) is = absurd (cc is)
-lets_go_by t (Parked u a b h) is = absurd (cc is)
-lets_go_by t (Voted u j vote) is = absurd (cc is)
-lets_go_by t (Decided u d) is = absurd (cc is)
+-- what lets go of what tree k has at its node is a Freed or an Applied
+abbrev pub releases : ℕ → Act → Bool
+releases k a = frees k a || applies k a

@@ -8,8 +8,8 @@ use Rattle.tv_base.specs.declared.numbers.Version.{Version}
 use Rattle.letter_types.specs.declared.acts.Act.{Act}
 use Rattle.letter_types.specs.declared.acts.Act.TheVariants.{Born, Did, Turned, Showed, Swept, Finished, Waits, Parked, Voted, Freed, Decided, Applied}
 use Rattle.script_parts.specs.ScriptData.{ScriptData, updates}
-use Rattle.board_rules.specs.Histories.{Place, born_as, is_strict_tree, is_whole_in, version_in}
-use Rattle.board_rules.specs.Moves.{IsBirth, IsShowing, IsTurn, number_after, read_after, showed_to, turned_to, update_after, version_or}
+use Rattle.board_rules.specs.Histories.{Place, born_as, is_strict_tree, is_whole_in, version_in, version_or}
+use Rattle.board_rules.specs.Moves.{IsBirth, IsShowing, IsTurn, number_after, read_after, showed_to, turned_to, update_after}
 use Rattle.board_rules.proofs.Rules.{AreBornLate}
 use Rattle.board_rules.proofs.Wholes.{Birth, birth, born_version, version_more, whole_later}
 

@@ -9,11 +9,10 @@ use Rattle.tv_base.proofs.Truths.{left_true, right_true}
 use Rattle.letter_types.specs.declared.acts.Act.{Act}
 use Rattle.script_parts.specs.ScriptData.{ScriptData, subs_at, updates}
 use Rattle.script_parts.specs.Valid.{IsValid}
-use Rattle.board_rules.specs.Histories.{Place, applies, commits, does, is_strict_tree, is_whole_in, version_in, was_applied, was_committed, was_done}
-use Rattle.board_rules.specs.Moves.{decides_as}
+use Rattle.board_rules.specs.Histories.{Place, applies, decides_as, does, is_strict_tree, is_whole_in, version_in, was_applied, was_decided_as, was_done}
 use Rattle.board_rules.specs.Serial.{commit_order, is_in, is_settled_in, serial_in}
 use Rattle.board_rules.specs.Worth.{first_value, worth_in}
-use Rattle.board_rules.proofs.ActTests.{applies_as, applies_as_one, as_commits, commits_as, decides_as_is}
+use Rattle.board_rules.proofs.ActTests.{applies_as, applies_as_one, decides_as_is}
 use Rattle.board_rules.proofs.Closings.{is_in-closings}
 use Rattle.board_rules.proofs.EffectPlaces.{at_effect, effect_found, effect_is, effects_once, pair_found}
 use Rattle.board_rules.proofs.Effects.{by_time, by_trees, effects_in, made_in, made_is, trees_are}
@@ -34,7 +33,7 @@ pub record IsClosed (s : ScriptData) (zs : List Place) (p x v : ℕ) : Type 0 wh
   pub whole : (t k : ℕ) → updates s t ≡ true → is_up_to v (version_in t zs) ≡ true → touches s x (t, k) ≡ true → was_done t k zs ≡ true
       → is_whole_in s zs t ≡ true
   pub applied : (t k : ℕ) → is_strict_tree s t ≡ true → is_up_to v (version_in t zs) ≡ true → touches s x (t, k) ≡ true
-      → was_committed t zs ≡ true → was_applied t p zs ≡ true
+      → was_decided_as t true zs ≡ true → was_applied t p zs ≡ true
 
 pub record UpTo (v : ℕ) (o : Option Version) : Type 0 where
   pub version : Version
@@ -66,7 +65,7 @@ did_stands s zs p v i q acts up to a whole =
       there = (deed s zs i p q.0 q.1 acts a).there;
       placed = record {
         version = o.is;
-        settled = or_left (updates s q.0 && is_whole_in s zs q.0) (is_strict_tree s q.0 && was_committed q.0 zs)
+        settled = or_left (updates s q.0 && is_whole_in s zs q.0) (is_strict_tree s q.0 && was_decided_as q.0 true zs)
             (and_from (updates s q.0) (is_whole_in s zs q.0) up whole);
         closed = is_in-closings s q.0 zs
             ∙ there_from (closes_tree s q.0) zs i 0 (record { node = p; act = a.act }) a.is (did_closes s q.0 q.1 a.act up a.passes) (omega arith);
@@ -76,11 +75,11 @@ did_stands s zs p v i q acts up to a whole =
 pub decided_placed : (s : ScriptData) (zs : List Place) (p i t : ℕ) (w : Version) → is_strict_tree s t ≡ true → version_in t zs ≡ Some w
     → ActAt (decides_as t true) zs i p → IsPlaced s zs t w
 decided_placed s zs p i t w strict version a =
-    let commit = there_from (λ (x : Place). commits t x.act) zs i 0 (record { node = p; act = a.act }) a.is (as_commits t a.act a.passes) (omega arith) in
+    let commit = there_from (λ (x : Place). decides_as t true x.act) zs i 0 (record { node = p; act = a.act }) a.is a.passes (omega arith) in
     record {
       version = version;
-      settled = or_right (updates s t && is_whole_in s zs t) (is_strict_tree s t && was_committed t zs)
-          (and_from (is_strict_tree s t) (was_committed t zs) strict commit);
+      settled = or_right (updates s t && is_whole_in s zs t) (is_strict_tree s t && was_decided_as t true zs)
+          (and_from (is_strict_tree s t) (was_decided_as t true zs) strict commit);
       closed = is_in-closings s t zs
           ∙ there_from (closes_tree s t) zs i 0 (record { node = p; act = a.act }) a.is (decided_closes s t a.act strict a.passes) (omega arith);
     }
@@ -131,30 +130,30 @@ applied_as_commit s zs i j p q t acts a decided =
     record { act = a.act; is = a.is; passes = sym (ap (λ (d : Bool). applies_as t d a.act) commit) ∙ c.1 }
 
 applied_there : (s : ScriptData) (zs : List Place) (p x v : ℕ) (q : ℕ × ℕ) → AreByRule s zs → q.1 < length (subs_at s q.0)
-    → is_strict_tree s q.0 ≡ true → is_up_to v (version_in q.0 zs) ≡ true → was_committed q.0 zs ≡ true → was_applied q.0 p zs ≡ true
+    → is_strict_tree s q.0 ≡ true → is_up_to v (version_in q.0 zs) ≡ true → was_decided_as q.0 true zs ≡ true → was_applied q.0 p zs ≡ true
     → has same_pair q (effects_in s zs p v zs) ≡ true
 applied_there s zs p x v q acts there strict to committed applied =
     let f = found_from (λ (y : Place). (y.node == p) && applies q.0 y.act) zs 0 applied in
     let node : f.item.node ≡ p = eqb-true f.item.node p (left_true (f.item.node == p) (applies q.0 f.item.act) f.passes) in
     let here = act_node (applies q.0) zs f.place f.item.node p
     (record { act = f.item.act; is = f.is; passes = right_true (f.item.node == p) (applies q.0 f.item.act) f.passes }) node in
-    let g = found_from (λ (y : Place). commits q.0 y.act) zs 0 committed in
+    let g = found_from (λ (y : Place). decides_as q.0 true y.act) zs 0 committed in
     let decided : ActAt (decides_as q.0 true) zs g.place g.item.node
-    = record { act = g.item.act; is = g.is; passes = commits_as q.0 g.item.act g.passes } in
+    = record { act = g.item.act; is = g.is; passes = g.passes } in
     at_effect s zs p v q zs f.place to
     (inr (record { strict = strict; there = there; at = applied_as_commit s zs f.place g.place p g.item.node q.0 acts here decided }))
 
 settled_effect : (s : ScriptData) (zs : List Place) (p x v : ℕ) (q : ℕ × ℕ) → AreByRule s zs → IsItemAt s p x → IsClosed s zs p x v
     → touches s x q ≡ true → q.1 < length (subs_at s q.0) → is_up_to v (version_in q.0 zs) ≡ true
-    → ((updates s q.0 && is_whole_in s zs q.0) ≡ true) ⊎ ((is_strict_tree s q.0 && was_committed q.0 zs) ≡ true)
+    → ((updates s q.0 && is_whole_in s zs q.0) ≡ true) ⊎ ((is_strict_tree s q.0 && was_decided_as q.0 true zs) ≡ true)
     → has same_pair q (effects_in s zs p v zs) ≡ true
 settled_effect s zs p x v q acts item closed touch there to (inl is) =
     let up = left_true (updates s q.0) (is_whole_in s zs q.0) is in
     did_found s zs p x v q acts item touch up to
     (whole_done s zs q.0 q.1 up (right_true (updates s q.0) (is_whole_in s zs q.0) is) there)
 settled_effect s zs p x v q acts item closed touch there to (inr is) =
-    let strict = left_true (is_strict_tree s q.0) (was_committed q.0 zs) is in
-    let committed = right_true (is_strict_tree s q.0) (was_committed q.0 zs) is in
+    let strict = left_true (is_strict_tree s q.0) (was_decided_as q.0 true zs) is in
+    let committed = right_true (is_strict_tree s q.0) (was_decided_as q.0 true zs) is in
     applied_there s zs p x v q acts there strict to committed (closed.applied q.0 q.1 strict to touch committed)
 
 -- The two lists have the same members, and what is tied is in the same order in both.
@@ -177,7 +176,7 @@ trees_in_time s zs p x v q acts item closed is =
     let first = left_true (is_up_to v (version_in q.0 zs) && is_settled_in s zs q.0) (is_in q.0 (commit_order s zs)) all in
     kept_has same_pair pairs_equal (touches s x) q (effects_in s zs p v zs)
     (settled_effect s zs p x v q acts item closed k.1 t.1 (left_true (is_up_to v (version_in q.0 zs)) (is_settled_in s zs q.0) first)
-    (or_cases (updates s q.0 && is_whole_in s zs q.0) (is_strict_tree s q.0 && was_committed q.0 zs)
+    (or_cases (updates s q.0 && is_whole_in s zs q.0) (is_strict_tree s q.0 && was_decided_as q.0 true zs)
     (right_true (is_up_to v (version_in q.0 zs)) (is_settled_in s zs q.0) first))) k.1
 
 -- two subtransactions of one strict tree that change x are one

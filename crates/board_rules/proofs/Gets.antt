@@ -7,13 +7,13 @@ use Rattle.tv_base.specs.declared.numbers.Version.{Version}
 use Rattle.tv_base.proofs.Truths.{left_true, right_true, same_test}
 use Rattle.script_parts.specs.ScriptData.{ScriptData, ops_of, subs_at, updates}
 use Rattle.script_parts.specs.Valid.{IsValid}
-use Rattle.board_rules.specs.Histories.{Place, applies, commits, does, is_strict_tree, is_whole_in, version_in, was_committed}
-use Rattle.board_rules.specs.Moves.{decides_as}
+use Rattle.board_rules.specs.Histories.{Place, applies, decides_as, does, is_strict_tree, is_whole_in, version_in, was_decided_as}
 use Rattle.board_rules.specs.Serial.{commit_order, is_in, is_settled_in, serial_in}
 use Rattle.nc_locks.specs.Modes.{modes_conflict}
-use Rattle.board_rules.specs.Stands.{lock_mode_of, votes, votes_yes}
+use Rattle.nc_locks.specs.Wants.{mode_wanted}
+use Rattle.board_rules.specs.Stands.{votes, votes_yes}
 use Rattle.board_rules.specs.Worth.{first_value, worth_after, worth_in}
-use Rattle.board_rules.proofs.ActTests.{applies_as, applies_as_one, commits_as, votes_yes_is}
+use Rattle.board_rules.proofs.ActTests.{applies_as, applies_as_one, votes_yes_is}
 use Rattle.board_rules.proofs.AtEntry.{vote_sees_worth_before}
 use Rattle.board_rules.proofs.BeforeTree.{ahead_before, before_ahead, before_apart, before_in, before_order, before_tree}
 use Rattle.board_rules.proofs.ClosedWorth.{HasPlace, applied_as_commit, decided_placed, decided_stands, did_stands, did_there, once_apart, one_tree, up_to}
@@ -155,11 +155,11 @@ module _ (s : ScriptData) (zs : List Place) (p x k n : ℕ) (v : Version) (a e :
         by : w.0 ≡ v.0 → (h.place < a) ⊎ (a ≤ h.place) → (a < h.place) ⊎ (h.place ≤ a) → ActBelow (applies q.0) zs p a
         by same (inl lt) d =
             let f = applied_between s zs p x q.0 q.1 k n h.place a g.rules.acts (ne_eqb q.0 k (not_itself q.0 first)) h.at h.on g.voted g.on
-            (ap (modes_conflict (lock_mode_of g.on.op.deed)) (held_by h.on.op.deed h.over) ∙ hold_right (lock_mode_of g.on.op.deed)) lt in
+            (ap (modes_conflict (mode_wanted g.on.op.deed)) (held_by h.on.op.deed h.over) ∙ hold_right (mode_wanted g.on.op.deed)) lt in
             record { place = f.place; below = f.before; at = f.at }
         by same (inr ge) (inl gt) =
             let f = applied_between s zs p x k n q.0 q.1 a h.place g.rules.acts (ne_eqb k q.0 (λ is. not_itself q.0 first (sym is))) g.voted g.on h.at h.on
-            (ap (λ m. modes_conflict m (lock_mode_of g.on.op.deed)) (held_by h.on.op.deed h.over) ∙ hold_left (lock_mode_of g.on.op.deed)) gt in
+            (ap (λ m. modes_conflict m (mode_wanted g.on.op.deed)) (held_by h.on.op.deed h.over) ∙ hold_left (mode_wanted g.on.op.deed)) gt in
             let after = applied_after f.place f.at in
             absurd (not_after q.0 w c same first
             (there_from (closes_tree s q.0) zs i (e + 1) (record { node = home; act = decided.act }) decided.is
@@ -185,7 +185,7 @@ module _ (s : ScriptData) (zs : List Place) (p x k n : ℕ) (v : Version) (a e :
   late_settled : (q : ℕ × ℕ) (w : Version) → touches s x q ≡ true → q.1 < length (subs_at s q.0)
       → is_up_to v.0 (version_in q.0 zs) ≡ true → IsPlaced s zs q.0 w → w.0 ≤ v.0
       → ahead same_number q.0 k (serial_in s zs v.0) ≡ true
-      → ((updates s q.0 && is_whole_in s zs q.0) ≡ true) ⊎ ((is_strict_tree s q.0 && was_committed q.0 zs) ≡ true)
+      → ((updates s q.0 && is_whole_in s zs q.0) ≡ true) ⊎ ((is_strict_tree s q.0 && was_decided_as q.0 true zs) ≡ true)
       → has same_pair q (effects_in s (take a zs) p v.0 (take a zs)) ≡ true
   late_settled q w touch small to c most first (inl is) =
       let up = left_true (updates s q.0) (is_whole_in s zs q.0) is in
@@ -193,10 +193,10 @@ module _ (s : ScriptData) (zs : List Place) (p x k n : ℕ) (v : Version) (a e :
       let d = did_there s zs p x q g.rules.acts g.item touch done in
       in_part q d.0 (late_did q d.0 w touch up d.1 c most first) (inl (record { up = up; at = d.1 })) to
   late_settled q w touch small to c most first (inr is) =
-      let strict = left_true (is_strict_tree s q.0) (was_committed q.0 zs) is in
-      let f = found_all (λ (y : Place). commits q.0 y.act) zs (right_true (is_strict_tree s q.0) (was_committed q.0 zs) is) in
+      let strict = left_true (is_strict_tree s q.0) (was_decided_as q.0 true zs) is in
+      let f = found_all (λ (y : Place). decides_as q.0 true y.act) zs (right_true (is_strict_tree s q.0) (was_decided_as q.0 true zs) is) in
       let decided : ActAt (decides_as q.0 true) zs f.place f.item.node
-      = record { act = f.item.act; is = f.is; passes = commits_as q.0 f.item.act f.passes } in
+      = record { act = f.item.act; is = f.is; passes = f.passes } in
       let h = held s zs p x f.place f.item.node q g.rules.acts g.item strict small touch decided in
       let r = late_applied q f.place w f.item.node touch strict small decided h c most first in
       in_part q r.place r.below
@@ -237,7 +237,7 @@ module _ (s : ScriptData) (zs : List Place) (p x k n : ℕ) (v : Version) (a e :
       } in
       kept_has same_pair pairs_equal (touches s x) q (effects_in s (take a zs) p v.0 (take a zs))
       (late_settled q o.version m.1 t.1 to c o.most first
-      (or_cases (updates s q.0 && is_whole_in s zs q.0) (is_strict_tree s q.0 && was_committed q.0 zs) settled)) m.1
+      (or_cases (updates s q.0 && is_whole_in s zs q.0) (is_strict_tree s q.0 && was_decided_as q.0 true zs) settled)) m.1
 
   get_order : (b c : ℕ × ℕ) → AreOnce same_pair (by_time s (take a zs) p x v.0) → tied s b c ≡ true
       → ahead same_pair b c (by_time s (take a zs) p x v.0) ≡ true

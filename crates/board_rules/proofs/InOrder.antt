@@ -8,11 +8,11 @@ use Rattle.tv_base.proofs.Truths.{left_true, right_true, same_test}
 use Rattle.letter_types.specs.declared.acts.Act.{Act}
 use Rattle.letter_types.specs.declared.acts.Act.TheVariants.{Born, Did, Turned, Showed, Swept, Finished, Waits, Parked, Voted, Freed, Decided, Applied}
 use Rattle.script_parts.specs.ScriptData.{ScriptData, ops_of, subs_at, updates}
-use Rattle.board_rules.specs.Histories.{Place, applies, does, is_strict_tree, version_in}
-use Rattle.board_rules.specs.Moves.{decides_as}
+use Rattle.board_rules.specs.Histories.{Place, applies, decides_as, does, is_strict_tree, version_in}
 use Rattle.board_rules.specs.Serial.{commits_by, commit_order, is_in}
 use Rattle.nc_locks.specs.Modes.{modes_conflict}
-use Rattle.board_rules.specs.Stands.{frees, lock_mode_of, overwrites, votes_yes}
+use Rattle.nc_locks.specs.Wants.{mode_wanted}
+use Rattle.board_rules.specs.Stands.{frees, overwrites, votes_yes}
 use Rattle.board_rules.proofs.ActTests.{applied_any, applies_as, decides_as_is, does_is, votes_yes_is}
 use Rattle.board_rules.proofs.Closings.{is_tree}
 use Rattle.board_rules.proofs.InSerial.{IsBefore, closed_ahead, closes_tree}
@@ -240,12 +240,12 @@ applied_applied s zs p x a b i e w u rules item ne one at_i d g two at_e f h the
       order : (g.place < h.place) ⊎ (h.place ≤ g.place) → (h.place < g.place) ⊎ (g.place ≤ h.place) → d.place + 1 ≤ f.place
       order (inl lt) _ =
           let c = applied_between s zs p x a.0 a.1 b.0 b.1 g.place h.place rules.acts (ne_eqb a.0 b.0 ne) g.at g.on h.at h.on
-          (ap (λ m. modes_conflict m (lock_mode_of g.on.op.deed)) (held_by h.on.op.deed h.over) ∙ hold_left (lock_mode_of g.on.op.deed)) lt in
+          (ap (λ m. modes_conflict m (mode_wanted g.on.op.deed)) (held_by h.on.op.deed h.over) ∙ hold_left (mode_wanted g.on.op.deed)) lt in
           let same = applied_once s zs c.place i p a.0 rules.acts c.at at_i in
           omega (arith, same, c.before, h.below, d.below)
       order (inr ge) (inl gt) =
           let c = applied_between s zs p x b.0 b.1 a.0 a.1 h.place g.place rules.acts (ne_eqb b.0 a.0 (λ is. ne (sym is))) h.at h.on g.at g.on
-          (ap (λ m. modes_conflict m (lock_mode_of h.on.op.deed)) (held_by g.on.op.deed g.over) ∙ hold_left (lock_mode_of h.on.op.deed)) gt in
+          (ap (λ m. modes_conflict m (mode_wanted h.on.op.deed)) (held_by g.on.op.deed g.over) ∙ hold_left (mode_wanted h.on.op.deed)) gt in
           let same = applied_once s zs c.place e p b.0 rules.acts c.at at_e in
           absurd (omega (arith, same, c.before, g.below, d.below, le))
       order (inr ge) (inr le2) =

@@ -23,7 +23,7 @@ use Rattle.commute_ops.specs.declared.kinds.Kind.TheVariants.{Sum as SumKind, To
 use Rattle.board_rules.specs.Histories.{is_strict_tree}
 use Rattle.nc_locks.specs.Modes.{modes_conflict}
 use Rattle.nc_locks.specs.declared.modes.Mode.TheVariants.{Mark}
-use Rattle.board_rules.specs.Stands.{lock_mode_of}
+use Rattle.nc_locks.specs.Wants.{mode_wanted}
 use Rattle.board_rules.specs.Worth.{changes, ops_change, subs_change}
 use Rattle.board_rules.proofs.Once.{AreOnce, clash, has, has_append, numbers_equal, same_number}
 use Rattle.board_rules.proofs.Precedence.{change}
@@ -67,7 +67,7 @@ op_here s t k i o valid is = by (slice_get s.trees t) refl (sub_at s t k) refl w
       }
 
 -- What fits a kind of tree.
-fits_update : (kind : TreeKind) (item : Kind) (d : Deed) → is_update kind ≡ true → deed_fits kind item d ≡ true → lock_mode_of d ≡ Mark
+fits_update : (kind : TreeKind) (item : Kind) (d : Deed) → is_update kind ≡ true → deed_fits kind item d ≡ true → mode_wanted d ≡ Mark
 fits_update Read item d up fits = absurd (cc up)
 fits_update Strict item d up fits = absurd (cc up)
 fits_update Update item (Apply op) up fits = refl
@@ -82,7 +82,7 @@ fits_update Update TopKind (Draw n) up fits = absurd (cc fits)
 fits_update Update BagKind (Draw n) up fits = absurd (cc fits)
 
 fits_strict : (kind : TreeKind) (item : Kind) (d : Deed) → is_strict kind ≡ true → deed_fits kind item d ≡ true
-    → modes_conflict Mark (lock_mode_of d) ≡ true
+    → modes_conflict Mark (mode_wanted d) ≡ true
 fits_strict Read item d strict fits = absurd (cc strict)
 fits_strict Update item d strict fits = absurd (cc strict)
 fits_strict Strict item Get strict fits = refl
@@ -102,14 +102,14 @@ op_fits_kind kind node o None fits = absurd fits
 op_fits_kind kind node o (Some row) fits = (row.kind, fits.1)
 
 pub marks_it : (s : ScriptData) (t k i : ℕ) (o : SubOp) → IsValid s → updates s t ≡ true → slice_get (ops_of s t k) i ≡ Some o
-    → lock_mode_of o.deed ≡ Mark
+    → mode_wanted o.deed ≡ Mark
 marks_it s t k i o valid up is =
     let h = op_here s t k i o valid is in
     let f = op_fits_kind h.tree.kind h.sub.node.0 o (slice_get s.items o.item.0) h.fits in
     fits_update h.tree.kind f.0 o.deed (kind_of is_update s t h.tree h.at up) f.1
 
 pub holds_it : (s : ScriptData) (t k i : ℕ) (o : SubOp) → IsValid s → is_strict_tree s t ≡ true → slice_get (ops_of s t k) i ≡ Some o
-    → modes_conflict Mark (lock_mode_of o.deed) ≡ true
+    → modes_conflict Mark (mode_wanted o.deed) ≡ true
 holds_it s t k i o valid strict is =
     let h = op_here s t k i o valid is in
     let f = op_fits_kind h.tree.kind h.sub.node.0 o (slice_get s.items o.item.0) h.fits in

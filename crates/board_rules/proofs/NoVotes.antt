@@ -8,13 +8,15 @@ use Rattle.letter_types.specs.declared.acts.Act.TheVariants.{Did, Voted, Finishe
 use Rattle.nc_locks.specs.Modes.{modes_conflict}
 use Rattle.nc_locks.specs.declared.modes.Mode.{Mode}
 use Rattle.nc_locks.specs.declared.modes.Mode.TheVariants.{Mark}
+use Rattle.nc_locks.specs.Wants.{mode_wanted}
 use Rattle.script_parts.specs.ScriptData.{ScriptData, ops_of, updates}
 use Rattle.script_parts.specs.Valid.{IsValid}
 use Rattle.script_parts.specs.declared.parts.SubOp.{SubOp}
 use Rattle.board_rules.specs.Histories.{Place}
-use Rattle.board_rules.specs.Stands.{conflict_of, conflict_with, conflicts_with, holder_of, lock_mode_of, locked_by, modes_after, modes_on, modes_standing, releases}
+use Rattle.board_rules.specs.Stands.{conflict_of, conflict_with, conflicts_with, holder_of, locked_by, modes_after, modes_on, modes_standing}
 use Rattle.board_rules.proofs.Holders.{least_of_none}
 use Rattle.board_rules.proofs.ItemAt.{marks_it}
+use Rattle.board_rules.proofs.ActTests.{releases}
 
 -- the act is no vote
 abbrev pub IsNoVote : Act → Type 0
@@ -27,9 +29,9 @@ AreNoVotes xs = AllByRecursion (λ (y : Place). IsNoVote y.act) xs
 
 -- these operations mark their items
 abbrev pub AreMarking : List SubOp → Type 0
-AreMarking os = AllByRecursion (λ (o : SubOp). lock_mode_of o.deed ≡ Mark) os
+AreMarking os = AllByRecursion (λ (o : SubOp). mode_wanted o.deed ≡ Mark) os
 
-each_by : (os : List SubOp) → ((i : ℕ) (o : SubOp) → slice_get os i ≡ Some o → lock_mode_of o.deed ≡ Mark) → AreMarking os
+each_by : (os : List SubOp) → ((i : ℕ) (o : SubOp) → slice_get os i ≡ Some o → mode_wanted o.deed ≡ Mark) → AreMarking os
 each_by [] all = tt
 each_by (o ∷ os) all = (all 0 o refl, each_by os (λ i q is. all (suc i) q is))
 
@@ -45,9 +47,9 @@ more_marks : (a b : List Mode) → AreMarks a → AreMarks b → AreMarks (a ++ 
 more_marks [] b all rest = rest
 more_marks (m ∷ a) b all rest = (all.0, more_marks a b all.1 rest)
 
-one_marks : (o : SubOp) (rest : List SubOp) (here : Bool) → lock_mode_of o.deed ≡ Mark
-    → AreMarks (map (λ (q : SubOp). lock_mode_of q.deed) rest)
-    → AreMarks (map (λ (q : SubOp). lock_mode_of q.deed) (if here then o ∷ rest else rest))
+one_marks : (o : SubOp) (rest : List SubOp) (here : Bool) → mode_wanted o.deed ≡ Mark
+    → AreMarks (map (λ (q : SubOp). mode_wanted q.deed) rest)
+    → AreMarks (map (λ (q : SubOp). mode_wanted q.deed) (if here then o ∷ rest else rest))
 one_marks o rest true is all = (is, all)
 one_marks o rest false is all = all
 
@@ -99,7 +101,7 @@ no_conflict_in : (s : ScriptData) (xs : List Place) (p t : ℕ) (os : List SubOp
     → AreNoVotes xs → AreMarking os → conflict_of s xs p t os ≡ None
 no_conflict_in s xs p t [] valid none all = refl
 no_conflict_in s xs p t (o ∷ os) valid none all =
-    ap (λ r. option_or (conflict_with o.item r) (conflict_of s xs p t os)) (no_holder s xs p t o.item.0 (lock_mode_of o.deed) valid none all.0)
+    ap (λ r. option_or (conflict_with o.item r) (conflict_of s xs p t os)) (no_holder s xs p t o.item.0 (mode_wanted o.deed) valid none all.0)
     ∙ no_conflict_in s xs p t os valid none all.1
 
 pub none_in_way : (s : ScriptData) (xs : List Place) (p t k : ℕ) → IsValid s → updates s t ≡ true

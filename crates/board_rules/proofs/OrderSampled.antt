@@ -29,7 +29,7 @@ use Rattle.script_parts.specs.declared.parts.SubOp.{SubOp}
 use Rattle.script_parts.specs.declared.parts.Tree.{Tree}
 use Rattle.script_parts.specs.declared.parts.TreeKind.{TreeKind}
 use Rattle.script_parts.specs.declared.parts.TreeKind.TheVariants.{Update, Strict}
-use Rattle.board_rules.specs.Histories.{Place, is_strict_tree, is_whole_in, version_in, was_applied, was_committed, was_done}
+use Rattle.board_rules.specs.Histories.{Place, is_strict_tree, is_whole_in, version_in, was_applied, was_decided_as, was_done}
 use Rattle.board_rules.specs.Moves.{OneByOne}
 use Rattle.board_rules.specs.Right.{IsDoneAtOnce}
 use Rattle.board_rules.specs.Serial.{serial_in}
@@ -440,7 +440,7 @@ closed_whole (suc (suc (suc zero))) k up to touch done = absurd (cc up)
 closed_whole (suc (suc (suc (suc t)))) k up to touch done = absurd (cc up)
 
 closed_applied : (t k : ℕ) → is_strict_tree four t ≡ true → is_up_to 2 (version_in t acts) ≡ true → touches four 0 (t, k) ≡ true
-    → was_committed t acts ≡ true → was_applied t 0 acts ≡ true
+    → was_decided_as t true acts ≡ true → was_applied t 0 acts ≡ true
 closed_applied zero k strict to touch committed = absurd (cc strict)
 closed_applied (suc zero) k strict to touch committed = refl
 closed_applied (suc (suc zero)) k strict to touch committed = absurd (cc strict)

@@ -1,11 +1,11 @@
 -- The places of two histories, one after the other, and what holds of each act.
-use Rattle.std.proofs.Common.{◌≡◌, ℕ, true, take, List, ◌∷◌, ◌++◌, refl, ap, sym, ◌∙◌, append_assoc, [], reverse}
+use Rattle.std.proofs.Common.{◌≡◌, ℕ, Bool, true, take, List, ◌∷◌, ◌++◌, refl, ap, sym, ◌∙◌, append_assoc, [], reverse}
 use Rattle.std.specs.Prelude.{◌||◌, ◌&&◌, ◌==◌, Option, Some, None, is_some}
 use Rattle.std.specs.Option.{option_or}
 use Rattle.std.proofs.lemmas.List.Folds.{list_any-append}
 use Rattle.std.proofs.lemmas.List.{append-nil, reverse-append}
 use Rattle.letter_types.specs.declared.entries.Entry.{Entry}
-use Rattle.board_rules.specs.Histories.{Place, applies, born_as, commits, does, places_at, places_of, version_in, was_applied, was_committed, was_done}
+use Rattle.board_rules.specs.Histories.{Place, applies, born_as, decides_as, does, places_at, places_of, version_in, was_applied, was_decided_as, was_done}
 use Rattle.board_rules.specs.Moves.{AtEachAct, OneByOne}
 use Rattle.board_rules.specs.Right.{finishes, has_finished}
 
@@ -36,9 +36,9 @@ version_stays t xs ys is = version_in-append t xs ys ∙ some_or (version_in t x
 pub was_done-append : (t k : ℕ) (a b : List Place) → was_done t k (a ++ b) ≡ (was_done t k a || was_done t k b)
 was_done-append t k a b = list_any-append (λ (x : Place). does t k x.act) a b
 
-pub was_committed-append : (t : ℕ) (a b : List Place)
-    → was_committed t (a ++ b) ≡ (was_committed t a || was_committed t b)
-was_committed-append t a b = list_any-append (λ (x : Place). commits t x.act) a b
+pub was_decided_as-append : (t : ℕ) (commit : Bool) (a b : List Place)
+    → was_decided_as t commit (a ++ b) ≡ (was_decided_as t commit a || was_decided_as t commit b)
+was_decided_as-append t commit a b = list_any-append (λ (x : Place). decides_as t commit x.act) a b
 
 pub was_applied-append : (t p : ℕ) (a b : List Place)
     → was_applied t p (a ++ b) ≡ (was_applied t p a || was_applied t p b)

@@ -2,7 +2,7 @@
 -- comes once.
 use Rattle.std.proofs.Common.{◌≡◌, ◌⊎◌, inl, inr, ◌==◌, ◌&&◌, ℕ, zero, suc, ◌<◌, ◌≤◌, Bool, true, false, List, [], ◌∷◌, length, refl, sym, ap, subst, ◌∙◌, arith, Some, None, take}
 use Rattle.std.specs.Prelude.{if◌then◌else◌, ◌||◌, fold, max, nat_lt, slice_get}
-use Rattle.std.proofs.lemmas.Bool.{and_from, and_right, eqb-true, or_left, or_right}
+use Rattle.std.proofs.lemmas.Bool.{and_from, and_right, eqb-true, or_cases, or_left, or_right}
 use Rattle.std.proofs.lemmas.Bool.Decides.{nat_tests}
 use Rattle.tv_base.specs.declared.numbers.Version.{Version}
 use Rattle.tv_base.proofs.Truths.{left_true, right_true, same_test}
@@ -12,14 +12,14 @@ use Rattle.script_parts.specs.ScriptData.{ScriptData, node_of, ops_of, subs_at, 
 use Rattle.script_parts.specs.declared.parts.Deed.{Deed}
 use Rattle.script_parts.specs.declared.parts.Deed.TheVariants.{Apply, Get, Set, Draw}
 use Rattle.script_parts.specs.declared.parts.SubOp.{SubOp}
-use Rattle.board_rules.specs.Histories.{Place, applies, does, is_strict_tree, is_whole_in, version_in, was_applied}
-use Rattle.board_rules.specs.Moves.{decides_as}
+use Rattle.board_rules.specs.Histories.{Place, applies, decides_as, does, is_strict_tree, is_whole_in, version_in, version_or, was_applied}
 use Rattle.nc_locks.specs.Modes.{modes_conflict}
 use Rattle.nc_locks.specs.declared.modes.Mode.{Mode}
 use Rattle.nc_locks.specs.declared.modes.Mode.TheVariants.{Mark, Look, Hold}
-use Rattle.board_rules.specs.Stands.{conflict_of, frees, releases, lock_mode_of, locked_by, newer_of, newest_of, overwrites, version_or_zero, votes_yes, written_by, written_in}
+use Rattle.nc_locks.specs.Wants.{mode_wanted}
+use Rattle.board_rules.specs.Stands.{conflict_of, frees, locked_by, newer_of, newest_of, overwrites, votes_yes, written_by, written_in}
 use Rattle.board_rules.specs.Worth.{changes, ops_change}
-use Rattle.board_rules.proofs.ActTests.{applies_as, applies_as_one, does_is, lets_go_by, votes_yes_is}
+use Rattle.board_rules.proofs.ActTests.{applies_as, applies_as_one, does_is, releases, votes_yes_is}
 use Rattle.board_rules.proofs.Once.{clash}
 use Rattle.board_rules.proofs.Positions.{ActAt, ActBelow, act_found, found, found_act, not_below}
 use Rattle.board_rules.proofs.Rules.{AreByRule, FollowsRules, IsItemAt, applying, deciding, deed, freeing, is_writer, yes_vote}
@@ -110,13 +110,13 @@ turned Mark is = is
 turned Look is = refl
 turned Hold is = refl
 
-pub overwritten : (d : Deed) → changes d ≡ true → modes_conflict Mark (lock_mode_of d) ≡ true → overwrites d ≡ true
+pub overwritten : (d : Deed) → changes d ≡ true → modes_conflict Mark (mode_wanted d) ≡ true → overwrites d ≡ true
 overwritten (Apply op) c m = absurd (cc m)
 overwritten Get c m = absurd (cc c)
 overwritten (Set n) c m = refl
 overwritten (Draw n) c m = refl
 
-pub held_by : (d : Deed) → overwrites d ≡ true → lock_mode_of d ≡ Hold
+pub held_by : (d : Deed) → overwrites d ≡ true → mode_wanted d ≡ Hold
 held_by (Apply op) is = absurd (cc is)
 held_by Get is = absurd (cc is)
 held_by (Set n) is = refl
@@ -207,13 +207,13 @@ pub freed_where_free : (s : ScriptData) (zs : List Place) (p x t j k n i a : ℕ
     → is_strict_tree s k ≡ true → conflict_of s (take a zs) p k (ops_of s k n) ≡ None → OpOn x (ops_of s k n) → i < a
     → ActBetween (frees t) zs p i a
 freed_where_free s zs p x t j k n i a acts item up did u strict free o lt =
-    let mark : lock_mode_of u.op.deed ≡ Mark = item.marks t j u.index u.op up u.is in
-    let against : modes_conflict (lock_mode_of o.op.deed) (lock_mode_of u.op.deed) ≡ true =
-    ap (modes_conflict (lock_mode_of o.op.deed)) mark ∙ turned (lock_mode_of o.op.deed) (item.strict k n o.index o.op strict o.is) in
+    let mark : mode_wanted u.op.deed ≡ Mark = item.marks t j u.index u.op up u.is in
+    let against : modes_conflict (mode_wanted o.op.deed) (mode_wanted u.op.deed) ≡ true =
+    ap (modes_conflict (mode_wanted o.op.deed)) mark ∙ turned (mode_wanted o.op.deed) (item.strict k n o.index o.op strict o.is) in
     let g = gone_between zs p t i a (let_go_between s zs p x t k i a (record { node = p; act = did.act }) (ops_of s t j) (ops_of s k n) u o
     did.is (did_locks s t j did.act up did.passes) (did_stays p t t j did.act did.passes) lt free against
     (update_apart s t k up strict) (updates_there s t up)) in
-    update_gone s zs p t i a acts up g (lets_go_by t g.at.act g.at.passes)
+    update_gone s zs p t i a acts up g (or_cases (frees t g.at.act) (applies t g.at.act) g.at.passes)
 
 pub freed_before : (s : ScriptData) (zs : List Place) (p x t j k n i a : ℕ) → AreByRule s zs → IsItemAt s p x
     → updates s t ≡ true → ActAt (does t j) zs i p → OpOn x (ops_of s t j)
@@ -241,29 +241,29 @@ pub applied_before : (s : ScriptData) (zs : List Place) (p x t j k n i a : ℕ) 
 applied_before s zs p x t j k n i a acts item up did u voted o lt =
     let y = yes_vote s zs a p k n acts voted in
     let d = deed s zs i p t j acts did in
-    let mark : lock_mode_of u.op.deed ≡ Mark = item.marks t j u.index u.op up u.is in
-    let against : modes_conflict (lock_mode_of u.op.deed) (lock_mode_of o.op.deed) ≡ true =
-    ap (λ m. modes_conflict m (lock_mode_of o.op.deed)) mark ∙ item.strict k n o.index o.op y.strict o.is in
+    let mark : mode_wanted u.op.deed ≡ Mark = item.marks t j u.index u.op up u.is in
+    let against : modes_conflict (mode_wanted u.op.deed) (mode_wanted o.op.deed) ≡ true =
+    ap (λ m. modes_conflict m (mode_wanted o.op.deed)) mark ∙ item.strict k n o.index o.op y.strict o.is in
     let g = gone_between zs p k a i (let_go_between s zs p x k t a i (record { node = p; act = voted.act }) (ops_of s k n) (ops_of s t j) o u
     voted.is (vote_locks s k n voted.act voted.passes) (vote_stays p k k n voted.act voted.passes) lt (d.free up) against
     (strict_apart s t k up y.strict) (strict_there s k y.strict)) in
-    strict_gone s zs p k a i acts y.strict g (lets_go_by k g.at.act g.at.passes)
+    strict_gone s zs p k a i acts y.strict g (or_cases (frees k g.at.act) (applies k g.at.act) g.at.passes)
 
 -- where strict tree k meets no lock that conflicts on x after strict tree t voted yes on x in a mode that conflicts, t
 -- was applied between; so where k votes yes
 pub applied_where_free : (s : ScriptData) (zs : List Place) (p x t j k n a b : ℕ) → AreByRule s zs → (t == k) ≡ false
     → ActAt (votes_yes t j) zs a p → (u : OpOn x (ops_of s t j)) → conflict_of s (take b zs) p k (ops_of s k n) ≡ None
-    → (o : OpOn x (ops_of s k n)) → modes_conflict (lock_mode_of o.op.deed) (lock_mode_of u.op.deed) ≡ true → a < b
+    → (o : OpOn x (ops_of s k n)) → modes_conflict (mode_wanted o.op.deed) (mode_wanted u.op.deed) ≡ true → a < b
     → ActBetween (applies t) zs p a b
 applied_where_free s zs p x t j k n a b acts other one u free o against lt =
     let y = yes_vote s zs a p t j acts one in
     let g = gone_between zs p t a b (let_go_between s zs p x t k a b (record { node = p; act = one.act }) (ops_of s t j) (ops_of s k n) u o
     one.is (vote_locks s t j one.act one.passes) (vote_stays p t t j one.act one.passes) lt free against other (strict_there s t y.strict)) in
-    strict_gone s zs p t a b acts y.strict g (lets_go_by t g.at.act g.at.passes)
+    strict_gone s zs p t a b acts y.strict g (or_cases (frees t g.at.act) (applies t g.at.act) g.at.passes)
 
 pub applied_between : (s : ScriptData) (zs : List Place) (p x t j k n a b : ℕ) → AreByRule s zs → (t == k) ≡ false
     → ActAt (votes_yes t j) zs a p → (u : OpOn x (ops_of s t j)) → ActAt (votes_yes k n) zs b p → (o : OpOn x (ops_of s k n))
-    → modes_conflict (lock_mode_of o.op.deed) (lock_mode_of u.op.deed) ≡ true → a < b → ActBetween (applies t) zs p a b
+    → modes_conflict (mode_wanted o.op.deed) (mode_wanted u.op.deed) ≡ true → a < b → ActBetween (applies t) zs p a b
 applied_between s zs p x t j k n a b acts other one u two o against lt =
     applied_where_free s zs p x t j k n a b acts other one u (yes_vote s zs b p k n acts two).free o against lt
 
@@ -334,10 +334,10 @@ none_newer s xs p v (suc i) o (y ∷ os) none is over =
       rest false h = h
 
 did_wrote : (s : ScriptData) (xs : List Place) (p q x t j : ℕ) (a : Act) → updates s t ≡ true → ops_change x (ops_of s t j) ≡ true
-    → does t j a ≡ true → written_in s xs p x (record { node = q; act = a }) ≡ version_or_zero (version_in t xs)
+    → does t j a ≡ true → written_in s xs p x (record { node = q; act = a }) ≡ version_or 0 (version_in t xs)
 did_wrote s xs p q x t j a up changes_x is =
     ap (written_by s xs x (q == p)) (does_is t j a is).1
-    ∙ choose (updates s t && ops_change x (ops_of s t j)) (version_or_zero (version_in t xs)) 0
+    ∙ choose (updates s t && ops_change x (ops_of s t j)) (version_or 0 (version_in t xs)) 0
     (and_from (updates s t) (ops_change x (ops_of s t j)) up changes_x)
 
 pub none_later : (s : ScriptData) (zs : List Place) (p q x t j k n i a : ℕ) (w v : Version) → AreByRule s zs → updates s t ≡ true
@@ -353,13 +353,13 @@ none_later s zs p q x t j k n i a w v acts up did changes_x voted o over lt one 
     let ek : vk.0.0 ≡ v.0 = same_version vk.0 v (sym (version_more k a vk.0 zs vk.1) ∙ two) in
     let et : vt.0.0 ≡ w.0 = same_version vt.0 w (sym (version_more t i vt.0 zs vt.1) ∙ one) in
     let le : i ≤ a = omega (arith, lt) in
-    let known : version_or_zero (version_in t xs) ≡ vt.0.0 = ap version_or_zero (version_later t i a vt.0 zs le vt.1) in
+    let known : version_or 0 (version_in t xs) ≡ vt.0.0 = ap (version_or 0) (version_later t i a vt.0 zs le vt.1) in
     let wrote = did_wrote s xs p q x t j did.act up changes_x did.passes in
     let most : written_in s xs p x (record { node = q; act = did.act }) ≤ newest_of s xs p x
     = fold_at (λ (z : Place). written_in s xs p x z) i a 0 (record { node = q; act = did.act }) zs did.is lt in
-    let least = none_newer s xs p (version_or_zero (version_in k xs)) o.index o.op (ops_of s k n) y.newest o.is over in
+    let least = none_newer s xs p (version_or 0 (version_in k xs)) o.index o.op (ops_of s k n) y.newest o.is over in
     let item : newest_of s xs p o.op.item.0 ≡ newest_of s xs p x = ap (newest_of s xs p) (eqb-true o.op.item.0 x o.on) in
-    let mine : version_or_zero (version_in k xs) ≡ vk.0.0 = ap version_or_zero vk.1 in
+    let mine : version_or 0 (version_in k xs) ≡ vk.0.0 = ap (version_or 0) vk.1 in
     omega (arith, ek, et, known, wrote, most, least, item, mine) where
       same_version : (b c : Version) → Some b ≡ Some c → b.0 ≡ c.0
       same_version b c is = let same : b ≡ c = cc is in ap (λ (z : Version). z.0) same

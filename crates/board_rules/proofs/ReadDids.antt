@@ -14,10 +14,10 @@ use Rattle.script_parts.specs.declared.parts.Sub.{Sub}
 use Rattle.script_parts.specs.declared.parts.Tree.{Tree}
 use Rattle.script_parts.specs.declared.parts.TreeKind.{TreeKind}
 use Rattle.script_parts.specs.declared.parts.TreeKind.TheVariants.{Update, Read, Strict}
-use Rattle.board_rules.specs.Histories.{Place, all_applied, all_done, is_strict_tree, is_complete, is_whole_in, version_in, was_applied, was_born, was_committed, was_done}
+use Rattle.board_rules.specs.Histories.{Place, all_applied, all_done, is_strict_tree, is_complete, is_whole_in, version_in, was_applied, was_born, was_decided_as, was_done}
 use Rattle.board_rules.specs.Serial.{commits_by, commit_order, is_member_in, is_settled_in, is_version, members_in, serial_in, with_closed}
 use Rattle.board_rules.specs.Worth.{worth_after, worth_in}
-use Rattle.board_rules.proofs.Places.{version_in-append, was_applied-append, was_committed-append, was_done-append}
+use Rattle.board_rules.proofs.Places.{version_in-append, was_applied-append, was_decided_as-append, was_done-append}
 
 -- a read tree is no update tree, and not strict
 kind_apart : (kind : TreeKind) → is_read kind ≡ true → (is_update kind ≡ false) × (is_strict kind ≡ false)
@@ -56,9 +56,9 @@ version_same xs node u t k values =
     version_in-append u xs (record { node = node; act = Did t k values } ∷ []) ∙ none_behind (version_in u xs)
 
 committed_same : (xs : List Place) (node u : ℕ) (t : TreeNo) (k : SubNo) (values : List (ItemNo × Value))
-    → was_committed u (with_did xs node t k values) ≡ was_committed u xs
+    → was_decided_as u true (with_did xs node t k values) ≡ was_decided_as u true xs
 committed_same xs node u t k values =
-    was_committed-append u xs (record { node = node; act = Did t k values } ∷ []) ∙ or_false (was_committed u xs)
+    was_decided_as-append u true xs (record { node = node; act = Did t k values } ∷ []) ∙ or_false (was_decided_as u true xs)
 
 applied_same : (xs : List Place) (node u : ℕ) (t : TreeNo) (k : SubNo) (values : List (ItemNo × Value)) (ks : List Sub)
     → all_applied u ks (with_did xs node t k values) ≡ all_applied u ks xs
@@ -95,11 +95,11 @@ settled_by s xs node u t k values read true is =
     let same : t.0 ≡ u = grind (arith, nat_tests) in
     let apart = tree_apart s u (slice_get s.trees u) refl (sym (ap (reads s) same) ∙ read) in
     let none = λ (zs : List Place).
-    ap (λ (b : Bool). (b && is_whole_in s zs u) || (is_strict_tree s u && was_committed u zs)) apart.0
-    ∙ ap (λ (b : Bool). b && was_committed u zs) apart.1 in
+    ap (λ (b : Bool). (b && is_whole_in s zs u) || (is_strict_tree s u && was_decided_as u true zs)) apart.0
+    ∙ ap (λ (b : Bool). b && was_decided_as u true zs) apart.1 in
     none (with_did xs node t k values) ∙ sym (none xs)
 settled_by s xs node u t k values read false is =
-    ap (λ (b : Bool). (updates s u && b) || (is_strict_tree s u && was_committed u (with_did xs node t k values)))
+    ap (λ (b : Bool). (updates s u && b) || (is_strict_tree s u && was_decided_as u true (with_did xs node t k values)))
     (whole_same s xs node u t k values is)
     ∙ ap (λ (b : Bool). (updates s u && is_whole_in s xs u) || (is_strict_tree s u && b)) (committed_same xs node u t k values)
 

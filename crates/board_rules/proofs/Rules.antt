@@ -4,11 +4,12 @@ use Rattle.std.proofs.Common.{◌≡◌, ℕ, Bool, true, List, subst, Some, tak
 use Rattle.std.specs.Prelude.{slice_get}
 use Rattle.script_parts.specs.ScriptData.{ScriptData, node_of, ops_of, updates}
 use Rattle.script_parts.specs.declared.parts.SubOp.{SubOp}
-use Rattle.board_rules.specs.Histories.{Place, does, is_strict_tree}
-use Rattle.board_rules.specs.Moves.{IsApplying, IsDecision, IsFreeing, decides_as}
+use Rattle.board_rules.specs.Histories.{Place, decides_as, does, is_strict_tree}
+use Rattle.board_rules.specs.Moves.{IsApplying, IsDecision, IsFreeing}
 use Rattle.nc_locks.specs.Modes.{modes_conflict}
 use Rattle.nc_locks.specs.declared.modes.Mode.TheVariants.{Mark}
-use Rattle.board_rules.specs.Stands.{frees, lock_mode_of, votes_yes}
+use Rattle.nc_locks.specs.Wants.{mode_wanted}
+use Rattle.board_rules.specs.Stands.{frees, votes_yes}
 pub use Rattle.board_rules.specs.Rules.{AreBornLate, AreByRule, FollowsRules, IsByRule, IsFreeDeed, IsFreeVote, is_writer}
 use Rattle.board_rules.specs.Worth.{ops_change}
 use Rattle.board_rules.proofs.ActTests.{applies_as, applies_as_is, decides_as_is, does_is, frees_is, votes_yes_is}
@@ -43,6 +44,6 @@ pub record IsItemAt (s : ScriptData) (p x : ℕ) : Type 0 where
   pub placed : (t k : ℕ) → ops_change x (ops_of s t k) ≡ true → node_of s t k ≡ p
   pub once : (t j k : ℕ) → is_strict_tree s t ≡ true → ops_change x (ops_of s t j) ≡ true → ops_change x (ops_of s t k) ≡ true
       → j ≡ k
-  pub marks : (t k i : ℕ) (o : SubOp) → updates s t ≡ true → slice_get (ops_of s t k) i ≡ Some o → lock_mode_of o.deed ≡ Mark
+  pub marks : (t k i : ℕ) (o : SubOp) → updates s t ≡ true → slice_get (ops_of s t k) i ≡ Some o → mode_wanted o.deed ≡ Mark
   pub strict : (t k i : ℕ) (o : SubOp) → is_strict_tree s t ≡ true → slice_get (ops_of s t k) i ≡ Some o
-      → modes_conflict Mark (lock_mode_of o.deed) ≡ true
+      → modes_conflict Mark (mode_wanted o.deed) ≡ true

@@ -12,9 +12,11 @@ use Rattle.script_parts.specs.declared.parts.SubOp.{SubOp}
 use Rattle.board_rules.specs.Histories.{Place}
 use Rattle.nc_locks.specs.Modes.{modes_conflict}
 use Rattle.nc_locks.specs.declared.modes.Mode.{Mode}
-use Rattle.board_rules.specs.Stands.{conflict_of, conflict_with, holder_of, least_from, releases, lock_mode_of, locked_by, modes_after, modes_on, conflicts_with}
+use Rattle.nc_locks.specs.Wants.{mode_wanted}
+use Rattle.board_rules.specs.Stands.{conflict_of, conflict_with, holder_of, least_from, locked_by, modes_after, modes_on, conflicts_with}
 use Rattle.board_rules.proofs.Once.{clash}
 use Rattle.board_rules.proofs.Positions.{Found}
+use Rattle.board_rules.proofs.ActTests.{releases}
 
 -- an operation on item x among these
 pub record OpOn (x : ℕ) (os : List SubOp) : Type 0 where
@@ -32,24 +34,24 @@ pub record Between (test : Place → Bool) (zs : List Place) (a b : ℕ) : Type 
   pub is : slice_get zs place ≡ Some item
   pub passes : test item ≡ true
 
-on_choice : (m : Mode) (o : SubOp) (b : Bool) (os : List SubOp) → b ≡ true → modes_conflict m (lock_mode_of o.deed) ≡ true
-    → list_any (modes_conflict m) (map (λ (q : SubOp). lock_mode_of q.deed) (cond b (o ∷ os) os)) ≡ true
-on_choice m o true os is against = or_left (modes_conflict m (lock_mode_of o.deed)) (list_any (modes_conflict m) (map (λ (q : SubOp). lock_mode_of q.deed) os)) against
+on_choice : (m : Mode) (o : SubOp) (b : Bool) (os : List SubOp) → b ≡ true → modes_conflict m (mode_wanted o.deed) ≡ true
+    → list_any (modes_conflict m) (map (λ (q : SubOp). mode_wanted q.deed) (cond b (o ∷ os) os)) ≡ true
+on_choice m o true os is against = or_left (modes_conflict m (mode_wanted o.deed)) (list_any (modes_conflict m) (map (λ (q : SubOp). mode_wanted q.deed) os)) against
 on_choice m o false os is against = absurd (cc is)
 
 later_choice : (m : Mode) (o : SubOp) (b : Bool) (os : List SubOp)
-    → list_any (modes_conflict m) (map (λ (q : SubOp). lock_mode_of q.deed) os) ≡ true
-    → list_any (modes_conflict m) (map (λ (q : SubOp). lock_mode_of q.deed) (cond b (o ∷ os) os)) ≡ true
-later_choice m o true os is = or_right (modes_conflict m (lock_mode_of o.deed)) (list_any (modes_conflict m) (map (λ (q : SubOp). lock_mode_of q.deed) os)) is
+    → list_any (modes_conflict m) (map (λ (q : SubOp). mode_wanted q.deed) os) ≡ true
+    → list_any (modes_conflict m) (map (λ (q : SubOp). mode_wanted q.deed) (cond b (o ∷ os) os)) ≡ true
+later_choice m o true os is = or_right (modes_conflict m (mode_wanted o.deed)) (list_any (modes_conflict m) (map (λ (q : SubOp). mode_wanted q.deed) os)) is
 later_choice m o false os is = is
 
 pub on_modes : (m : Mode) (x i : ℕ) (o : SubOp) (os : List SubOp) → slice_get os i ≡ Some o → (o.item.0 == x) ≡ true
-    → modes_conflict m (lock_mode_of o.deed) ≡ true → list_any (modes_conflict m) (modes_on x os) ≡ true
+    → modes_conflict m (mode_wanted o.deed) ≡ true → list_any (modes_conflict m) (modes_on x os) ≡ true
 on_modes m x i o [] is on against = absurd (cc is)
 on_modes m x zero o (y ∷ os) is on against =
     let same : y ≡ o = cc is in
     on_choice m y (y.item.0 == x) (filter (λ (q : SubOp). q.item.0 == x) os) (ap (λ (z : SubOp). z.item.0 == x) same ∙ on)
-    (ap (λ (z : SubOp). modes_conflict m (lock_mode_of z.deed)) same ∙ against)
+    (ap (λ (z : SubOp). modes_conflict m (mode_wanted z.deed)) same ∙ against)
 on_modes m x (suc i) o (y ∷ os) is on against =
     later_choice m y (y.item.0 == x) (filter (λ (q : SubOp). q.item.0 == x) os) (on_modes m x i o os is on against)
 
@@ -146,32 +148,32 @@ and_not a false is no_ = refl
 
 pub no_conflict : (s : ScriptData) (xs : List Place) (p t k i : ℕ) (o : SubOp) (os : List SubOp) → conflict_of s xs p t os ≡ None
     → slice_get os i ≡ Some o → k < length s.trees → (k == t) ≡ false
-    → conflicts_with s xs p o.item.0 (lock_mode_of o.deed) k ≡ false
+    → conflicts_with s xs p o.item.0 (mode_wanted o.deed) k ≡ false
 no_conflict s xs p t k i o [] free is lt other = absurd (cc is)
 no_conflict s xs p t k zero o (y ∷ os) free is lt other =
     let same : y ≡ o = cc is in
-    let parts = none_parts (conflict_with y.item (holder_of s xs p t y.item.0 (lock_mode_of y.deed))) (conflict_of s xs p t os) free in
-    let none = no_holder y.item (holder_of s xs p t y.item.0 (lock_mode_of y.deed)) parts.0 in
-    let test : (not (k == t) && conflicts_with s xs p y.item.0 (lock_mode_of y.deed) k) ≡ false =
-    least_none (λ (j : ℕ). not (j == t) && conflicts_with s xs p y.item.0 (lock_mode_of y.deed) j) 0 (length s.trees) k none (omega arith) (omega (arith, lt)) in
-    sym (ap (λ (z : SubOp). conflicts_with s xs p z.item.0 (lock_mode_of z.deed) k) same)
-    ∙ and_not (k == t) (conflicts_with s xs p y.item.0 (lock_mode_of y.deed) k) test other
+    let parts = none_parts (conflict_with y.item (holder_of s xs p t y.item.0 (mode_wanted y.deed))) (conflict_of s xs p t os) free in
+    let none = no_holder y.item (holder_of s xs p t y.item.0 (mode_wanted y.deed)) parts.0 in
+    let test : (not (k == t) && conflicts_with s xs p y.item.0 (mode_wanted y.deed) k) ≡ false =
+    least_none (λ (j : ℕ). not (j == t) && conflicts_with s xs p y.item.0 (mode_wanted y.deed) j) 0 (length s.trees) k none (omega arith) (omega (arith, lt)) in
+    sym (ap (λ (z : SubOp). conflicts_with s xs p z.item.0 (mode_wanted z.deed) k) same)
+    ∙ and_not (k == t) (conflicts_with s xs p y.item.0 (mode_wanted y.deed) k) test other
 no_conflict s xs p t k (suc i) o (y ∷ os) free is lt other =
     no_conflict s xs p t k i o os
-    (none_parts (conflict_with y.item (holder_of s xs p t y.item.0 (lock_mode_of y.deed))) (conflict_of s xs p t os) free).1 is lt other
+    (none_parts (conflict_with y.item (holder_of s xs p t y.item.0 (mode_wanted y.deed))) (conflict_of s xs p t os) free).1 is lt other
 
 -- tree t takes a lock on x at a, tree k meets none there at b: so t's is let go between
 pub let_go_between : (s : ScriptData) (zs : List Place) (p x t k a b : ℕ) (y : Place) (us os : List SubOp) (u : OpOn x us) (o : OpOn x os)
     → slice_get zs a ≡ Some y → locked_by s t y.act ≡ us → gone p t y ≡ false → a < b
-    → conflict_of s (take b zs) p k os ≡ None → modes_conflict (lock_mode_of o.op.deed) (lock_mode_of u.op.deed) ≡ true
+    → conflict_of s (take b zs) p k os ≡ None → modes_conflict (mode_wanted o.op.deed) (mode_wanted u.op.deed) ≡ true
     → (t == k) ≡ false → t < length s.trees → Between (gone p t) zs a b
 let_go_between s zs p x t k a b y us os u o is locks stays_ lt free against other small =
-    by (locked_then s p x t (lock_mode_of o.op.deed) zs a b y [] is lt
-    (ap (λ z. list_any (modes_conflict (lock_mode_of o.op.deed)) (modes_on x z)) locks ∙ on_modes (lock_mode_of o.op.deed) x u.index u.op us u.is u.on against) stays_) where
-      by : (conflicts_with s (take b zs) p x (lock_mode_of o.op.deed) t ≡ true) ⊎ Between (gone p t) zs a b → Between (gone p t) zs a b
+    by (locked_then s p x t (mode_wanted o.op.deed) zs a b y [] is lt
+    (ap (λ z. list_any (modes_conflict (mode_wanted o.op.deed)) (modes_on x z)) locks ∙ on_modes (mode_wanted o.op.deed) x u.index u.op us u.is u.on against) stays_) where
+      by : (conflicts_with s (take b zs) p x (mode_wanted o.op.deed) t ≡ true) ⊎ Between (gone p t) zs a b → Between (gone p t) zs a b
       by (inl stands) =
           let same : x ≡ o.op.item.0 = grind (arith, nat_tests, o.on) in
-          clash (conflicts_with s (take b zs) p x (lock_mode_of o.op.deed) t) stands
-          (ap (λ z. conflicts_with s (take b zs) p z (lock_mode_of o.op.deed) t) same
+          clash (conflicts_with s (take b zs) p x (mode_wanted o.op.deed) t) stands
+          (ap (λ z. conflicts_with s (take b zs) p z (mode_wanted o.op.deed) t) same
           ∙ no_conflict s (take b zs) p k t o.index o.op os free o.is small other)
       by (inr f) = f

@@ -11,12 +11,12 @@ use Rattle.letter_types.specs.declared.acts.Act.TheVariants.{Did, Finished, Free
 use Rattle.script_parts.specs.ScriptData.{ScriptData, ops_of, sub_at, subs_at}
 use Rattle.script_parts.specs.Valid.{IsValid}
 use Rattle.script_parts.specs.declared.parts.Sub.{Sub}
-use Rattle.board_rules.specs.Histories.{Place, applies, commits, does, is_strict_tree, is_whole_in}
-use Rattle.board_rules.specs.Moves.{decides_as}
+use Rattle.board_rules.specs.Histories.{Place, applies, decides_as, does, is_strict_tree, is_whole_in}
 use Rattle.nc_locks.specs.Modes.{modes_conflict}
-use Rattle.board_rules.specs.Stands.{conflict_of, frees, lock_mode_of, votes, was_voted}
+use Rattle.nc_locks.specs.Wants.{mode_wanted}
+use Rattle.board_rules.specs.Stands.{conflict_of, frees, votes, was_voted}
 use Rattle.board_rules.specs.Worth.{ops_change, worth_in}
-use Rattle.board_rules.proofs.ActTests.{applies_as_is, applies_as_one, commits_as, does_is, frees_is}
+use Rattle.board_rules.proofs.ActTests.{applies_as_is, applies_as_one, does_is, frees_is}
 use Rattle.board_rules.proofs.ClosedWorth.{IsClosed, made_is_worth}
 use Rattle.board_rules.proofs.Effects.{made_in}
 use Rattle.board_rules.proofs.InOrder.{held}
@@ -117,13 +117,13 @@ closed_at_entry s zs p x k n a m v le quiet acts item o = record {
       let early = freed_early_on zs m a c.place p t quiet c.at c.before in
       whole_later s c.place m zs t (omega (arith, early)) (freeing s zs c.place p t acts c.at).whole;
   applied = λ t j one to touch committed.
-      let f = found (λ (y : Place). commits t y.act) zs m committed in
+      let f = found (λ (y : Place). decides_as t true y.act) zs m committed in
       let decided : ActAt (decides_as t true) zs f.place f.item.node
-      = record { act = f.item.act; is = f.is; passes = commits_as t f.item.act f.passes } in
+      = record { act = f.item.act; is = f.is; passes = f.passes } in
       let other = decided_apart s zs p x t k n f.place f.item.node a acts decided o (omega (arith, f.below, le)) in
       let h = held s zs p x f.place f.item.node (t, j) acts item one (touched_there s t j x touch) touch decided in
-      let against : modes_conflict (lock_mode_of o.on.op.deed) (lock_mode_of h.on.op.deed) ≡ true =
-      ap (modes_conflict (lock_mode_of o.on.op.deed)) (held_by h.on.op.deed h.over) ∙ hold_right (lock_mode_of o.on.op.deed) in
+      let against : modes_conflict (mode_wanted o.on.op.deed) (mode_wanted h.on.op.deed) ≡ true =
+      ap (modes_conflict (mode_wanted o.on.op.deed)) (held_by h.on.op.deed h.over) ∙ hold_right (mode_wanted o.on.op.deed) in
       let c = applied_where_free s zs p x t j k n h.place a acts other h.at h.on o.free o.on against (omega (arith, h.below, f.below, le)) in
       there (λ (z : Place). (z.node == p) && applies t z.act) zs c.place m (record { node = p; act = c.at.act }) c.at.is
       (and_from (p == p) (applies t c.at.act) (same_test p) c.at.passes) (applied_early_on zs m a c.place p t quiet c.at c.before);

@@ -2,20 +2,20 @@
 use Rattle.std.specs.Prelude.{if◌then◌else◌, ℕ, Bool, true, false, ◌≡◌, ◌<◌, ◌==◌, ◌+◌, ◌&&◌, List, [], ◌∷◌, length, take, Some, IsTrue, slice_get}
 use Rattle.std.specs.List.{list_any}
 use Rattle.letter_types.specs.declared.acts.Act.{Act}
-use Rattle.letter_types.specs.declared.acts.Act.TheVariants.{Born, Turned, Swept, Finished}
+use Rattle.letter_types.specs.declared.acts.Act.TheVariants.{Born, Turned, Finished}
 use Rattle.letter_types.specs.declared.entries.Entry.{Entry}
 use Rattle.script_parts.specs.Counts.{advances_in}
 use Rattle.script_parts.specs.ScriptData.{ScriptData, client_of}
 use Rattle.script_parts.specs.declared.parts.ScriptRow.{ScriptRow}
 use Rattle.script_parts.specs.declared.parts.ScriptRow.TheVariants.{Tree as TreeRow, Advance as AdvanceRow, Settle as SettleRow}
 use Rattle.board_rules.specs.Histories.{Place, is_whole_in}
-use Rattle.board_rules.specs.Moves.{AtEachAct, low_after, read_after, update_after}
+use Rattle.board_rules.specs.Moves.{AtEachAct, low_after, read_after, swept_to, update_after}
 use Rattle.board_rules.specs.Right.{has_finished}
+use Rattle.board_rules.specs.Serial.{is_version}
 
 -- the row is a `settle`
 abbrev pub is_settle_row : ScriptRow → Bool
 is_settle_row SettleRow = true
-is_settle_row (TreeRow t) = false
 is_settle_row _ = false
 
 -- the rows before the last `settle` among these; there are none where none is among them
@@ -28,13 +28,8 @@ abbrev pub awaited : ScriptData → ℕ → List ScriptRow
 awaited s i = before_settle (take i s.rows)
 
 -- node p has collected to version v in one of these acts
-abbrev pub sweeps_to : ℕ → Act → Bool
-sweeps_to v (Swept w) = w.0 == v
-sweeps_to v Finished = false
-sweeps_to v _ = false
-
 abbrev pub was_swept : ℕ → ℕ → List Place → Bool
-was_swept p v xs = list_any (λ (x : Place). (x.node == p) && sweeps_to v x.act) xs
+was_swept p v xs = list_any (λ (x : Place). (x.node == p) && is_version v (swept_to x.act)) xs
 
 -- the gate of row i is open after these acts: each tree for which it waits is whole, and for each advancement, the
 -- first of which ends with version 1, every node has collected to its version

@@ -1,10 +1,10 @@
 -- What the acts of a history say of trees.
-use Rattle.std.specs.Prelude.{if◌then◌else◌, ℕ, zero, suc, Bool, true, false, ◌==◌, ◌&&◌, List, [], ◌∷◌, ◌++◌, length, map, Option, Some, None, IsTrue, is_some, slice_get}
+use Rattle.std.specs.Prelude.{if◌then◌else◌, ℕ, zero, suc, Bool, true, false, ◌==◌, ◌&&◌, List, [], ◌∷◌, ◌++◌, length, map, not, Option, Some, None, IsTrue, is_some, slice_get}
 use Rattle.std.specs.List.{list_any}
 use Rattle.std.specs.Option.{option_or}
 use Rattle.tv_base.specs.declared.numbers.Version.{Version}
 use Rattle.letter_types.specs.declared.acts.Act.{Act}
-use Rattle.letter_types.specs.declared.acts.Act.TheVariants.{Born, Did, Decided, Applied, Finished}
+use Rattle.letter_types.specs.declared.acts.Act.TheVariants.{Born, Did, Decided, Applied}
 use Rattle.letter_types.specs.declared.entries.Entry.{Entry}
 use Rattle.script_parts.specs.ScriptData.{ScriptData, is_strict, subs_at}
 use Rattle.script_parts.specs.declared.parts.Sub.{Sub}
@@ -26,13 +26,17 @@ places_of (e ∷ es) = places_at e ++ places_of es
 -- the version with which the act bears tree t
 abbrev pub born_as : ℕ → Act → Option Version
 born_as t (Born u v) = if u.0 == t then Some v else None
-born_as t Finished = None
 born_as t _ = None
 
 -- the version with which tree t was first born
 abbrev pub version_in : ℕ → List Place → Option Version
 version_in t [] = None
 version_in t (x ∷ xs) = option_or (born_as t x.act) (version_in t xs)
+
+-- the number of a version, or n where there is none
+abbrev pub version_or : ℕ → Option Version → ℕ
+version_or n None = n
+version_or n (Some v) = v.0
 
 -- the version of tree t in a history; an unborn tree has none
 abbrev pub version_of : List Entry → ℕ → Option Version
@@ -41,7 +45,6 @@ version_of h t = version_in t (places_of h)
 -- the act is a Did of subtransaction k of tree t
 abbrev pub does : ℕ → ℕ → Act → Bool
 does t k (Did u j values) = (u.0 == t) && (j.0 == k)
-does t k Finished = false
 does t k _ = false
 
 -- subtransaction k of tree t was done
@@ -53,20 +56,17 @@ abbrev pub all_done : ℕ → ℕ → List Place → Bool
 all_done t zero xs = true
 all_done t (suc n) xs = all_done t n xs && was_done t n xs
 
--- the act commits tree t
-abbrev pub commits : ℕ → Act → Bool
-commits t (Decided u commit) = (u.0 == t) && commit
-commits t Finished = false
-commits t _ = false
+-- the act decides tree t so, and one of these acts does
+abbrev pub decides_as : ℕ → Bool → Act → Bool
+decides_as t commit (Decided u c) = (u.0 == t) && (if commit then c else not c)
+decides_as t commit _ = false
 
--- tree t was decided to commit
-abbrev pub was_committed : ℕ → List Place → Bool
-was_committed t xs = list_any (λ (x : Place). commits t x.act) xs
+abbrev pub was_decided_as : ℕ → Bool → List Place → Bool
+was_decided_as t commit xs = list_any (λ (x : Place). decides_as t commit x.act) xs
 
 -- the act is an Applied of tree t
 abbrev pub applies : ℕ → Act → Bool
 applies t (Applied u commit) = u.0 == t
-applies t Finished = false
 applies t _ = false
 
 -- what was decided of tree t was applied at node p

@@ -1,30 +1,25 @@
 -- The locks of a node, by its acts: what a node that takes and frees them has.
-use Rattle.std.specs.Prelude.{if◌then◌else◌, ℕ, ◌≡◌, ◌<◌, Bool, true, false, ◌==◌, List, [], fold, length, map, Option, Some, None}
+use Rattle.std.specs.Prelude.{if◌then◌else◌, ℕ, ◌≡◌, ◌<◌, Bool, true, false, ◌==◌, List, [], fold, length, Option, Some, None}
 use Rattle.std.specs.List.{list_any}
 use Rattle.letter_types.specs.declared.acts.Act.{Act}
-use Rattle.letter_types.specs.declared.acts.Act.TheVariants.{Did, Voted, Freed, Applied, Finished}
+use Rattle.letter_types.specs.declared.acts.Act.TheVariants.{Did, Voted, Freed, Applied}
 use Rattle.letter_types.specs.declared.votes.Vote.TheVariants.{Yes, No}
 use Rattle.nc_locks.specs.declared.modes.Lock.{Lock}
 use Rattle.nc_locks.specs.declared.modes.Mode.{Mode}
-use Rattle.nc_locks.specs.Locks.{Wanted, has_lock, lock_of, with_locks, without}
+use Rattle.nc_locks.specs.Locks.{has_lock, lock_of, with_locks, without}
 use Rattle.nc_locks.specs.Modes.{mode_rank}
+use Rattle.nc_locks.specs.Wants.{wanted_by}
 use Rattle.script_parts.specs.ScriptData.{ScriptData, ops_of, updates}
-use Rattle.script_parts.specs.declared.parts.SubOp.{SubOp}
 use Rattle.board_rules.specs.Histories.{Place}
-use Rattle.board_rules.specs.Stands.{lock_mode_of, locked_by, modes_on, modes_standing}
-
--- the locks that operations need
-abbrev pub needed_by : List SubOp → Wanted
-needed_by os = map (λ (o : SubOp). (o.item, lock_mode_of o.deed)) os
+use Rattle.board_rules.specs.Stands.{locked_by, modes_on, modes_standing}
 
 -- the locks of a node after an act of it
 abbrev pub locks_after_act : ScriptData → Act → List Lock → List Lock
-locks_after_act s (Did t j values) ls = if updates s t.0 then with_locks t (needed_by (ops_of s t.0 j.0)) ls else ls
-locks_after_act s (Voted t j (Yes values)) ls = with_locks t (needed_by (ops_of s t.0 j.0)) ls
+locks_after_act s (Did t j values) ls = if updates s t.0 then with_locks t (wanted_by (ops_of s t.0 j.0)) ls else ls
+locks_after_act s (Voted t j (Yes values)) ls = with_locks t (wanted_by (ops_of s t.0 j.0)) ls
 locks_after_act s (Voted t j (No cause)) ls = ls
 locks_after_act s (Freed t) ls = without t ls
 locks_after_act s (Applied t commit) ls = without t ls
-locks_after_act s Finished ls = ls
 locks_after_act s _ ls = ls
 
 -- and those of node p after all these acts

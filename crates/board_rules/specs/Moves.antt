@@ -1,6 +1,5 @@
 -- The Board: the three version numbers of each node, and the acts so far. Which acts are moves of it.
-use Rattle.std.specs.Prelude.{if◌then◌else◌, ℕ, Bool, true, false, ◌≡◌, ◌≤◌, ◌<◌, ◌==◌, ◌+◌, ◌&&◌, ◌||◌, List, [], ◌∷◌, ◌++◌, fold, length, take, Option, Some, None, IsTrue, not, slice_get}
-use Rattle.std.specs.List.{list_any}
+use Rattle.std.specs.Prelude.{if◌then◌else◌, ℕ, Bool, true, false, ◌≡◌, ◌≤◌, ◌<◌, ◌==◌, ◌+◌, ◌&&◌, ◌||◌, List, [], ◌∷◌, ◌++◌, fold, length, take, Option, Some, None, IsTrue, slice_get}
 use Rattle.tv_base.specs.declared.numbers.ItemNo.{ItemNo}
 use Rattle.tv_base.specs.declared.numbers.Version.{Version}
 use Rattle.commute_ops.specs.declared.value.Value.{Value}
@@ -10,7 +9,7 @@ use Rattle.letter_types.specs.declared.entries.Entry.{Entry}
 use Rattle.letter_types.specs.declared.votes.Vote.{Vote}
 use Rattle.script_parts.specs.ScriptData.{ScriptData, home_of, node_of, ops_of, reads, sub_at, subs_at, updates, visits}
 use Rattle.script_parts.specs.declared.parts.Sub.{Sub}
-use Rattle.board_rules.specs.Histories.{Place, is_strict_tree, is_whole_in, places_at, places_of, version_in, was_applied, was_born, was_done}
+use Rattle.board_rules.specs.Histories.{Place, is_strict_tree, is_whole_in, places_at, places_of, version_in, version_or, was_applied, was_born, was_decided_as, was_done}
 use Rattle.board_rules.specs.Stands.{cause_of, refusal_in, voted_yes, was_freed, was_voted}
 
 -- The numbers of a node: 1, 0 and 0 at first, and then what its last act of the kind says.
@@ -18,22 +17,15 @@ use Rattle.board_rules.specs.Stands.{cause_of, refusal_in, voted_yes, was_freed,
 -- the version that the act sets a node's update, read or low version to
 abbrev pub turned_to : Act → Option Version
 turned_to (Turned v) = Some v
-turned_to Finished = None
 turned_to _ = None
 
 abbrev pub showed_to : Act → Option Version
 showed_to (Showed v) = Some v
-showed_to Finished = None
 showed_to _ = None
 
 abbrev pub swept_to : Act → Option Version
 swept_to (Swept v) = Some v
-swept_to Finished = None
 swept_to _ = None
-
-abbrev pub version_or : ℕ → Option Version → ℕ
-version_or n None = n
-version_or n (Some v) = v.0
 
 -- node p's number after an act
 abbrev pub number_after : (Act → Option Version) → ℕ → ℕ → Place → ℕ
@@ -133,15 +125,6 @@ pub record IsFreeing (s : ScriptData) (xs : List Place) (p t : ℕ) : Type 0 whe
   pub visited : IsTrue (visits (subs_at s t) p)
   pub whole : IsTrue (is_whole_in s xs t)
   pub once : was_freed t p xs ≡ false
-
--- the act decides tree t so, and one of these acts does
-abbrev pub decides_as : ℕ → Bool → Act → Bool
-decides_as t commit (Decided u c) = (u.0 == t) && (if commit then c else not c)
-decides_as t commit Finished = false
-decides_as t commit _ = false
-
-abbrev pub was_decided_as : ℕ → Bool → List Place → Bool
-was_decided_as t commit xs = list_any (λ (x : Place). decides_as t commit x.act) xs
 
 -- each of the first n subtransactions of tree t has voted, or has voted yes
 abbrev pub AllVoted : (ℕ → ℕ → List Place → Bool) → ScriptData → List Place → ℕ → Type 0

@@ -1,10 +1,10 @@
 -- How a tree comes out, by acts: what its subtransactions did and voted, what was decided of it, and what it gives.
 use Rattle.std.specs.Prelude.{if◌then◌else◌, ℕ, ◌+◌, Bool, ◌==◌, ◌&&◌, List, [], ◌∷◌, ◌++◌, map, Option, Some, None}
-use Rattle.std.specs.Option.{option_or}
+use Rattle.std.specs.Option.{option_and_then, option_map_or, option_or, unwrap_or}
 use Rattle.tv_base.specs.declared.numbers.ItemNo.{ItemNo}
 use Rattle.commute_ops.specs.declared.value.Value.{Value}
 use Rattle.letter_types.specs.declared.acts.Act.{Act}
-use Rattle.letter_types.specs.declared.acts.Act.TheVariants.{Did, Voted, Decided, Finished}
+use Rattle.letter_types.specs.declared.acts.Act.TheVariants.{Did, Voted, Decided}
 use Rattle.letter_types.specs.declared.votes.Cause.{Cause}
 use Rattle.letter_types.specs.declared.votes.Vote.{Vote}
 use Rattle.letter_types.specs.declared.votes.Vote.TheVariants.{Yes, No}
@@ -19,7 +19,6 @@ acts_in xs = map (λ (x : Place). x.act) xs
 -- the values of a Did of subtransaction k of tree t
 abbrev pub did_by : ℕ → ℕ → Act → Option (List (ItemNo × Value))
 did_by t k (Did u j values) = if (u.0 == t) && (j.0 == k) then Some values else None
-did_by t k Finished = None
 did_by t k _ = None
 
 -- the values of the first such among these acts
@@ -30,7 +29,6 @@ did_in t k (a ∷ acts) = option_or (did_by t k a) (did_in t k acts)
 -- the vote that the act is of subtransaction k of tree t
 abbrev pub vote_by : ℕ → ℕ → Act → Option Vote
 vote_by t k (Voted u j vote) = if (u.0 == t) && (j.0 == k) then Some vote else None
-vote_by t k Finished = None
 vote_by t k _ = None
 
 -- the first vote of subtransaction k of tree t among these acts
@@ -41,7 +39,6 @@ vote_in t k (a ∷ acts) = option_or (vote_by t k a) (vote_in t k acts)
 -- what the act decides of tree t: whether it commits
 abbrev pub decision_by : ℕ → Act → Option Bool
 decision_by t (Decided u commit) = if u.0 == t then Some commit else None
-decision_by t Finished = None
 decision_by t _ = None
 
 -- what these acts first decide of tree t
@@ -49,37 +46,22 @@ abbrev pub decision_in : ℕ → List Act → Option Bool
 decision_in t [] = None
 decision_in t (a ∷ acts) = option_or (decision_by t a) (decision_in t acts)
 
--- values that may not be there
-abbrev pub did_values : Option (List (ItemNo × Value)) → List (ItemNo × Value)
-did_values None = []
-did_values (Some values) = values
-
 -- the values of the Dids of tree t in these acts, by subtransaction, where the list begins with subtransaction k
 abbrev pub did_from : List Act → ℕ → ℕ → List Sub → List (ItemNo × Value)
 did_from acts t k [] = []
-did_from acts t k (sub ∷ subs) = did_values (did_in t k acts) ++ did_from acts t (k + 1) subs
+did_from acts t k (sub ∷ subs) = unwrap_or (did_in t k acts) [] ++ did_from acts t (k + 1) subs
 
 -- the values that a vote gives
 abbrev pub got_of : Vote → List (ItemNo × Value)
 got_of (Yes values) = values
 got_of (No cause) = []
 
--- the same of a vote that may not be there
-abbrev pub got_by : Option Vote → List (ItemNo × Value)
-got_by None = []
-got_by (Some vote) = got_of vote
-
 -- the values of the yes votes of tree t in these acts, by subtransaction, where the list begins with subtransaction k
 abbrev pub got_from : List Act → ℕ → ℕ → List Sub → List (ItemNo × Value)
 got_from acts t k [] = []
-got_from acts t k (sub ∷ subs) = got_by (vote_in t k acts) ++ got_from acts t (k + 1) subs
-
--- the cause that a vote names, which may not be there
-abbrev pub cause_by : Option Vote → Option Cause
-cause_by None = None
-cause_by (Some vote) = refusal_in vote
+got_from acts t k (sub ∷ subs) = option_map_or got_of (vote_in t k acts) [] ++ got_from acts t (k + 1) subs
 
 -- the cause of the first of these subtransactions that votes no
 abbrev pub cause_from : List Act → ℕ → ℕ → List Sub → Option Cause
 cause_from acts t k [] = None
-cause_from acts t k (sub ∷ subs) = option_or (cause_by (vote_in t k acts)) (cause_from acts t (k + 1) subs)
+cause_from acts t k (sub ∷ subs) = option_or (option_and_then refusal_in (vote_in t k acts)) (cause_from acts t (k + 1) subs)

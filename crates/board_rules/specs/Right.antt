@@ -7,9 +7,9 @@ use Rattle.tv_base.specs.declared.numbers.TreeNo.{TreeNo}
 use Rattle.tv_base.specs.declared.numbers.Version.{Version}
 use Rattle.commute_ops.specs.declared.value.Value.{Value}
 use Rattle.letter_types.specs.declared.acts.Act.{Act}
-use Rattle.letter_types.specs.declared.acts.Act.TheVariants.{Born, Did, Voted, Parked, Finished}
+use Rattle.letter_types.specs.declared.acts.Act.TheVariants.{Did, Voted, Parked, Finished}
 use Rattle.letter_types.specs.declared.bodies.Body.{Body}
-use Rattle.letter_types.specs.declared.bodies.Body.TheVariants.{Go, Root, Sub as SubLetter, Wake}
+use Rattle.letter_types.specs.declared.bodies.Body.TheVariants.{Root, Sub as SubLetter, Wake}
 use Rattle.letter_types.specs.declared.entries.Entry.{Entry}
 use Rattle.letter_types.specs.declared.votes.Cause.{Cause}
 use Rattle.letter_types.specs.declared.votes.Cause.TheVariants.{Conflict}
@@ -17,7 +17,7 @@ use Rattle.letter_types.specs.declared.votes.Vote.{Vote}
 use Rattle.letter_types.specs.declared.votes.Vote.TheVariants.{Yes, No}
 use Rattle.script_parts.specs.ScriptData.{ScriptData, ops_of, reads, updates}
 use Rattle.script_parts.specs.declared.parts.Deed.{Deed}
-use Rattle.script_parts.specs.declared.parts.Deed.TheVariants.{Apply, Get}
+use Rattle.script_parts.specs.declared.parts.Deed.TheVariants.{Get}
 use Rattle.script_parts.specs.declared.parts.SubOp.{SubOp}
 use Rattle.board_rules.specs.Histories.{Place, does, is_strict_tree, places_of, version_in}
 use Rattle.board_rules.specs.Moves.{AtEachAct}
@@ -41,7 +41,6 @@ IsShown worth_at ops values (Some v) = values ≡ with_worths (λ (x : ℕ). wor
 -- the operation reads its item
 abbrev pub is_get : Deed → Bool
 is_get Get = true
-is_get (Apply op) = false
 is_get _ = false
 
 abbrev pub gets_among : List SubOp → List SubOp
@@ -59,7 +58,6 @@ IsRightAct s before upto (Did t k values) =
     IsTrue (reads s t.0) → IsShown (worth_in s upto) (ops_of s t.0 k.0) values (version_in t.0 upto)
 IsRightAct s before upto (Voted t k vote) =
     IsTrue (is_strict_tree s t.0) → IsRightVote s before (ops_of s t.0 k.0) (version_in t.0 upto) vote
-IsRightAct s before upto Finished = Unit {0}
 IsRightAct s before upto _ = Unit {0}
 
 -- Each read shows what was worth at its version up to its place: the acts of all entries before, and of its own entry
@@ -81,7 +79,6 @@ in_way_of s xs p t k = if updates s t then conflict_of s xs p t (ops_of s t k) e
 -- the acts of an entry that park
 abbrev pub is_parking : Act → Bool
 is_parking (Parked t k x holder) = true
-is_parking Finished = false
 is_parking _ = false
 
 abbrev pub parkings : List Act → List Act
@@ -104,7 +101,6 @@ abbrev pub IsDoneAtOnce : ScriptData → List Place → ℕ → Body → List Ac
 IsDoneAtOnce s xs p (Root t) acts = IsDoneOrParked s xs p t (record { 0 = 0 }) acts
 IsDoneAtOnce s xs p (SubLetter t k v) acts = IsDoneOrParked s xs p t k acts
 IsDoneAtOnce s xs p (Wake t k) acts = IsDoneOrParked s xs p t k acts
-IsDoneAtOnce s xs p Go acts = parkings acts ≡ []
 IsDoneAtOnce s xs p _ acts = parkings acts ≡ []
 
 -- each entry does at once what it is asked for: so no subtransaction of a read tree waits, and one of an update tree just
@@ -116,7 +112,6 @@ IsAtOnce s h =
 -- the act is the client's end
 abbrev pub finishes : Act → Bool
 finishes Finished = true
-finishes (Born t v) = false
 finishes _ = false
 
 -- the client has finished

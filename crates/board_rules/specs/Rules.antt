@@ -3,12 +3,12 @@
 use Rattle.std.specs.Prelude.{◌≡◌, ◌<◌, ◌||◌, ℕ, Bool, true, false, IsTrue, List, length, slice_get, take, Some, None}
 use Rattle.tv_base.specs.declared.numbers.Version.{Version}
 use Rattle.letter_types.specs.declared.acts.Act.{Act}
-use Rattle.letter_types.specs.declared.acts.Act.TheVariants.{Did, Finished, Voted, Freed, Decided, Applied}
+use Rattle.letter_types.specs.declared.acts.Act.TheVariants.{Did, Voted, Freed, Decided, Applied}
 use Rattle.letter_types.specs.declared.votes.Vote.TheVariants.{Yes, No}
 use Rattle.script_parts.specs.ScriptData.{ScriptData, node_of, ops_of, subs_at, updates}
-use Rattle.board_rules.specs.Histories.{Place, born_as, is_strict_tree, is_whole_in, version_in, was_born, was_done}
+use Rattle.board_rules.specs.Histories.{Place, born_as, is_strict_tree, is_whole_in, version_in, version_or, was_born, was_done}
 use Rattle.board_rules.specs.Moves.{IsApplying, IsDecision, IsFreeing}
-use Rattle.board_rules.specs.Stands.{conflict_of, newer_of, version_or_zero, was_voted}
+use Rattle.board_rules.specs.Stands.{conflict_of, newer_of, was_voted}
 
 -- a Did is of a born tree's subtransaction at its node, once; that of an update tree meets no lock that conflicts
 pub record IsFreeDeed (s : ScriptData) (xs : List Place) (p t k : ℕ) : Type 0 where
@@ -27,7 +27,7 @@ pub record IsFreeVote (s : ScriptData) (xs : List Place) (p t k : ℕ) : Type 0 
   pub once : was_voted t k xs ≡ false
   pub node : node_of s t k ≡ p
   pub free : conflict_of s xs p t (ops_of s t k) ≡ None
-  pub newest : newer_of s xs p (version_or_zero (version_in t xs)) (ops_of s t k) ≡ None
+  pub newest : newer_of s xs p (version_or 0 (version_in t xs)) (ops_of s t k) ≡ None
 
 -- the act follows its rule at node p, after the acts xs
 abbrev pub IsByRule : ScriptData → List Place → ℕ → Act → Type 0
@@ -37,7 +37,6 @@ IsByRule s xs p (Voted t k (No cause)) = Unit {0}
 IsByRule s xs p (Freed t) = IsFreeing s xs p t.0
 IsByRule s xs p (Decided t commit) = IsDecision s xs p t.0 commit
 IsByRule s xs p (Applied t commit) = IsApplying s xs p t.0 commit
-IsByRule s xs p Finished = Unit {0}
 IsByRule s xs p _ = Unit {0}
 
 -- each act of the list follows its rule, after those before it

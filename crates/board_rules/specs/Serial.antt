@@ -1,19 +1,18 @@
 -- The serial order of acts and of a history: the whole update trees and committed strict trees by version, and within a
 -- version by their last closing act.
-use Rattle.std.specs.Prelude.{if◌then◌else◌, ℕ, zero, suc, Bool, false, ◌==◌, ◌&&◌, ◌||◌, List, [], ◌∷◌, ◌++◌, filter, Option, Some, None}
+use Rattle.std.specs.Prelude.{if◌then◌else◌, ℕ, zero, suc, Bool, true, false, ◌==◌, ◌&&◌, ◌||◌, List, [], ◌∷◌, ◌++◌, filter, Option, Some, None}
 use Rattle.std.specs.List.{list_any}
 use Rattle.tv_base.specs.declared.numbers.Version.{Version}
 use Rattle.letter_types.specs.declared.acts.Act.{Act}
-use Rattle.letter_types.specs.declared.acts.Act.TheVariants.{Did, Decided, Finished}
+use Rattle.letter_types.specs.declared.acts.Act.TheVariants.{Did, Decided}
 use Rattle.letter_types.specs.declared.entries.Entry.{Entry}
 use Rattle.script_parts.specs.ScriptData.{ScriptData, updates}
-use Rattle.board_rules.specs.Histories.{Place, is_strict_tree, is_whole_in, places_of, version_in, was_committed}
+use Rattle.board_rules.specs.Histories.{Place, is_strict_tree, is_whole_in, places_of, version_in, was_decided_as}
 
 -- the tree that the act may close: a Did is one of an update tree, and a decision to commit one of a strict tree
 abbrev pub commits_by : ScriptData → Act → Option ℕ
 commits_by s (Did t k values) = if updates s t.0 then Some t.0 else None
 commits_by s (Decided t commit) = if is_strict_tree s t.0 && commit then Some t.0 else None
-commits_by s Finished = None
 commits_by s _ = None
 
 -- the number is in the list
@@ -37,7 +36,7 @@ is_version v (Some w) = w.0 == v
 
 -- tree t is a whole update tree, or a strict tree that was decided to commit, after these acts
 abbrev pub is_settled_in : ScriptData → List Place → ℕ → Bool
-is_settled_in s xs t = (updates s t && is_whole_in s xs t) || (is_strict_tree s t && was_committed t xs)
+is_settled_in s xs t = (updates s t && is_whole_in s xs t) || (is_strict_tree s t && was_decided_as t true xs)
 
 -- tree t is such a tree of version v
 abbrev pub is_member_in : ScriptData → List Place → ℕ → ℕ → Bool

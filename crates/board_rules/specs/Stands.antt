@@ -1,12 +1,11 @@
 -- Which locks are at a place of a history, and why a subtransaction of a strict tree votes no: a look back over the
 -- acts.
-use Rattle.std.specs.Prelude.{if◌then◌else◌, ℕ, zero, suc, Bool, false, ◌==◌, ◌&&◌, not, max, nat_lt, List, [], ◌∷◌, ◌++◌, fold, filter, length, map, Option, Some, None}
+use Rattle.std.specs.Prelude.{if◌then◌else◌, ℕ, zero, suc, Bool, false, ◌==◌, ◌&&◌, ◌||◌, not, max, nat_lt, List, [], ◌∷◌, ◌++◌, fold, filter, length, map, Option, Some, None}
 use Rattle.std.specs.List.{list_any}
 use Rattle.std.specs.Option.{option_or}
 use Rattle.tv_base.specs.declared.numbers.ItemNo.{ItemNo}
-use Rattle.tv_base.specs.declared.numbers.Version.{Version}
 use Rattle.letter_types.specs.declared.acts.Act.{Act}
-use Rattle.letter_types.specs.declared.acts.Act.TheVariants.{Did, Voted, Freed, Applied, Finished}
+use Rattle.letter_types.specs.declared.acts.Act.TheVariants.{Did, Voted, Freed, Applied}
 use Rattle.letter_types.specs.declared.entries.Entry.{Entry}
 use Rattle.letter_types.specs.declared.votes.Cause.{Cause}
 use Rattle.letter_types.specs.declared.votes.Cause.TheVariants.{Conflict, Newer}
@@ -16,45 +15,36 @@ use Rattle.letter_types.specs.declared.votes.Vote.TheVariants.{Yes, No}
 pub use Rattle.script_parts.specs.Deeds.{found_short, overwrites}
 use Rattle.nc_locks.specs.Modes.{modes_conflict}
 use Rattle.nc_locks.specs.declared.modes.Mode.{Mode}
-use Rattle.nc_locks.specs.declared.modes.Mode.TheVariants.{Mark, Look, Hold}
+use Rattle.nc_locks.specs.Wants.{mode_wanted}
 use Rattle.script_parts.specs.ScriptData.{ScriptData, ops_of, subs_at, updates}
-use Rattle.script_parts.specs.declared.parts.Deed.{Deed}
-use Rattle.script_parts.specs.declared.parts.Deed.TheVariants as deeds
 use Rattle.script_parts.specs.declared.parts.SubOp.{SubOp}
-use Rattle.board_rules.specs.Histories.{Place, version_in}
+use Rattle.board_rules.specs.Histories.{Place, applies, version_in, version_or}
 use Rattle.board_rules.specs.Worth.{ops_change, subs_change, worth}
-
--- how a tree has an item: marked by a commuting operation, looked at by a get, held by a set or a draw
-abbrev pub lock_mode_of : Deed → Mode
-lock_mode_of (deeds.Apply op) = Mark
-lock_mode_of deeds.Get = Look
-lock_mode_of (deeds.Set n) = Hold
-lock_mode_of (deeds.Draw n) = Hold
 
 -- the operations whose locks the act takes for tree k: those that an update tree has done, and those that a strict tree
 -- has voted yes for; a read tree takes none
 abbrev pub locked_by : ScriptData → ℕ → Act → List SubOp
 locked_by s k (Did t j values) = if (t.0 == k) && updates s k then ops_of s k j.0 else []
 locked_by s k (Voted t j (Yes values)) = if t.0 == k then ops_of s k j.0 else []
-locked_by s k (Voted t j (No cause)) = []
-locked_by s k Finished = []
 locked_by s k _ = []
 
--- the act lets go of what tree k has at its node
-abbrev pub releases : ℕ → Act → Bool
-releases k (Freed t) = t.0 == k
-releases k (Applied t commit) = t.0 == k
-releases k Finished = false
-releases k _ = false
+-- the marks of tree t went at node p
+abbrev pub frees : ℕ → Act → Bool
+frees t (Freed u) = u.0 == t
+frees t _ = false
+
+abbrev pub was_freed : ℕ → ℕ → List Place → Bool
+was_freed t p xs = list_any (λ (x : Place). (x.node == p) && frees t x.act) xs
 
 -- the modes on item x among those of these operations
 abbrev pub modes_on : ℕ → List SubOp → List Mode
-modes_on x os = map (λ (o : SubOp). lock_mode_of o.deed) (filter (λ (o : SubOp). o.item.0 == x) os)
+modes_on x os = map (λ (o : SubOp). mode_wanted o.deed) (filter (λ (o : SubOp). o.item.0 == x) os)
 
--- the modes in which tree k has item x, which is at node p, after an act and after these acts
+-- the modes in which tree k has item x, which is at node p, after an act and after these acts: what it has at its node
+-- goes with its marks, and where what was decided of it is applied
 abbrev pub modes_after : ScriptData → ℕ → ℕ → ℕ → List Mode → Place → List Mode
 modes_after s p x k modes y =
-    if (y.node == p) && releases k y.act then [] else modes ++ modes_on x (locked_by s k y.act)
+    if (y.node == p) && (frees k y.act || applies k y.act) then [] else modes ++ modes_on x (locked_by s k y.act)
 
 abbrev pub modes_standing : ScriptData → List Place → ℕ → ℕ → ℕ → List Mode
 modes_standing s xs p x k = fold (modes_after s p x k) [] xs
@@ -81,20 +71,15 @@ conflict_with x (Some k) = Some (Conflict x (record { 0 = k }))
 abbrev pub conflict_of : ScriptData → List Place → ℕ → ℕ → List SubOp → Option Cause
 conflict_of s xs p t [] = None
 conflict_of s xs p t (o ∷ os) =
-    option_or (conflict_with o.item (holder_of s xs p t o.item.0 (lock_mode_of o.deed))) (conflict_of s xs p t os)
+    option_or (conflict_with o.item (holder_of s xs p t o.item.0 (mode_wanted o.deed))) (conflict_of s xs p t os)
 
 -- the version of the tree by whose act item x was written, else 0: an update tree's Did writes, and the Applied of a
 -- commit at the item's node
-abbrev pub version_or_zero : Option Version → ℕ
-version_or_zero None = 0
-version_or_zero (Some v) = v.0
-
 abbrev pub written_by : ScriptData → List Place → ℕ → Bool → Act → ℕ
 written_by s xs x here (Did t j values) =
-    if updates s t.0 && ops_change x (ops_of s t.0 j.0) then version_or_zero (version_in t.0 xs) else 0
+    if updates s t.0 && ops_change x (ops_of s t.0 j.0) then version_or 0 (version_in t.0 xs) else 0
 written_by s xs x here (Applied t commit) =
-    if here && (commit && subs_change x (subs_at s t.0)) then version_or_zero (version_in t.0 xs) else 0
-written_by s xs x here Finished = 0
+    if here && (commit && subs_change x (subs_at s t.0)) then version_or 0 (version_in t.0 xs) else 0
 written_by s xs x here _ = 0
 
 abbrev pub written_in : ScriptData → List Place → ℕ → ℕ → Place → ℕ
@@ -123,7 +108,7 @@ cause_at s before xs p t v os =
     option_or (conflict_of s xs p t os) (option_or (newer_of s xs p v os) (short_of s before v os))
 
 abbrev pub cause_of : ScriptData → List Entry → List Place → ℕ → ℕ → List SubOp → Option Cause
-cause_of s before xs p t os = cause_at s before xs p t (version_or_zero (version_in t xs)) os
+cause_of s before xs p t os = cause_at s before xs p t (version_or 0 (version_in t xs)) os
 
 -- the cause that a vote names
 abbrev pub refusal_in : Vote → Option Cause
@@ -133,13 +118,10 @@ refusal_in (No cause) = Some cause
 -- subtransaction k of tree t has voted, or has voted yes
 abbrev pub votes : ℕ → ℕ → Act → Bool
 votes t k (Voted u j vote) = (u.0 == t) && (j.0 == k)
-votes t k Finished = false
 votes t k _ = false
 
 abbrev pub votes_yes : ℕ → ℕ → Act → Bool
 votes_yes t k (Voted u j (Yes values)) = (u.0 == t) && (j.0 == k)
-votes_yes t k (Voted u j (No cause)) = false
-votes_yes t k Finished = false
 votes_yes t k _ = false
 
 abbrev pub was_voted : ℕ → ℕ → List Place → Bool
@@ -147,12 +129,3 @@ was_voted t k xs = list_any (λ (x : Place). votes t k x.act) xs
 
 abbrev pub voted_yes : ℕ → ℕ → List Place → Bool
 voted_yes t k xs = list_any (λ (x : Place). votes_yes t k x.act) xs
-
--- the marks of tree t went at node p
-abbrev pub frees : ℕ → Act → Bool
-frees t (Freed u) = u.0 == t
-frees t Finished = false
-frees t _ = false
-
-abbrev pub was_freed : ℕ → ℕ → List Place → Bool
-was_freed t p xs = list_any (λ (x : Place). (x.node == p) && frees t x.act) xs

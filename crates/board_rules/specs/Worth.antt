@@ -15,7 +15,7 @@ use Rattle.script_parts.specs.declared.parts.Tree.{Tree}
 use Rattle.script_parts.specs.declared.parts.TreeKind.{TreeKind}
 use Rattle.script_parts.specs.declared.parts.TreeKind.TheVariants.{Update, Read, Strict}
 pub use Rattle.script_parts.specs.Deeds.{after_deed, with_drawn, with_set}
-use Rattle.board_rules.specs.Histories.{Place, places_of, version_of, was_committed}
+use Rattle.board_rules.specs.Histories.{Place, places_of, version_of, was_decided_as}
 use Rattle.board_rules.specs.Serial.{is_version, serial_in}
 
 -- the value of item x after the operations on it
@@ -63,7 +63,7 @@ subs_change x ks = list_any (λ k. ops_change x k.ops) ks
 abbrev pub may_write : List Entry → ℕ → TreeKind → Bool
 may_write h t Update = true
 may_write h t Read = false
-may_write h t Strict = was_committed t (places_of h)
+may_write h t Strict = was_decided_as t true (places_of h)
 
 -- tree t is of version v, writes, and changes item x
 abbrev pub writes : List Entry → ℕ → ℕ → ℕ → Tree → Bool

@@ -6,33 +6,13 @@ use Rattle.tv_base.specs.declared.numbers.TreeNo.{TreeNo}
 use Rattle.letter_types.specs.declared.acts.Act.{Act}
 use Rattle.letter_types.specs.declared.acts.Act.TheVariants.{Born, Did, Turned, Showed, Swept, Finished, Waits, Parked, Voted, Freed, Decided, Applied}
 use Rattle.script_parts.specs.ScriptData.{ScriptData, updates}
-use Rattle.board_rules.specs.Histories.{Place, commits, is_strict_tree, is_whole_in, was_committed}
-use Rattle.board_rules.specs.Moves.{decides_as, was_decided_as}
+use Rattle.board_rules.specs.Histories.{Place, is_strict_tree, is_whole_in, was_decided_as}
 use Rattle.board_rules.specs.Serial.{is_settled_in}
 use Rattle.board_rules.proofs.Wholes.{update_not_strict, updates_there}
 use Rattle.board_tallies.specs.Board.{ShowsTree, closes_in, state_at, whole_at}
 use Rattle.board_tallies.specs.inside.Noting.{closed_by}
 use Rattle.board_tallies.specs.declared.states.TreeState.{TreeState}
 use Rattle.board_tallies.proofs.Standing.{whole_there}
-
-commit_is : (t : ℕ) (a : Act) → commits t a ≡ decides_as t true a
-commit_is t (Decided u commit) = refl
-commit_is t (Born u v) = refl
-commit_is t (Did u k values) = refl
-commit_is t (Turned v) = refl
-commit_is t (Showed v) = refl
-commit_is t (Swept v) = refl
-commit_is t (Waits u a b) = refl
-commit_is t (Parked u a b h) = refl
-commit_is t (Voted u k vote) = refl
-commit_is t (Freed u) = refl
-commit_is t (Applied u d) = refl
-commit_is t Finished = refl
-
--- a tree was committed where it was decided so
-pub committed_is : (t : ℕ) (xs : List Place) → was_committed t xs ≡ was_decided_as t true xs
-committed_is t [] = refl
-committed_is t (x ∷ xs) = λ i. commit_is t x.act i || committed_is t xs i
 
 abbrev settled_as : Bool → Option ℕ → Option ℕ
 settled_as settled found = elim found [ Some t ↦ if settled then Some t else None | None ↦ None ]
@@ -74,13 +54,13 @@ closes s ys states (Did t k values) shows =
     = either_whole (updates s t.0) (whole_at s.trees states t.0) (is_whole_in s ys t.0)
     (λ up. whole_there s ys states t.0 (updates_there s t.0 up) (shows t.0)) in
     ap (λ (b : Bool). option_map (λ (u : TreeNo). u.0) (if b then Some t else None)) whole
-    ∙ update_closes t (updates s t.0) (is_strict_tree s t.0) (is_whole_in s ys t.0) (was_committed t.0 ys)
+    ∙ update_closes t (updates s t.0) (is_strict_tree s t.0) (is_whole_in s ys t.0) (was_decided_as t.0 true ys)
     (update_not_strict s t.0)
     ∙ settled_at (is_settled_in s ys) (updates s t.0) t.0
 closes s ys states (Decided t commit) shows =
-    let committed : (state_at states t.0).committed ≡ was_committed t.0 ys = (shows t.0).committed ∙ sym (committed_is t.0 ys) in
+    let committed : (state_at states t.0).committed ≡ was_decided_as t.0 true ys = (shows t.0).committed in
     ap (λ (b : Bool). option_map (λ (u : TreeNo). u.0) (if (is_strict_tree s t.0 && commit) && b then Some t else None)) committed
-    ∙ strict_closes t (updates s t.0) (is_strict_tree s t.0) commit (is_whole_in s ys t.0) (was_committed t.0 ys)
+    ∙ strict_closes t (updates s t.0) (is_strict_tree s t.0) commit (is_whole_in s ys t.0) (was_decided_as t.0 true ys)
     (update_not_strict s t.0)
     ∙ settled_at (is_settled_in s ys) (is_strict_tree s t.0 && commit) t.0
 closes s ys states (Born t v) shows = refl

@@ -16,8 +16,8 @@ use Rattle.script_parts.specs.declared.parts.Tree.{Tree}
 use Rattle.script_parts.specs.declared.parts.TreeKind.{TreeKind}
 use Rattle.script_parts.specs.declared.parts.TreeKind.TheVariants.{Update, Read, Strict}
 use Rattle.board_rules.specs.ButCause.{IsVotingAsked}
-use Rattle.board_rules.specs.Histories.{Place, is_strict_tree, is_whole_in, version_in, was_applied, was_born, was_done}
-use Rattle.board_rules.specs.Moves.{IsApplying, IsAsked, IsAskedBy, IsBirth, IsDecision, IsDeed, IsFreeing, IsWaiting, read_after, update_after, was_decided_as}
+use Rattle.board_rules.specs.Histories.{Place, is_strict_tree, is_whole_in, version_in, was_applied, was_born, was_decided_as, was_done}
+use Rattle.board_rules.specs.Moves.{IsApplying, IsAsked, IsAskedBy, IsBirth, IsDecision, IsDeed, IsFreeing, IsWaiting, read_after, update_after}
 use Rattle.board_rules.specs.Stands.{voted_yes, was_freed, was_voted}
 use Rattle.board_tallies.specs.Board.{AreMarks, ShowsNode, ShowsTree, is_whole_by, marked_to}
 use Rattle.board_tallies.specs.inside.May.{are_apart, takes_turn, may_apply_at, may_bear, may_begin, may_decide, may_do, may_free, may_vote, may_wait, runs_at, takes_version}

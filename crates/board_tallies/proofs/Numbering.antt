@@ -15,9 +15,9 @@ use Rattle.letter_types.specs.declared.acts.Act.TheVariants.{Born, Did, Turned, 
 use Rattle.letter_types.specs.declared.entries.Entry.{Entry}
 use Rattle.script_parts.specs.ScriptData.{ScriptData}
 use Rattle.board_rules.specs.ButCause.{IsMoveButCauseAt}
-use Rattle.board_rules.specs.Gates.{sweeps_to, was_swept}
-use Rattle.board_rules.specs.Histories.{Place}
-use Rattle.board_rules.specs.Moves.{low_after, number_after, showed_to, swept_to, turned_to, version_or}
+use Rattle.board_rules.specs.Gates.{was_swept}
+use Rattle.board_rules.specs.Histories.{Place, version_or}
+use Rattle.board_rules.specs.Moves.{low_after, number_after, showed_to, swept_to, turned_to}
 use Rattle.board_rules.specs.Serial.{is_version}
 use Rattle.board_tallies.specs.Board.{ShowsNode, first_numbers, numbers_at}
 use Rattle.board_tallies.specs.inside.Noting.{nodes_with, numbers_with}
@@ -134,22 +134,8 @@ nodes_next nodes p act xs (inr none) shows q =
 
 -- Versions swept to.
 swept_next : (p q v : ℕ) (act : Act) (xs : List Place)
-    → was_swept q v (xs ++ placed_at p act ∷ []) ≡ (was_swept q v xs || (((p == q) && sweeps_to v act) || false))
-swept_next p q v act xs = list_any-append (λ (x : Place). (x.node == q) && sweeps_to v x.act) xs (placed_at p act ∷ [])
-
-sweeps_is : (v : ℕ) (act : Act) → sweeps_to v act ≡ is_version v (swept_to act)
-sweeps_is v (Swept w) = refl
-sweeps_is v (Turned w) = refl
-sweeps_is v (Showed w) = refl
-sweeps_is v (Born t w) = refl
-sweeps_is v (Did t k values) = refl
-sweeps_is v (Waits t u r) = refl
-sweeps_is v (Parked t k item holder) = refl
-sweeps_is v (Voted t k vote) = refl
-sweeps_is v (Freed t) = refl
-sweeps_is v (Decided t commit) = refl
-sweeps_is v (Applied t commit) = refl
-sweeps_is v Finished = refl
+    → was_swept q v (xs ++ placed_at p act ∷ []) ≡ (was_swept q v xs || (((p == q) && is_version v (swept_to act)) || false))
+swept_next p q v act xs = list_any-append (λ (x : Place). (x.node == q) && is_version v (swept_to x.act)) xs (placed_at p act ∷ [])
 
 swept_more : (n v : ℕ) (w : Version) (was : Bool) → w.0 ≡ n + 1 → Decides was ((1 ≤ v) × (v ≤ n))
     → Decides (was || ((w.0 == v) || false)) ((1 ≤ v) × (v ≤ w.0))
@@ -184,7 +170,7 @@ pub swept_on : (p q v : ℕ) (act : Act) (xs : List Place) → ((w : Version) �
     → Decides (was_swept q v (xs ++ placed_at p act ∷ [])) ((1 ≤ v) × (v ≤ low_after (xs ++ placed_at p act ∷ []) q))
 swept_on p q v act xs next decides =
     let was : was_swept q v (xs ++ placed_at p act ∷ []) ≡ (was_swept q v xs || (((p == q) && is_version v (swept_to act)) || false))
-    = swept_next p q v act xs ∙ ap (λ (b : Bool). was_swept q v xs || (((p == q) && b) || false)) (sweeps_is v act) in
+    = swept_next p q v act xs in
     let low : low_after (xs ++ placed_at p act ∷ []) q ≡ (if p == q then version_or (low_after xs q) (swept_to act) else low_after xs q)
     = number_next swept_to 0 p q act xs (p == q) refl in
     let by = swept_by (p == q) (low_after xs q) v (swept_to act) (was_swept q v xs)

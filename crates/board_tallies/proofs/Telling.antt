@@ -16,8 +16,7 @@ use Rattle.letter_types.specs.declared.acts.Act.{Act}
 use Rattle.letter_types.specs.declared.acts.Act.TheVariants.{Born, Did, Turned, Showed, Swept, Finished, Waits, Parked, Voted, Freed, Decided, Applied}
 use Rattle.letter_types.specs.declared.votes.Vote.{Vote}
 use Rattle.letter_types.specs.declared.votes.Vote.TheVariants.{Yes, No}
-use Rattle.board_rules.specs.Histories.{Place, applies, born_as, does, version_in}
-use Rattle.board_rules.specs.Moves.{decides_as}
+use Rattle.board_rules.specs.Histories.{Place, applies, born_as, decides_as, does, version_in}
 use Rattle.board_rules.specs.Stands.{frees, votes, votes_yes}
 use Rattle.board_rules.proofs.Places.{version_in-append}
 use Rattle.board_tallies.specs.Board.{AreMarks, ShowsTree, first_state, state_at}

@@ -9,8 +9,8 @@ use Rattle.script_parts.specs.ScriptData.{ScriptData, is_read, is_strict}
 use Rattle.script_parts.specs.declared.parts.Sub.{Sub}
 use Rattle.script_parts.specs.declared.parts.Tree.{Tree}
 use Rattle.board_rules.specs.Gates.{was_swept}
-use Rattle.board_rules.specs.Histories.{Place, is_whole_in, version_in, was_applied, was_done}
-use Rattle.board_rules.specs.Moves.{low_after, read_after, update_after, was_decided_as}
+use Rattle.board_rules.specs.Histories.{Place, is_whole_in, version_in, was_applied, was_decided_as, was_done}
+use Rattle.board_rules.specs.Moves.{low_after, read_after, update_after}
 use Rattle.board_rules.specs.Right.{has_finished}
 use Rattle.board_rules.specs.Serial.{commits_by, is_settled_in, is_version}
 use Rattle.board_rules.specs.Stands.{voted_yes, was_freed, was_voted}

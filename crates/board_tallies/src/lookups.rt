@@ -1,7 +1,7 @@
 // What the Board's tallies say of the acts so far.
-ghost use Rattle.std.specs.Prelude.{◌≡◌, ◌↔◌, ◌<◌, IsTrue, List, length, ℕ};
+ghost use Rattle.std.specs.Prelude.{◌≡◌, ◌↔◌, ◌<◌, IsTrue, List, length, true, ℕ};
 ghost use Rattle.script_parts.specs.ScriptData.{ScriptData};
-ghost use Rattle.board_rules.specs.Histories.{Place, is_whole_in, version_in, was_applied, was_committed, was_done};
+ghost use Rattle.board_rules.specs.Histories.{Place, is_whole_in, version_in, was_applied, was_decided_as, was_done};
 ghost use Rattle.board_rules.specs.Moves.{low_after, read_after, update_after};
 ghost use Rattle.board_rules.specs.Right.{has_finished};
 ghost use Rattle.board_rules.specs.Stands.{voted_yes, was_freed, was_voted};
@@ -61,7 +61,7 @@ impl Board {
 
     /// Whether a tree was decided to commit.
     pub fn is_committed(&self, tree: TreeNo) -> bool
-        ensures { (s : ScriptData) (xs : List Place) → IsBoardOf s xs self.now → result ≡ was_committed tree.0 xs }
+        ensures { (s : ScriptData) (xs : List Place) → IsBoardOf s xs self.now → result ≡ was_decided_as tree.0 true xs }
     {
         committed_at(&self.trees, tree.0 as usize)
     }

@@ -13,7 +13,7 @@ use Rattle.tx_trees.specs.Valid.{IsValid, load, tree_names}
 use Rattle.tx_trees.specs.declared.parts.Deed.TheVariants.{Draw, Get}
 use Rattle.tx_trees.specs.declared.parts.ScriptRow.TheVariants.{Tree, Settle}
 use Rattle.tx_trees.specs.declared.parts.TreeKind.TheVariants.{Strict}
-use Rattle.board_rules.specs.Histories.{is_whole, places_of, version_of, was_committed}
+use Rattle.board_rules.specs.Histories.{is_whole, places_of, version_of, was_decided_as}
 use Rattle.board_rules.specs.Serial.{serial_to}
 use Rattle.board_rules.specs.Worth.{worth}
 use Rattle.world_model.specs.Runs.{in_flight}
@@ -109,7 +109,7 @@ all_taken = refl
 pub ended : HasEnded drawing ran
 ended = ended_past drawing (sample drawing 30) valid (sample_run drawing 30 valid refl) all_taken
 
-pub commits : was_committed 1 (places_of ran) ≡ true
+pub commits : was_decided_as 1 true (places_of ran) ≡ true
 commits = refl
 
 pub is_applied : is_whole drawing ran 1 ≡ true

@@ -20,8 +20,10 @@ use Rattle.world_model.specs.Node.{Node}
 use Rattle.world_model.specs.Strict.{CoreKeeping, core_row}
 use Rattle.tx_trees.specs.ScriptData.{ScriptData}
 use Rattle.tx_trees.specs.Valid.{IsValid}
-use Rattle.board_rules.specs.Gates.{sweeps_to, was_swept}
+use Rattle.board_rules.specs.Gates.{was_swept}
 use Rattle.board_rules.specs.Histories.{Place, places_at, places_of}
+use Rattle.board_rules.specs.Moves.{swept_to}
+use Rattle.board_rules.specs.Serial.{is_version}
 use Rattle.world_model.specs.Runs.{IsStepRun, keeping_in, node_in}
 use Rattle.world_model.proofs.Epochs.{Anew, Orders, Plainly}
 use Rattle.world_model.proofs.Every.{node_kept}
@@ -40,11 +42,11 @@ use Rattle.run_laws.proofs.Raised.{ordered_given, sweeps_ahead}
 
 -- What was collected, with more acts.
 swept_more : (p v : ℕ) (xs ys : List Place) → was_swept p v xs ≡ true → was_swept p v (xs ++ ys) ≡ true
-swept_more p v xs ys is = any_more (λ (x : Place). (x.node == p) && sweeps_to v x.act) xs ys is
+swept_more p v xs ys is = any_more (λ (x : Place). (x.node == p) && is_version v (swept_to x.act)) xs ys is
 
 swept_last : (p v : ℕ) (xs ys : List Place) → was_swept p v ys ≡ true → was_swept p v (xs ++ ys) ≡ true
 swept_last p v xs ys is =
-    list_any-append (λ (x : Place). (x.node == p) && sweeps_to v x.act) xs ys ∙ or_right (was_swept p v xs) (was_swept p v ys) is
+    list_any-append (λ (x : Place). (x.node == p) && is_version v (swept_to x.act)) xs ys ∙ or_right (was_swept p v xs) (was_swept p v ys) is
 
 -- A sweep is to the version after the low one.
 sweep_next : (s : ScriptData) (past : List Entry) (e : Entry) (p : ℕ) (r : Letter) (v : Version) → IsValid s → IsStepRun s (e ∷ past)

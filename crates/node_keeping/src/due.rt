@@ -4,7 +4,7 @@ ghost use Rattle.std.specs.Option.{option_copied};
 ghost use Rattle.tree_home.specs.HeldAnswers.{held_answers, held_in};
 ghost use Rattle.tree_home.specs.Homes.{Gets, open_trees};
 ghost use Rattle.tx_trees.specs.ScriptData.{node_of, sub_at};
-ghost use Rattle.world_model.specs.Epochs.{is_of_forgetting, is_of_remembering, suits_coordinator};
+ghost use Rattle.world_model.specs.Epochs.{suits_coordinator};
 ghost use Rattle.world_model.specs.Notices.{answer_noted};
 ghost use Rattle.world_model.specs.Strict.{is_near_answer, is_unheld};
 ghost use Rattle.tree_step.specs.Due.{is_due};
@@ -20,46 +20,28 @@ use tree_step::{NodeCore, Request, is_due, is_near, is_strict};
 use tv_base::{ActorNo, NodeNo, SubNo, TreeNo, Version};
 use tx_trees::{Script, Sub};
 
-/// Whether a letter is of, or to, a coordinator that forgets.
-fn is_of_forgetting(body: &Body) -> bool
-    ensures { result ≡ is_of_forgetting body.now }
-{
-    matches!(
-        body,
-        Body::Lose
-            | Body::AdvanceNo { .. }
-            | Body::Ask { .. }
-            | Body::Numbers { .. }
-            | Body::Wanted { .. }
-            | Body::Order { .. }
-            | Body::Obeyed { .. }
-    )
-}
-
-/// Whether a letter is of, or to, a coordinator that remembers.
-fn is_of_remembering(body: &Body) -> bool
-    ensures { result ≡ is_of_remembering body.now }
-{
-    matches!(
-        body,
-        Body::Advance
-            | Body::Turn { .. }
-            | Body::Show { .. }
-            | Body::Sweep { .. }
-            | Body::Turned { .. }
-            | Body::Shown { .. }
-            | Body::Swept { .. }
-    )
-}
-
 /// Whether a letter is none that only the other kind of coordinator has, which the script doesn't run.
 pub fn suits_coordinator(script: &Script, body: &Body) -> bool
     ensures { result ≡ suits_coordinator script.now body.now }
 {
-    if script.is_lossy() {
-        return !is_of_remembering(body);
+    let lossy = script.is_lossy();
+    match body {
+        Body::Lose
+        | Body::AdvanceNo { .. }
+        | Body::Ask { .. }
+        | Body::Numbers { .. }
+        | Body::Wanted { .. }
+        | Body::Order { .. }
+        | Body::Obeyed { .. } => lossy,
+        Body::Advance
+        | Body::Turn { .. }
+        | Body::Show { .. }
+        | Body::Sweep { .. }
+        | Body::Turned { .. }
+        | Body::Shown { .. }
+        | Body::Swept { .. } => !lossy,
+        _ => true,
     }
-    !is_of_forgetting(body)
 }
 
 /// Whether the answer of a tree is held.

@@ -58,12 +58,9 @@ all_below (suc n) f = all_below n f && f n
 abbrev pub agrees : ℕ → NodeRows → NodeRows → Bool
 agrees n askeds dones = all_below n (λ p. all_below n (pair_agrees askeds dones p))
 
--- what the rows of n nodes say, once all are in
-abbrev pub verdict_by : ℕ → NodeRows → NodeRows → Option Bool
-verdict_by n dones askeds = if all_in dones && all_in askeds then Some (agrees n askeds dones) else None
-
+-- what the rows of a round say, once all are in
 abbrev pub verdict_of : RoundData → Option Bool
-verdict_of r = verdict_by r.nodes r.dones r.askeds
+verdict_of r = if all_in r.dones && all_in r.askeds then Some (agrees r.nodes r.askeds r.dones) else None
 
 -- node p's row is missing
 abbrev pub IsMissing : NodeRows → ℕ → Type 0

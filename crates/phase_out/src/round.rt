@@ -1,5 +1,5 @@
 ghost use Rattle.std.specs.Prelude.{ℕ, ◌≡◌, ◌<◌, ◌↔◌, List, length, replicate, slice_set, false, IfOk, IsNone, IsTrue, Some, None};
-ghost use Rattle.phase_out.specs.Rounds.{AreRows, MissesRow, PairDiffers, IsMissing, new_round, is_of, all_in, number_at, kept_number, pair_agrees, all_below, agrees, verdict_of, verdict_by};
+ghost use Rattle.phase_out.specs.Rounds.{AreRows, MissesRow, PairDiffers, IsMissing, new_round, is_of, all_in, number_at, kept_number, pair_agrees, all_below, agrees, verdict_of};
 
 use pair_counters::Row;
 use std::alloc::Global;
@@ -270,7 +270,7 @@ fn node_agrees(askeds: &AskedRows, dones: &[Option<Row>], nodes: u8, node: u8) -
 
 /// The verdict of the rows of so many nodes.
 fn verdict(dones: &[Option<Row>], askeds: &AskedRows, nodes: u8) -> Option<bool>
-    ensures { result ≡ verdict_by nodes dones.now askeds.now }
+    ensures { result ≡ (if all_in dones.now && all_in askeds.now then Some (agrees nodes askeds.now dones.now) else None) }
 {
     if !all_in(dones) {
         return None;

@@ -1,6 +1,6 @@
 -- The lines of the trees by their standings are those of the report.
 use Rattle.std.proofs.Common.{◌≡◌, ℕ, zero, suc, ◌+◌, true, false, List, [], ◌∷◌, ◌++◌, refl, ap, sym, ◌∙◌, append_assoc, arith}
-use Rattle.std.specs.Prelude.{filter, length, Option, Some, None, slice_get}
+use Rattle.std.specs.Prelude.{decimal, filter, length, Option, Some, None, slice_get}
 use Rattle.std.specs.List.{AllByRecursion}
 use Rattle.tv_base.specs.declared.numbers.Version.{Version}
 use Rattle.commute_ops.specs.declared.value.Value.{Value}
@@ -28,7 +28,8 @@ use Rattle.report_text.specs.inside.Served.{AreRead}
 use Rattle.report_text.specs.Outcomes.{outcome_of, strict_line}
 use Rattle.report_text.proofs.OutcomeLines.{outcome_kept}
 use Rattle.history_text.specs.Values.{get_text}
-use Rattle.report_text.specs.Report.{gets_text, item_name, read_line, tree_line, trees_text, values_text}
+use Rattle.history_text.specs.TreeNames.{got_text, item_text}
+use Rattle.report_text.specs.Report.{gets_text, read_line, tree_line, trees_text}
 
 -- the value of an item that is there, by number
 by_number_get : {A : Type 0} (f : ℕ → A) (k : ℕ) (rows : List ItemRow) (x : ℕ) (row : ItemRow)
@@ -46,30 +47,30 @@ worths_get s h v x row e =
 -- an operation's text, where its item is there
 op_text : (s : ScriptData) (h : List Entry) (v : ℕ) (kind : TreeKind) (node : ℕ) (o : SubOp) (r : Option ItemRow)
     → slice_get s.items o.item.0 ≡ r → OpAt kind node o r
-    → found_text (slice_get s.items o.item.0) (slice_get (worths s h v) o.item.0) ≡ get_text (item_name s.items o.item.0) (worth s h o.item.0 v)
+    → found_text (slice_get s.items o.item.0) (slice_get (worths s h v) o.item.0) ≡ get_text (item_text s o.item.0) (worth s h o.item.0 v)
 op_text s h v kind node o None e at = absurd at
 op_text s h v kind node o (Some row) e at =
     let w = worth s h o.item.0 v in
     ap (λ (r : Option ItemRow). found_text r (slice_get (worths s h v) o.item.0)) e
     ∙ ap (λ (one : Option Value). found_text (Some row) one) (worths_get s h v o.item.0 row e)
-    ∙ ap (λ (r : Option ItemRow). get_text (elim r [ Some one ↦ one.name | None ↦ [] ]) w) (sym e)
+    ∙ ap (λ (r : Option ItemRow). get_text (elim r [ Some one ↦ one.name | None ↦ decimal o.item.0 ]) w) (sym e)
 
 ops_text : (s : ScriptData) (h : List Entry) (v : ℕ) (kind : TreeKind) (node : ℕ) (os : List SubOp)
-    → AllByRecursion (IsOp s.items kind node) os → ops_texts s.items (worths s h v) os ≡ values_text s.items (shown s h v os)
+    → AllByRecursion (IsOp s.items kind node) os → ops_texts s.items (worths s h v) os ≡ got_text s (shown s h v os)
 ops_text s h v kind node [] all = refl
 ops_text s h v kind node (o ∷ os) all =
     let here = op_text s h v kind node o (slice_get s.items o.item.0) refl all.0 in
     let rest = ops_text s h v kind node os all.1 in
     ap (λ (z : List ℕ). z ++ ops_texts s.items (worths s h v) os) here
-    ∙ ap (λ (z : List ℕ). get_text (item_name s.items o.item.0) (worth s h o.item.0 v) ++ z) rest
+    ∙ ap (λ (z : List ℕ). get_text (item_text s o.item.0) (worth s h o.item.0 v) ++ z) rest
 
 shown-append : (s : ScriptData) (h : List Entry) (v : ℕ) (os more : List SubOp)
-    → values_text s.items (shown s h v (os ++ more)) ≡ values_text s.items (shown s h v os) ++ values_text s.items (shown s h v more)
+    → got_text s (shown s h v (os ++ more)) ≡ got_text s (shown s h v os) ++ got_text s (shown s h v more)
 shown-append s h v [] more = refl
 shown-append s h v (o ∷ os) more =
-    let one : List ℕ = get_text (item_name s.items o.item.0) (worth s h o.item.0 v) in
+    let one : List ℕ = get_text (item_text s o.item.0) (worth s h o.item.0 v) in
     ap (λ (z : List ℕ). one ++ z) (shown-append s h v os more)
-    ∙ sym (append_assoc one (values_text s.items (shown s h v os)) (values_text s.items (shown s h v more)))
+    ∙ sym (append_assoc one (got_text s (shown s h v os)) (got_text s (shown s h v more)))
 
 pub subs_text : (s : ScriptData) (h : List Entry) (v : ℕ) (kind : TreeKind) (k : ℕ) (ss : List Sub)
     → AreSubs s.nodes s.items kind k ss → subs_texts s.items (worths s h v) ss ≡ gets_text s h v ss
@@ -78,7 +79,7 @@ subs_text s h v kind k (x ∷ ss) all =
     let here = ops_text s h v kind x.node.0 x.ops all.0.ops in
     let rest = subs_text s h v kind (k + 1) ss all.1 in
     ap (λ (z : List ℕ). z ++ subs_texts s.items (worths s h v) ss) here
-    ∙ ap (λ (z : List ℕ). values_text s.items (shown s h v x.ops) ++ z) rest
+    ∙ ap (λ (z : List ℕ). got_text s (shown s h v x.ops) ++ z) rest
     ∙ sym (shown-append s h v x.ops (ops_in ss))
 
 -- a text at each place, which is that of the read tree there, where the list begins with tree t

@@ -1,6 +1,5 @@
 -- The text of the report: a function of the script and the history.
-use Rattle.std.specs.Prelude.{if◌then◌else◌, ℕ, zero, suc, ◌+◌, Bool, List, [], ◌∷◌, ◌++◌, codes, decimal, Option, Some, None, slice_get}
-use Rattle.tv_base.specs.declared.numbers.ItemNo.{ItemNo}
+use Rattle.std.specs.Prelude.{if◌then◌else◌, ℕ, zero, suc, ◌+◌, Bool, List, [], ◌∷◌, ◌++◌, codes, decimal, Option, Some, None}
 use Rattle.tv_base.specs.declared.numbers.Version.{Version}
 use Rattle.commute_ops.specs.declared.value.Value.{Value}
 use Rattle.letter_types.specs.declared.entries.Entry.{Entry}
@@ -18,21 +17,9 @@ use Rattle.board_rules.specs.Histories.{places_of, version_of}
 use Rattle.board_rules.specs.Right.{shown}
 use Rattle.board_rules.specs.Worth.{worth, is_written}
 use Rattle.report_text.specs.Outcomes.{outcome_of, strict_line}
-use Rattle.history_text.specs.Values.{get_text, value_text}
+use Rattle.history_text.specs.TreeNames.{got_text}
+use Rattle.history_text.specs.Values.{value_text}
 use Rattle.report_text.specs.Parts.{version_text}
-
--- how many advancements a script asks for
-abbrev pub advances : ScriptData → ℕ
-advances s = advances_in s.rows
-
--- the name of item x, which is empty where it isn't there
-abbrev pub item_name : List ItemRow → ℕ → List ℕ
-item_name rows x = elim (slice_get rows x) [ Some row ↦ row.name | None ↦ [] ]
-
--- the values of these items, in order
-abbrev pub values_text : List ItemRow → List (ItemNo × Value) → List ℕ
-values_text rows [] = []
-values_text rows (got ∷ more) = get_text (item_name rows got.0.0) got.1 ++ values_text rows more
 
 -- the mark of a tree that is undone
 abbrev pub undone_mark : Option Written → List ℕ
@@ -49,7 +36,7 @@ read_line name v values = version_text (codes "read ") name v ++ (values ++ code
 
 -- what a read tree's gets are worth at version v in the whole history; its operations are gets alone
 abbrev pub gets_text : ScriptData → List Entry → ℕ → List Sub → List ℕ
-gets_text s h v ks = values_text s.items (shown s h v (ops_in ks))
+gets_text s h v ks = got_text s (shown s h v (ops_in ks))
 
 -- the line of a tree, which has one where it is born, by the text of its values at a version and of how it came out
 abbrev pub tree_line : Tree → TreeKind → Option Version → (ℕ → List ℕ) → List ℕ → List ℕ
@@ -95,4 +82,6 @@ items_text s h a x (row ∷ rows) =
 
 -- trees in the script's order, then nodes by number, then items in the script's order
 abbrev pub report_of : ScriptData → List Entry → List ℕ
-report_of s h = trees_text s h 0 s.trees ++ (nodes_text (advances s) s.nodes ++ items_text s h (advances s) 0 s.items)
+report_of s h =
+    trees_text s h 0 s.trees
+    ++ (nodes_text (advances_in s.rows) s.nodes ++ items_text s h (advances_in s.rows) 0 s.items)

@@ -7,13 +7,12 @@ use Rattle.commute_ops.specs.declared.kinds.Kind.TheVariants.{Sum as SumKind, To
 use Rattle.commute_ops.specs.declared.value.Value.{Value}
 use Rattle.commute_ops.specs.declared.value.Value.TheVariants.{Sum, Top, Bag}
 use Rattle.letter_types.specs.declared.entries.Entry.{Entry}
-use Rattle.tx_trees.specs.Adding.{all_subs}
+use Rattle.tx_trees.specs.Adding.{advances_in, all_subs}
 use Rattle.tx_trees.specs.ScriptData.{ScriptData, is_read, is_update}
 use Rattle.tx_trees.specs.declared.parts.ItemRow.{ItemRow}
 use Rattle.tx_trees.specs.declared.parts.Tree.{Tree}
 use Rattle.board_rules.specs.Worth.{worth}
 use Rattle.history_text.specs.Values.{count_text}
-use Rattle.report_text.specs.Report.{advances}
 
 -- how many trees are update trees
 abbrev pub update_trees : List Tree → ℕ
@@ -50,7 +49,7 @@ trees_counts ts =
 abbrev pub counts_line : ScriptData → ℕ → List ℕ
 counts_line s seed =
     count_text (codes "soak seed ") seed
-    ++ (trees_counts s.trees ++ (count_text (codes " advances ") (advances s) ++ codes "\n"))
+    ++ (trees_counts s.trees ++ (count_text (codes " advances ") (advances_in s.rows) ++ codes "\n"))
 
 -- the worth of all sums, and of all tops
 abbrev pub totals_line : ℤ → ℤ → List ℕ
@@ -61,4 +60,4 @@ totals_line sum top =
 abbrev pub summary_of : ScriptData → List Entry → ℕ → List ℕ
 summary_of s h seed =
     counts_line s seed
-    ++ totals_line (kind_worth s h SumKind (advances s) 0 s.items) (kind_worth s h TopKind (advances s) 0 s.items)
+    ++ totals_line (kind_worth s h SumKind (advances_in s.rows) 0 s.items) (kind_worth s h TopKind (advances_in s.rows) 0 s.items)

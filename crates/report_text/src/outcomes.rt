@@ -1,9 +1,10 @@
 // The lines of strict trees.
-ghost use Rattle.std.specs.Prelude.{◌≡◌, ◌++◌, OnOk, codes};
-ghost use Rattle.std.specs.Option.{option_copied};
+ghost use Rattle.std.specs.Prelude.{◌≡◌, [], ◌++◌, OnOk, codes};
+ghost use Rattle.std.specs.Option.{option_and_then, option_copied, option_map_or};
 ghost use Rattle.std.specs.Str.{IsAscii};
 ghost use Rattle.history_text.specs.TreeNames.{got_text};
-ghost use Rattle.board_rules.specs.Outcomes.{cause_by, cause_from, got_by, got_from};
+ghost use Rattle.board_rules.specs.Outcomes.{cause_from, got_from, got_of};
+ghost use Rattle.board_rules.specs.Stands.{refusal_in};
 ghost use Rattle.report_text.specs.Outcomes.{decided_text, outcome_of, strict_line, why_text};
 
 use crate::parts::push_version;
@@ -82,7 +83,7 @@ fn push_all_got(text: &mut Text, script: &Script, voters: Voters) -> Result<(), 
 
 // The values that a vote gives, if it is there.
 fn push_vote_got(text: &mut Text, script: &Script, vote: Option<&Vote>) -> Result<(), NoMemory>
-    ensures { OnOk result (text.new ≡ text.old ++ got_text script.now (got_by (option_copied vote.entry))) }
+    ensures { OnOk result (text.new ≡ text.old ++ got_text script.now (option_map_or got_of (option_copied vote.entry) [])) }
 {
     match vote {
         Some(Vote::Yes(got)) => push_got(text, script, got),
@@ -106,7 +107,7 @@ fn first_cause<'a>(voters: Voters<'a>) -> Option<&'a Cause>
 
 // The cause that a vote names, if it is there.
 fn cause_by(vote: Option<&Vote>) -> Option<&Cause>
-    ensures { option_copied result ≡ cause_by (option_copied vote.entry) }
+    ensures { option_copied result ≡ option_and_then refusal_in (option_copied vote.entry) }
 {
     match vote {
         Some(Vote::No(cause)) => Some(cause.get()),

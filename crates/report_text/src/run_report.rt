@@ -1,7 +1,8 @@
 // The report.
 ghost use Rattle.std.specs.Prelude.{◌≡◌, [], IfOk};
+ghost use Rattle.tx_trees.specs.Adding.{advances_in};
 ghost use Rattle.report_text.specs.inside.Lines.{history_of_votes};
-ghost use Rattle.report_text.specs.Report.{advances, report_of};
+ghost use Rattle.report_text.specs.Report.{report_of};
 
 use crate::items::push_rows;
 use crate::run::Run;
@@ -66,7 +67,7 @@ fn history_of_votes<'a>(script: &Script, history: &'a History, none: &'a History
 
 // How many advancements the script asks for.
 pub(crate) fn advances(script: &Script) -> u32
-    ensures { result ≡ advances script.now }
+    ensures { result ≡ advances_in script.now.rows }
 {
     script.advances()
 }

@@ -6,9 +6,7 @@ use Rattle.script_parts.specs.ScriptData.{ScriptData, node_of, subs_at}
 use Rattle.script_parts.specs.Valid.{IsValid}
 use Rattle.script_parts.proofs.SubsOf.{has_root}
 use Rattle.world_model.specs.Runs.{IsStepRun}
-use Rattle.board_rules.specs.Histories.{Place, commits, version_in, was_committed}
-use Rattle.board_rules.specs.Moves.{decides_as}
-use Rattle.board_rules.proofs.ActTests.{commits_as}
+use Rattle.board_rules.specs.Histories.{Place, decides_as, version_in, was_decided_as}
 use Rattle.board_rules.proofs.ClosedWorth.{decided_placed}
 use Rattle.board_rules.proofs.InSerial.{placed_in}
 use Rattle.board_rules.proofs.Positions.{ActAt, found_all}
@@ -25,13 +23,13 @@ pub record CommitAt (zs : List Place) (t : ℕ) : Type 0 where
   pub node : ℕ
   pub at : ActAt (decides_as t true) zs place node
 
-pub commit_at : (t : ℕ) (zs : List Place) → was_committed t zs ≡ true → CommitAt zs t
+pub commit_at : (t : ℕ) (zs : List Place) → was_decided_as t true zs ≡ true → CommitAt zs t
 commit_at t zs is =
-    let f = found_all (λ (y : Place). commits t y.act) zs is in
+    let f = found_all (λ (y : Place). decides_as t true y.act) zs is in
     record {
       place = f.place;
       node = f.item.node;
-      at = record { act = f.item.act; is = f.is; passes = commits_as t f.item.act f.passes };
+      at = record { act = f.item.act; is = f.is; passes = f.passes };
     }
 
 -- its root voted before, so it is born

@@ -28,8 +28,8 @@ use Rattle.world_model.specs.Runs.{IsStepRun, client_in, keeping_in}
 use Rattle.world_model.specs.Strict.{core_row, none_refuses, notice_by}
 use Rattle.world_model.proofs.Cases.{Case, Coordinates, NodeDoes, NodeKeeps, Submits, case}
 use Rattle.world_model.proofs.Bags.{one_if_and, one_if_both}
-use Rattle.board_rules.specs.Histories.{Place, applies, places_at}
-use Rattle.board_rules.specs.Moves.{AllVoted, IsApplying, IsDecision, decides_as}
+use Rattle.board_rules.specs.Histories.{Place, applies, decides_as, places_at}
+use Rattle.board_rules.specs.Moves.{AllVoted, IsApplying, IsDecision}
 use Rattle.board_rules.specs.Stands.{votes, votes_yes, voted_yes, was_voted}
 use Rattle.board_rules.proofs.Wholes.{any_more}
 use Rattle.world_model.proofs.MeantRows.{strict_below}

@@ -110,32 +110,23 @@ belongs s p from Go meant = or_right (has_strict s) true refl
 belongs s p from _ meant = or_right (has_strict s) true refl
 
 -- and those of a coordinator where the script has that one
-not_of : (s : ScriptData) (forgets remembers : Bool) → (forgets ≡ true → is_lossy s ≡ true) → (remembers ≡ true → is_lossy s ≡ false)
-    → (if is_lossy s then not remembers else not forgets) ≡ true
-not_of s forgets remembers lossy plain = by (is_lossy s) forgets remembers lossy plain where
-  by : (l f r : Bool) → (f ≡ true → l ≡ true) → (r ≡ true → l ≡ false) → (if l then not r else not f) ≡ true
-  by true f false lossy plain = refl
-  by true f true lossy plain = absurd (cc (plain refl))
-  by false false r lossy plain = refl
-  by false true r lossy plain = absurd (cc (lossy refl))
-
 coordinator_suited : (s : ScriptData) (p from : ℕ) (b : Body) → IsMeant s from p b → suits_coordinator s b ≡ true
-coordinator_suited s p from Lose meant = not_of s true false (λ is. meant.1) (λ is. absurd (cc is))
-coordinator_suited s p from (AdvanceNo i) meant = not_of s true false (λ is. meant.1) (λ is. absurd (cc is))
-coordinator_suited s p from (Ask e) meant = not_of s true false (λ is. meant.1) (λ is. absurd (cc is))
-coordinator_suited s p from (Numbers e u r l) meant = not_of s true false (λ is. meant.1) (λ is. absurd (cc is))
-coordinator_suited s p from (Wanted e k) meant = not_of s true false (λ is. meant.1) (λ is. absurd (cc is))
-coordinator_suited s p from (Order e what v) meant = not_of s true false (λ is. meant.1) (λ is. absurd (cc is))
-coordinator_suited s p from (Obeyed e what v) meant = not_of s true false (λ is. meant.1) (λ is. absurd (cc is))
-coordinator_suited s p from Advance meant = not_of s false true (λ is. absurd (cc is)) (λ is. meant.1)
-coordinator_suited s p from (Turn v) meant = not_of s false true (λ is. absurd (cc is)) (λ is. meant.1)
-coordinator_suited s p from (Show v) meant = not_of s false true (λ is. absurd (cc is)) (λ is. meant.1)
-coordinator_suited s p from (Sweep v) meant = not_of s false true (λ is. absurd (cc is)) (λ is. meant.1)
-coordinator_suited s p from (Turned v) meant = not_of s false true (λ is. absurd (cc is)) (λ is. meant.1)
-coordinator_suited s p from (Shown v) meant = not_of s false true (λ is. absurd (cc is)) (λ is. meant.1)
-coordinator_suited s p from (Swept v) meant = not_of s false true (λ is. absurd (cc is)) (λ is. meant.1)
-coordinator_suited s p from Go meant = not_of s false false (λ is. absurd (cc is)) (λ is. absurd (cc is))
-coordinator_suited s p from _ meant = not_of s false false (λ is. absurd (cc is)) (λ is. absurd (cc is))
+coordinator_suited s p from Lose meant = meant.1
+coordinator_suited s p from (AdvanceNo i) meant = meant.1
+coordinator_suited s p from (Ask e) meant = meant.1
+coordinator_suited s p from (Numbers e u r l) meant = meant.1
+coordinator_suited s p from (Wanted e k) meant = meant.1
+coordinator_suited s p from (Order e what v) meant = meant.1
+coordinator_suited s p from (Obeyed e what v) meant = meant.1
+coordinator_suited s p from Advance meant = ap not meant.1
+coordinator_suited s p from (Turn v) meant = ap not meant.1
+coordinator_suited s p from (Show v) meant = ap not meant.1
+coordinator_suited s p from (Sweep v) meant = ap not meant.1
+coordinator_suited s p from (Turned v) meant = ap not meant.1
+coordinator_suited s p from (Shown v) meant = ap not meant.1
+coordinator_suited s p from (Swept v) meant = ap not meant.1
+coordinator_suited s p from Go meant = refl
+coordinator_suited s p from _ meant = refl
 
 -- A root is new.
 record IsNewRoot (s : ScriptData) (past : List Entry) (p : ℕ) (b : Body) : Type 0 where

@@ -32,8 +32,8 @@ use Rattle.world_model.specs.Strict.{CoreKeeping, core_row}
 use Rattle.world_model.proofs.Cases.{Case, Coordinates, NodeDoes, NodeKeeps, Submits, case}
 use Rattle.world_model.proofs.Keepings.{of_kept}
 use Rattle.world_model.proofs.Outstanding.{keeping_elsewhere}
-use Rattle.board_rules.specs.Histories.{Place, places_at, version_in}
-use Rattle.board_rules.specs.Stands.{newest_of, version_or_zero, written_by}
+use Rattle.board_rules.specs.Histories.{Place, places_at, version_in, version_or}
+use Rattle.board_rules.specs.Stands.{newest_of, written_by}
 use Rattle.board_rules.specs.Worth.{changes, ops_change, subs_change}
 use Rattle.board_rules.proofs.Places.{version_stays, places_more}
 use Rattle.tree_laws.proofs.ByActs.{kind_updates}
@@ -98,7 +98,7 @@ update_writes s past e p x r t k g asks_in of on =
     ∙ asked_born s (before past ++ places_at e) t k Update r.body c asks_in of refl (dated_here s past e p r g.valid g.apt.1 g.run g.does) in
     let up : updates s t.0 ≡ true = kind_updates s t.0 Update of in
     let written : written_by s zs x (e.actor.0 == p) (acts.Did t k []) ≡ v.0 =
-    value_if (updates s t.0) (ops_change x (ops_of s t.0 k.0)) (version_or_zero (version_in t.0 zs)) up on ∙ ap version_or_zero born in
+    value_if (updates s t.0) (ops_change x (ops_of s t.0 k.0)) (version_or 0 (version_in t.0 zs)) up on ∙ ap (version_or 0) born in
     omega (arith, written, written_then s past e p x (acts.Did t k []) [] row)
 
 -- A commit writes what its tree changes there, in the tree's version.
@@ -141,8 +141,8 @@ commit_writes s past e p x r t v g is on =
     ∙ version_stays t.0 (before past) (places_at e) (ap (λ (o : Option Version). is_some o) old) ∙ old in
     let here : (e.actor.0 == p) ≡ true = ap (λ (n : ℕ). n == p) g.does.brings.at ∙ same_test p in
     let written : written_by s zs x (e.actor.0 == p) (acts.Applied t true) ≡ v.0 =
-    value_if (e.actor.0 == p) (subs_change x (subs_at s t.0)) (version_or_zero (version_in t.0 zs)) here (tree_changes x p (subs_at s t.0) on)
-    ∙ ap version_or_zero born in
+    value_if (e.actor.0 == p) (subs_change x (subs_at s t.0)) (version_or 0 (version_in t.0 zs)) here (tree_changes x p (subs_at s t.0) on)
+    ∙ ap (version_or 0) born in
     omega (arith, written, written_then s past e p x (acts.Applied t true) [] row)
 
 -- So the row of a letter keeps to the bound.

@@ -19,6 +19,7 @@ use Rattle.nc_locks.specs.declared.modes.Mode.{Mode}
 use Rattle.nc_locks.specs.declared.modes.Mode.TheVariants.{Mark, Hold}
 use Rattle.nc_locks.specs.Locks.{has_lock, marks_on, met_in, wanted_locks, with_locks, without}
 use Rattle.nc_locks.proofs.Always.{freed_are_gone, taken_stand}
+use Rattle.nc_locks.specs.Wants.{wanted_by}
 use Rattle.script_parts.specs.Counts.{has_strict}
 use Rattle.script_parts.specs.ScriptData.{ScriptData, ops_of}
 use Rattle.script_parts.specs.declared.parts.SubOp.{SubOp}
@@ -32,7 +33,7 @@ use Rattle.world_model.specs.Named.{is_strict_at, tree_kind_at}
 use Rattle.world_model.specs.Notices.{values_of}
 use Rattle.world_model.specs.Reads.{gets}
 use Rattle.world_model.specs.Strict.{core_by_kind, core_row, decided, locks_by, note_core, noted_vote, refused_there, voting}
-use Rattle.world_model.specs.Votes.{cause_in, conflict_by, newer_in, short_in, vote_of, voted, wanted_by}
+use Rattle.world_model.specs.Votes.{cause_in, conflict_by, newer_in, short_in, vote_of, voted}
 use Rattle.board_rules.specs.Histories.{Place, version_in}
 use Rattle.tree_laws.proofs.AptVersions.{DoneIn, is_version}
 use Rattle.tree_laws.proofs.Seen.{raised_low}

@@ -27,6 +27,7 @@ use Rattle.nc_locks.specs.Locks.{first_where, has_lock, is_in_way, lock_of, lock
 use Rattle.nc_locks.specs.Modes.{modes_conflict}
 use Rattle.nc_locks.proofs.Always.{none_in_way}
 use Rattle.nc_locks.proofs.Orders.{itself, same_lock}
+use Rattle.nc_locks.specs.Wants.{mode_wanted, wanted_by}
 use Rattle.script_parts.specs.Counts.{has_strict}
 use Rattle.script_parts.specs.Deeds.{overwrites}
 use Rattle.script_parts.specs.ScriptData.{ScriptData, node_of, ops_of, sub_at, subs_at, visits}
@@ -45,7 +46,7 @@ use Rattle.world_model.specs.Named.{is_named, is_strict_at, is_timely, tree_kind
 use Rattle.world_model.specs.Node.{Node}
 use Rattle.world_model.specs.Runs.{IsStepRun, keeping_in, node_in}
 use Rattle.world_model.specs.Strict.{CoreKeeping, core_keeping, core_row, meets}
-use Rattle.world_model.specs.Votes.{mode_wanted, newer_at, newer_by, newer_in, wanted_by}
+use Rattle.world_model.specs.Votes.{newer_at, newer_by, newer_in}
 use Rattle.world_model.proofs.Cases.{Case, Coordinates, Does, Keeps, NodeDoes, NodeKeeps, Submits, case, does_number, apt_named}
 use Rattle.world_model.proofs.Keepings.{of_kept}
 use Rattle.world_model.proofs.Outstanding.{IsOutstanding, keeping_elsewhere}

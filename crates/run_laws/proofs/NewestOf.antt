@@ -7,8 +7,8 @@ use Rattle.letter_types.specs.declared.acts.Act.{Act}
 use Rattle.letter_types.specs.declared.acts.Act.TheVariants as acts
 use Rattle.letter_types.specs.declared.entries.Entry.{Entry}
 use Rattle.script_parts.specs.ScriptData.{ScriptData, ops_of, subs_at, updates}
-use Rattle.board_rules.specs.Histories.{Place, places_at, version_in}
-use Rattle.board_rules.specs.Stands.{newest_of, version_or_zero, written_by, written_in}
+use Rattle.board_rules.specs.Histories.{Place, places_at, version_in, version_or}
+use Rattle.board_rules.specs.Stands.{newest_of, written_by, written_in}
 use Rattle.board_rules.specs.Worth.{ops_change, subs_change}
 use Rattle.board_rules.proofs.Places.{version_stays, places_more}
 use Rattle.tree_laws.proofs.AptVersions.{before}
@@ -31,13 +31,13 @@ newest_has : (s : ScriptData) (zs : List Place) (p x i : ℕ) (y : Place) → sl
 newest_has s zs p x i y is = fold_has (written_in s zs p x) 0 zs i y is
 
 -- With more acts it is no less.
-version_grows : (t : ℕ) (xs ys : List Place) → version_or_zero (version_in t xs) ≤ version_or_zero (version_in t (xs ++ ys))
+version_grows : (t : ℕ) (xs ys : List Place) → version_or 0 (version_in t xs) ≤ version_or 0 (version_in t (xs ++ ys))
 version_grows t xs ys = by (version_in t xs) refl where
-  by : (o : Option Version) → version_in t xs ≡ o → version_or_zero o ≤ version_or_zero (version_in t (xs ++ ys))
+  by : (o : Option Version) → version_in t xs ≡ o → version_or 0 o ≤ version_or 0 (version_in t (xs ++ ys))
   by None is = omega arith
   by (Some w) is =
-      let same : version_or_zero (version_in t (xs ++ ys)) ≡ w.0 =
-      ap version_or_zero (version_stays t xs ys (ap (λ (o : Option Version). is_some o) is)) ∙ ap version_or_zero is in
+      let same : version_or 0 (version_in t (xs ++ ys)) ≡ w.0 =
+      ap (version_or 0) (version_stays t xs ys (ap (λ (o : Option Version). is_some o) is)) ∙ ap (version_or 0) is in
       omega (arith, same)
 
 if_grows : (b : Bool) (m n : ℕ) → m ≤ n → (if b then m else 0) ≤ (if b then n else 0)
@@ -46,10 +46,10 @@ if_grows false m n le = omega arith
 
 act_grows : (s : ScriptData) (xs ys : List Place) (x : ℕ) (here : Bool) (a : Act) → written_by s xs x here a ≤ written_by s (xs ++ ys) x here a
 act_grows s xs ys x here (acts.Did t k values) =
-    if_grows (updates s t.0 && ops_change x (ops_of s t.0 k.0)) (version_or_zero (version_in t.0 xs)) (version_or_zero (version_in t.0 (xs ++ ys)))
+    if_grows (updates s t.0 && ops_change x (ops_of s t.0 k.0)) (version_or 0 (version_in t.0 xs)) (version_or 0 (version_in t.0 (xs ++ ys)))
     (version_grows t.0 xs ys)
 act_grows s xs ys x here (acts.Applied t commit) =
-    if_grows (here && (commit && subs_change x (subs_at s t.0))) (version_or_zero (version_in t.0 xs)) (version_or_zero (version_in t.0 (xs ++ ys)))
+    if_grows (here && (commit && subs_change x (subs_at s t.0))) (version_or 0 (version_in t.0 xs)) (version_or 0 (version_in t.0 (xs ++ ys)))
     (version_grows t.0 xs ys)
 act_grows s xs ys x here acts.Finished = omega arith
 act_grows s xs ys x here _ = omega arith

@@ -38,8 +38,8 @@ use Rattle.world_model.proofs.Cases.{Case, Coordinates, NodeDoes, NodeKeeps, Sub
 use Rattle.world_model.proofs.Epochs.{ask_each, order_each}
 use Rattle.world_model.proofs.Every.{node_kept}
 use Rattle.world_model.proofs.Keepings.{of_kept}
-use Rattle.board_rules.specs.Histories.{Place, places_at, places_of}
-use Rattle.board_rules.specs.Moves.{number_after, showed_to, swept_to, turned_to, version_or, low_after, read_after, update_after}
+use Rattle.board_rules.specs.Histories.{Place, places_at, places_of, version_or}
+use Rattle.board_rules.specs.Moves.{number_after, showed_to, swept_to, turned_to, low_after, read_after, update_after}
 use Rattle.board_rules.proofs.Places.{places_more}
 use Rattle.tree_laws.proofs.AptVersions.{before}
 use Rattle.run_laws.proofs.EveryApt.{all_apt}

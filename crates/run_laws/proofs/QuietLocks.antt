@@ -9,10 +9,12 @@ use Rattle.letter_types.specs.declared.acts.Act.TheVariants.{Did, Voted, Freed, 
 use Rattle.letter_types.specs.declared.votes.Cause.{Cause}
 use Rattle.nc_locks.specs.declared.modes.Mode.{Mode}
 use Rattle.nc_locks.specs.Modes.{modes_conflict}
+use Rattle.nc_locks.specs.Wants.{mode_wanted}
 use Rattle.script_parts.specs.declared.parts.SubOp.{SubOp}
 use Rattle.script_parts.specs.ScriptData.{ScriptData}
 use Rattle.board_rules.specs.Histories.{Place}
-use Rattle.board_rules.specs.Stands.{conflict_of, conflict_with, conflicts_with, holder_of, least_from, lock_mode_of, locked_by, modes_after, modes_on, modes_standing, releases}
+use Rattle.board_rules.specs.Stands.{conflict_of, conflict_with, conflicts_with, holder_of, least_from, locked_by, modes_after, modes_on, modes_standing}
+use Rattle.board_rules.proofs.ActTests.{releases}
 use Rattle.run_laws.proofs.RowActs.{is_lasting, lasting}
 use Rattle.run_laws.proofs.Fronts.{placed}
 
@@ -61,7 +63,7 @@ conflict_same : (s : ScriptData) (xs ys : List Place) (p t : ℕ) (os : List Sub
     → ((x k : ℕ) → modes_standing s ys p x k ≡ modes_standing s xs p x k) → conflict_of s ys p t os ≡ conflict_of s xs p t os
 conflict_same s xs ys p t [] same = refl
 conflict_same s xs ys p t (o ∷ os) same =
-    let mode : Mode = lock_mode_of o.deed in
+    let mode : Mode = mode_wanted o.deed in
     let holder : holder_of s ys p t o.item.0 mode ≡ holder_of s xs p t o.item.0 mode =
     least_same (λ (k : ℕ). not (k == t) && conflicts_with s ys p o.item.0 mode k) (λ (k : ℕ). not (k == t) && conflicts_with s xs p o.item.0 mode k)
     0 (length s.trees) (λ k. ap (λ (ms : List Mode). not (k == t) && list_any (modes_conflict mode) ms) (same o.item.0 k)) in

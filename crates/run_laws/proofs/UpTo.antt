@@ -15,6 +15,7 @@ use Rattle.item_versions.specs.Table.{Table, item_in, replaced, updated, valued}
 use Rattle.item_versions.proofs.Window.{AllUpTo}
 use Rattle.nc_locks.specs.declared.modes.Mode.TheVariants.{Mark, Hold}
 use Rattle.nc_locks.specs.Modes.{modes_conflict}
+use Rattle.nc_locks.specs.Wants.{mode_wanted}
 use Rattle.script_parts.specs.Deeds.{after_deed, overwrites}
 use Rattle.script_parts.specs.declared.parts.Deed.{Deed}
 use Rattle.script_parts.specs.declared.parts.Deed.TheVariants.{Apply, Get, Set, Draw}
@@ -22,7 +23,6 @@ use Rattle.script_parts.specs.declared.parts.SubOp.{SubOp}
 use Rattle.world_model.specs.Decisions.{applied_in, overwritten, overwritten_in}
 use Rattle.world_model.specs.Reads.{seen_in}
 use Rattle.world_model.specs.Updates.{table_after_deed, table_after_ops}
-use Rattle.board_rules.specs.Stands.{lock_mode_of}
 use Rattle.board_rules.specs.Worth.{changes, ops_change}
 use Rattle.board_rules.proofs.Precedence.{overwritten as changes_over}
 use Rattle.tree_laws.proofs.Seen.{seen_of}
@@ -138,7 +138,7 @@ updated_writes m v op None n x items at same all =
     absurd (subst (IsUpTo m) none all)
 updated_writes m v op (Some h) n x items at same all = (touched_up m v op h (put_here m n x (touched v op h) h items same at all)).0
 
-deed_writes : (m : ℕ) (v : Version) (n x : ItemNo) (deed : Deed) (items : Table) → n.0 ≡ x.0 → changes deed ≡ true → lock_mode_of deed ≡ Mark
+deed_writes : (m : ℕ) (v : Version) (n x : ItemNo) (deed : Deed) (items : Table) → n.0 ≡ x.0 → changes deed ≡ true → mode_wanted deed ≡ Mark
     → IsUpTo m (item_in x (table_after_deed v n deed items)) → v.0 ≤ m
 deed_writes m v n x (Apply op) items same is marks all = updated_writes m v op (item_in n items) n x items refl same all
 deed_writes m v n x Get items same is marks all = absurd (cc is)
@@ -146,7 +146,7 @@ deed_writes m v n x (Set a) items same is marks all = absurd (let no_such : Hold
 deed_writes m v n x (Draw a) items same is marks all = absurd (let no_such : Hold ≡ Mark = marks in cc no_such)
 
 pub ops_write : (m : ℕ) (v : Version) (x : ItemNo) (os : List SubOp) (items : Table) → ops_change x.0 os ≡ true
-    → ((i : ℕ) (o : SubOp) → slice_get os i ≡ Some o → lock_mode_of o.deed ≡ Mark)
+    → ((i : ℕ) (o : SubOp) → slice_get os i ≡ Some o → mode_wanted o.deed ≡ Mark)
     → IsUpTo m (item_in x (table_after_ops v os items)) → v.0 ≤ m
 ops_write m v x [] items on marks all = absurd (cc on)
 ops_write m v x (o ∷ os) items on marks all =
@@ -209,7 +209,7 @@ over_writes m v o x items (Some (y ∷ ys)) at same all =
     (subst (λ (t : Table). IsUpTo m (item_in x t)) (wrote v o items y ys at) all))).0
 
 abbrev pub AreStrict : List SubOp → Type 0
-AreStrict os = AllByRecursion (λ (o : SubOp). modes_conflict Mark (lock_mode_of o.deed) ≡ true) os
+AreStrict os = AllByRecursion (λ (o : SubOp). modes_conflict Mark (mode_wanted o.deed) ≡ true) os
 
 pub commit_writes : (m : ℕ) (v : Version) (x : ItemNo) (os : List SubOp) (items : Table) → ops_change x.0 os ≡ true → AreStrict os
     → IsUpTo m (item_in x (applied_in v os items)) → v.0 ≤ m

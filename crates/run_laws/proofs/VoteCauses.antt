@@ -22,6 +22,7 @@ use Rattle.item_versions.specs.Table.{Table, item_in}
 use Rattle.item_versions.proofs.Holding.{IsHeld-item_in}
 use Rattle.item_versions.proofs.Window.{AllUpTo}
 use Rattle.nc_locks.specs.Locks.{met_in}
+use Rattle.nc_locks.specs.Wants.{wanted_by}
 use Rattle.script_parts.specs.Deeds.{found_short, overwrites}
 use Rattle.script_parts.specs.declared.parts.SubOp.{SubOp}
 use Rattle.script_parts.specs.declared.parts.TreeKind.TheVariants.{Strict}
@@ -34,10 +35,10 @@ use Rattle.world_model.specs.Notices.{act_of}
 use Rattle.world_model.specs.Reads.{gets, seen_in}
 use Rattle.world_model.specs.Runs.{IsStepRun, keeping_in, node_in}
 use Rattle.world_model.specs.Strict.{notice_by}
-use Rattle.world_model.specs.Votes.{cause_in, conflict_by, greatest_version, newer_by, newer_in, short_at, short_in, voted, wanted_by}
+use Rattle.world_model.specs.Votes.{cause_in, conflict_by, greatest_version, newer_by, newer_in, short_at, short_in, voted}
 use Rattle.world_model.proofs.Bags.{one_if_both}
-use Rattle.board_rules.specs.Histories.{Place, places_at, version_in}
-use Rattle.board_rules.specs.Stands.{cause_of, conflict_of, newer_of, newest_of, short_of, version_or_zero}
+use Rattle.board_rules.specs.Histories.{Place, places_at, version_in, version_or}
+use Rattle.board_rules.specs.Stands.{cause_of, conflict_of, newer_of, newest_of, short_of}
 use Rattle.board_rules.specs.Worth.{worth}
 use Rattle.board_rules.proofs.ItemAt.{op_row}
 use Rattle.tree_laws.specs.Turns.{has_turn}
@@ -165,7 +166,7 @@ cause_found s past e j p a r t k g asks of at so one none =
     (each_op (λ (o : SubOp). seen_in v o.item c.node.items ≡ Some (worth s (reverse past) o.item.0 v.0)) os
     (λ i o is. vote_seen s past e j p i a r t k o g asks of at one (sym first ∙ free) is)))
     ∙ ap (λ (n : ℕ). option_or (conflict_of s xs p t.0 os) (option_or (newer_of s xs p n os) (short_of s (reverse past) n os)))
-    (sym (ap version_or_zero version))
+    (sym (ap (version_or 0) version))
     ∙ ap (λ (q : ℕ). cause_of s (reverse past) xs q t.0 os) (sym g.does.brings.at)
 
 -- So each vote names its cause.

@@ -1,6 +1,7 @@
 -- In runs of apt letters, of every script: where a subtransaction of a strict tree voted yes, its locks stand until the
 -- decision on its tree is applied.
 use Rattle.std.proofs.Common.{◌≡◌, ◌≢◌, ◌⊎◌, inl, inr, ℕ, zero, suc, ◌+◌, ◌<◌, ◌≤◌, ◌==◌, ◌&&◌, Bool, true, false, not, List, [], ◌∷◌, refl, sym, ap, subst, ◌∙◌, arith, Option, Some, None}
+use Rattle.std.proofs.Math.Bool.{or-false}
 use Rattle.std.specs.Prelude.{if◌then◌else◌, slice_get}
 use Rattle.std.proofs.lemmas.Bool.{or_left}
 use Rattle.std.proofs.lemmas.Bool.Decides.{nat_tests}
@@ -18,6 +19,7 @@ use Rattle.letter_types.specs.declared.votes.Vote.TheVariants.{Yes, No}
 use Rattle.nc_locks.specs.declared.modes.Lock.{Lock}
 use Rattle.nc_locks.specs.Locks.{Wanted, has_lock, wanted_locks, with_locks, without}
 use Rattle.nc_locks.proofs.Always.{freed_are_gone, taken_stand}
+use Rattle.nc_locks.specs.Wants.{wanted_by}
 use Rattle.script_parts.specs.Counts.{has_strict, strict_trees}
 use Rattle.script_parts.specs.ScriptData.{ScriptData, ops_of, updates, is_strict}
 use Rattle.script_parts.specs.Valid.{IsValid}
@@ -34,18 +36,18 @@ use Rattle.world_model.specs.Runs.{IsStepRun, MayFollow, keeping_in}
 use Rattle.world_model.specs.Asked.{asked_ops, asked_version}
 use Rattle.world_model.specs.Notices.{act_of}
 use Rattle.world_model.specs.Strict.{notice_by}
-use Rattle.world_model.specs.Votes.{vote_of, wanted_by}
+use Rattle.world_model.specs.Votes.{vote_of}
 use Rattle.world_model.proofs.Cases.{Case, Coordinates, Does, NodeDoes, NodeKeeps, Submits, case, does_number}
 use Rattle.world_model.proofs.Every.{each_map, each_none, moved_says}
 use Rattle.world_model.proofs.Outstanding.{keeping_elsewhere, keeping_here}
-use Rattle.board_rules.specs.Locked.{locks_after_act, needed_by}
-use Rattle.board_rules.specs.Stands.{releases, votes_yes}
+use Rattle.board_rules.specs.Locked.{locks_after_act}
+use Rattle.board_rules.specs.Stands.{votes_yes}
+use Rattle.board_rules.proofs.ActTests.{releases}
 use Rattle.tree_laws.specs.Applied.{applied_at, applies_as}
 use Rattle.tree_laws.proofs.AptSteps.{done_before}
 use Rattle.tree_laws.proofs.NodeLoads.{strict_there}
 use Rattle.tree_laws.specs.Locks.{locks_after_acts}
 use Rattle.world_model.specs.Meant.{IsLetterMeant, IsMeant}
-use Rattle.tree_laws.proofs.ByActs.{wanted_needed}
 use Rattle.world_model.proofs.Meant.{letters_are_meant}
 use Rattle.tree_laws.proofs.RunConflicts.{wanted_tree}
 use Rattle.tree_laws.proofs.RunLocks.{step_follows}
@@ -79,26 +81,27 @@ still_there l u ls none has =
 act_stays : (s : ScriptData) (l : Lock) (a : Act) (ls : List Lock) → lets_go l.tree.0 a ≡ 0 → has_lock l ls ≡ true
     → has_lock l (locks_after_act s a ls) ≡ true
 act_stays s l (acts.Did u j values) ls none has = by (updates s u.0) where
-  by : (b : Bool) → has_lock l (if b then with_locks u (needed_by (ops_of s u.0 j.0)) ls else ls) ≡ true
-  by true = more_locks l u (needed_by (ops_of s u.0 j.0)) ls has
+  by : (b : Bool) → has_lock l (if b then with_locks u (wanted_by (ops_of s u.0 j.0)) ls else ls) ≡ true
+  by true = more_locks l u (wanted_by (ops_of s u.0 j.0)) ls has
   by false = has
-act_stays s l (acts.Voted u j (Yes values)) ls none has = more_locks l u (needed_by (ops_of s u.0 j.0)) ls has
+act_stays s l (acts.Voted u j (Yes values)) ls none has = more_locks l u (wanted_by (ops_of s u.0 j.0)) ls has
 act_stays s l (acts.Voted u j (No cause)) ls none has = has
-act_stays s l (acts.Freed u) ls none has = still_there l u ls none has
+act_stays s l (acts.Freed u) ls none has =
+    still_there l u ls (ap one_if (sym (or-false (u.0 == l.tree.0))) ∙ none) has
 act_stays s l (acts.Applied u commit) ls none has = still_there l u ls none has
 act_stays s l acts.Finished ls none has = has
 act_stays s l _ ls none has = has
 
 -- a vote of yes takes what its operations want
 act_takes : (s : ScriptData) (l : Lock) (t : TreeNo) (k : SubNo) (a : Act) (ls : List Lock) → votes_yes t.0 k.0 a ≡ true
-    → has_lock l (wanted_locks t (needed_by (ops_of s t.0 k.0))) ≡ true → has_lock l (locks_after_act s a ls) ≡ true
+    → has_lock l (wanted_locks t (wanted_by (ops_of s t.0 k.0))) ≡ true → has_lock l (locks_after_act s a ls) ≡ true
 act_takes s l t k (acts.Voted u j (Yes values)) ls is wants =
     let tree : t.0 ≡ u.0 = grind (arith, nat_tests) in
     let sub : k.0 ≡ j.0 = grind (arith, nat_tests) in
-    let its : has_lock l (wanted_locks u (needed_by (ops_of s u.0 j.0))) ≡ true =
-    subst (λ (i : ℕ). has_lock l (wanted_locks u (needed_by (ops_of s u.0 i))) ≡ true) sub
-    (subst (λ (n : ℕ). has_lock l (wanted_locks (record { 0 = n }) (needed_by (ops_of s n k.0))) ≡ true) tree wants) in
-    let ws : Wanted = needed_by (ops_of s u.0 j.0) in
+    let its : has_lock l (wanted_locks u (wanted_by (ops_of s u.0 j.0))) ≡ true =
+    subst (λ (i : ℕ). has_lock l (wanted_locks u (wanted_by (ops_of s u.0 i))) ≡ true) sub
+    (subst (λ (n : ℕ). has_lock l (wanted_locks (record { 0 = n }) (wanted_by (ops_of s n k.0))) ≡ true) tree wants) in
+    let ws : Wanted = wanted_by (ops_of s u.0 j.0) in
     taken_stand l u ws ls ∙ or_left (has_lock l (wanted_locks u ws)) (has_lock l ls) its
 act_takes s l t k (acts.Voted u j (No cause)) ls is wants = absurd (cc is)
 act_takes s l t k acts.Finished ls is wants = absurd (cc is)
@@ -106,7 +109,7 @@ act_takes s l t k _ ls is wants = absurd (cc is)
 
 -- so after all of them, if one votes or the lock was there
 acts_stand : (s : ScriptData) (l : Lock) (t : TreeNo) (k : SubNo) (xs : List Act) (ls : List Lock) → l.tree.0 ≡ t.0
-    → has_lock l (wanted_locks t (needed_by (ops_of s t.0 k.0))) ≡ true → tally (lets_go t.0) xs ≡ 0
+    → has_lock l (wanted_locks t (wanted_by (ops_of s t.0 k.0))) ≡ true → tally (lets_go t.0) xs ≡ 0
     → (has_lock l ls ≡ true) ⊎ (1 ≤ tally (λ (a : Act). one_if (votes_yes t.0 k.0 a)) xs) → has_lock l (locks_after_acts s ls xs) ≡ true
 acts_stand s l t k [] ls its wants none (inl has) = has
 acts_stand s l t k [] ls its wants none (inr some) = absurd (omega (arith, some))
@@ -188,7 +191,7 @@ row_lets : (s : ScriptData) (c : Core) (t : ℕ) (body : Body) → is_strict_at 
 row_lets s c t (Root u) strict up none = asked_lets s c t u (record { 0 = 0 }) (Root u) (tree_kind_at s u.0)
 row_lets s c t (SubLetter u k v) strict up none = asked_lets s c t u k (SubLetter u k v) (tree_kind_at s u.0)
 row_lets s c t (Decide u v commit) strict up none = omega (arith, none, applied_one (u.0 == t) commit)
-row_lets s c t (Release u) strict up none = omega (arith, plain_update s t u.0 strict up)
+row_lets s c t (Release u) strict up none = omega (arith, ap one_if (or-false (u.0 == t)), plain_update s t u.0 strict up)
 row_lets s c t Go strict up none = refl
 row_lets s c t _ strict up none = refl
 
@@ -244,7 +247,7 @@ Stands s past p t k l = 1 ≤ yeses_at past t.0 k.0 p → applied_at past t.0 tr
 
 stands_next : (s : ScriptData) (past : List Entry) (e : Entry) (p : ℕ) (t : TreeNo) (k : SubNo) (l : Lock) → IsValid s
     → IsStepRun s (e ∷ past) → p < s.nodes → is_strict_at s t.0 ≡ true → l.tree.0 ≡ t.0
-    → has_lock l (wanted_locks t (needed_by (ops_of s t.0 k.0))) ≡ true → Case s past e → Stands s past p t k l
+    → has_lock l (wanted_locks t (wanted_by (ops_of s t.0 k.0))) ≡ true → Case s past e → Stands s past p t k l
     → (test : Bool) → (e.actor.0 == p) ≡ test
     → 1 ≤ (if test then tally (λ (a : Act). one_if (votes_yes t.0 k.0 a)) e.acts else 0) + yeses_at past t.0 k.0 p
     → ((if test then tally (applies_as t.0 true) e.acts else 0) + applied_at past t.0 true p)
@@ -267,7 +270,7 @@ stands_next s past e p t k l valid run lt strict its wants c old false is some n
 
 stands : (s : ScriptData) (past : List Entry) (p : ℕ) (t : TreeNo) (k : SubNo) (l : Lock) → IsValid s → AllApt s past → IsStepRun s past
     → p < s.nodes → is_strict_at s t.0 ≡ true → l.tree.0 ≡ t.0
-    → has_lock l (wanted_locks t (needed_by (ops_of s t.0 k.0))) ≡ true → Stands s past p t k l
+    → has_lock l (wanted_locks t (wanted_by (ops_of s t.0 k.0))) ≡ true → Stands s past p t k l
 stands s [] p t k l valid apt run lt strict its wants some none = absurd (omega (arith, some))
 stands s (e ∷ past) p t k l valid apt run lt strict its wants some none =
     stands_next s past e p t k l valid run lt strict its wants (case s past e run.0 apt.0)
@@ -276,4 +279,4 @@ stands s (e ∷ past) p t k l valid apt run lt strict its wants some none =
 pub vote_locks_stand : VoteLocksStand
 vote_locks_stand s past p t k valid apt run lt strict some none l wants =
     stands s past p t k l valid apt run lt strict (wanted_tree t (wanted_by (ops_of s t.0 k.0)) l wants)
-    (ap (λ (ws : Wanted). has_lock l (wanted_locks t ws)) (sym (wanted_needed (ops_of s t.0 k.0))) ∙ wants) some none
+    wants some none

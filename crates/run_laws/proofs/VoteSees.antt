@@ -10,7 +10,8 @@ use Rattle.tv_base.specs.declared.numbers.Version.{Version}
 use Rattle.letter_types.specs.declared.acts.Act.{Act}
 use Rattle.letter_types.specs.declared.entries.Entry.{Entry}
 use Rattle.letter_types.specs.declared.entries.Letter.{Letter}
-use Rattle.nc_locks.specs.Locks.{Wanted, met_in}
+use Rattle.nc_locks.specs.Locks.{met_in}
+use Rattle.nc_locks.specs.Wants.{wanted_by}
 use Rattle.script_parts.specs.declared.parts.SubOp.{SubOp}
 use Rattle.script_parts.specs.declared.parts.TreeKind.TheVariants.{Strict}
 use Rattle.script_parts.specs.ScriptData.{ScriptData, ops_of}
@@ -19,7 +20,7 @@ use Rattle.world_model.specs.Core.{Core}
 use Rattle.world_model.specs.Named.{is_strict_at, tree_kind_at}
 use Rattle.world_model.specs.Reads.{seen_in}
 use Rattle.world_model.specs.Runs.{keeping_in, node_in}
-use Rattle.world_model.specs.Votes.{conflict_by, wanted_by}
+use Rattle.world_model.specs.Votes.{conflict_by}
 use Rattle.world_model.proofs.Bags.{tally-append}
 use Rattle.board_rules.specs.Histories.{Place, places_at}
 use Rattle.board_rules.specs.Stands.{conflict_of, was_voted}
@@ -28,7 +29,6 @@ use Rattle.board_rules.proofs.ClosedWorth.{IsClosed}
 use Rattle.board_rules.proofs.ItemAt.{item_at, op_row}
 use Rattle.board_rules.proofs.Rules.{IsItemAt}
 use Rattle.board_rules.proofs.Votes.{closed_at_vote}
-use Rattle.tree_laws.proofs.ByActs.{wanted_needed}
 use Rattle.tree_laws.proofs.RunConflicts.{runs_meet_conflicts}
 use Rattle.tree_laws.specs.Turns.{has_turn}
 use Rattle.tree_laws.proofs.Acts.{of_act}
@@ -49,8 +49,7 @@ pub conflict_met : (s : ScriptData) (past : List Entry) (e : Entry) (p : ℕ) (r
 conflict_met s past e p r t k g asks of =
     let c : Core = (keeping_in s past p).core in
     let strict : is_strict_at s t.0 ≡ true = rw (of, is_strict_at) refl in
-    ap (λ (ws : Wanted). conflict_by (met_in t ws c.locks)) (wanted_needed (ops_of s t.0 k.0))
-    ∙ runs_meet_conflicts s past p t k (has_some s t.0 strict) g.valid g.run.1 g.does.brings.below (is_there s past e p r t k g asks).node
+    runs_meet_conflicts s past p t k (has_some s t.0 strict) g.valid g.run.1 g.does.brings.below (is_there s past e p r t k g asks).node
 
 -- it has not voted before its entry
 unvoted : (s : ScriptData) (past : List Entry) (e : Entry) (j p : ℕ) (a : Act) (r : Letter) (t : TreeNo) (k : SubNo) → Doing s past e p r

@@ -27,6 +27,7 @@ use Rattle.script_parts.specs.ScriptData.{ScriptData, node_of, ops_of, sub_at, s
 use Rattle.script_parts.specs.Valid.{IsValid}
 use Rattle.nc_locks.specs.declared.modes.Mode.TheVariants.{Mark}
 use Rattle.nc_locks.specs.Modes.{modes_conflict}
+use Rattle.nc_locks.specs.Wants.{mode_wanted}
 use Rattle.world_model.specs.Asked.{asked_version}
 use Rattle.world_model.specs.Core.{Core}
 use Rattle.world_model.specs.Decisions.{applied_in, ops_at}
@@ -38,8 +39,8 @@ use Rattle.world_model.specs.Updates.{table_after_ops}
 use Rattle.world_model.proofs.Cases.{Case, Coordinates, NodeDoes, NodeKeeps, Submits, case}
 use Rattle.world_model.proofs.Keepings.{of_kept}
 use Rattle.world_model.proofs.Outstanding.{keeping_elsewhere}
-use Rattle.board_rules.specs.Histories.{Place, is_strict_tree, places_at, version_in}
-use Rattle.board_rules.specs.Stands.{lock_mode_of, version_or_zero, written_by, written_in}
+use Rattle.board_rules.specs.Histories.{Place, is_strict_tree, places_at, version_in, version_or}
+use Rattle.board_rules.specs.Stands.{written_by, written_in}
 use Rattle.board_rules.specs.Worth.{changes, ops_change, subs_change}
 use Rattle.board_rules.proofs.ItemAt.{item_at, marks_it, holds_it}
 use Rattle.board_rules.proofs.Places.{version_stays, places_more}
@@ -134,10 +135,10 @@ asked_born s zs t k kind body c (OfSub v is) of turn dated =
     version_is (version_in t.0 zs) v sub ∙ ap (λ (b : Body). Some (asked_version c.node.turns.update b)) (sym is)
 
 -- the version of a tree in all acts
-in_all : (t : ℕ) (xs ys zs : List Place) (v : Version) → zs ≡ xs ++ ys → version_in t xs ≡ Some v → version_or_zero (version_in t zs) ≡ v.0
+in_all : (t : ℕ) (xs ys zs : List Place) (v : Version) → zs ≡ xs ++ ys → version_in t xs ≡ Some v → version_or 0 (version_in t zs) ≡ v.0
 in_all t xs ys zs v is born =
-    ap (λ (w : List Place). version_or_zero (version_in t w)) is
-    ∙ ap version_or_zero (version_stays t xs ys (ap (λ (o : Option Version). is_some o) born)) ∙ ap version_or_zero born
+    ap (λ (w : List Place). version_or 0 (version_in t w)) is
+    ∙ ap (version_or 0) (version_stays t xs ys (ap (λ (o : Option Version). is_some o) born)) ∙ ap (version_or 0) born
 
 -- Where the act is: at the item's node, and what was written is at most m.
 pub record IsItem (s : ScriptData) (p : ℕ) (x : ItemNo) : Type 0 where
@@ -157,7 +158,7 @@ here_up s past e p q m x r g qp all =
 
 update_most : (s : ScriptData) (past : List Entry) (e : Entry) (p q m : ℕ) (x : ItemNo) (r : Letter) (t : TreeNo) (k : SubNo) (zs more : List Place)
     → IsItem s p x → Doing s past e q r → AsksIn r.body t k → tree_kind_at s t.0 ≡ Some Update → zs ≡ before (e ∷ past) ++ more
-    → IsUpTo m (item_in x (node_in s (e ∷ past) p).items) → ops_change x.0 (ops_of s t.0 k.0) ≡ true → version_or_zero (version_in t.0 zs) ≤ m
+    → IsUpTo m (item_in x (node_in s (e ∷ past) p).items) → ops_change x.0 (ops_of s t.0 k.0) ≡ true → version_or 0 (version_in t.0 zs) ≤ m
 update_most s past e p q m x r t k zs more i g asks of shape all on =
     let c : Core = (keeping_in s past q).core in
     let v : Version = asked_version c.node.turns.update r.body in
@@ -205,7 +206,7 @@ strict_append : (os more : List SubOp) → AreStrict os → AreStrict more → A
 strict_append [] more a b = b
 strict_append (o ∷ os) more a b = (a.0, strict_append os more a.1 b)
 
-strict_list : (os : List SubOp) → ((i : ℕ) (o : SubOp) → slice_get os i ≡ Some o → modes_conflict Mark (lock_mode_of o.deed) ≡ true) → AreStrict os
+strict_list : (os : List SubOp) → ((i : ℕ) (o : SubOp) → slice_get os i ≡ Some o → modes_conflict Mark (mode_wanted o.deed) ≡ true) → AreStrict os
 strict_list [] each = tt
 strict_list (o ∷ os) each = (each 0 o refl, strict_list os (λ i q is. each (suc i) q is))
 
@@ -218,7 +219,7 @@ strict_at p (y ∷ subs) each = by (y.node.0 == p) (strict_at p subs (λ n z is.
 
 commit_most : (s : ScriptData) (past : List Entry) (e : Entry) (p q m : ℕ) (x : ItemNo) (r : Letter) (t : TreeNo) (v : Version) (zs more : List Place)
     → IsItem s p x → Doing s past e q r → r.body ≡ Decide t v true → q ≡ p → zs ≡ before (e ∷ past) ++ more
-    → IsUpTo m (item_in x (node_in s (e ∷ past) p).items) → subs_change x.0 (subs_at s t.0) ≡ true → version_or_zero (version_in t.0 zs) ≤ m
+    → IsUpTo m (item_in x (node_in s (e ∷ past) p).items) → subs_change x.0 (subs_at s t.0) ≡ true → version_or 0 (version_in t.0 zs) ≤ m
 commit_most s past e p q m x r t v zs more i g is qp shape all on =
     let c : Core = (keeping_in s past q).core in
     let subs : List Sub = subs_at s t.0 in
@@ -262,11 +263,11 @@ vote_writes s zs x m here t k (No cause) = omega arith
 applied_most : (s : ScriptData) (past : List Entry) (e : Entry) (p q m : ℕ) (x : ItemNo) (r : Letter) (t : TreeNo) (v : Version) (commit : Bool)
     (zs more : List Place) → IsItem s p x → Doing s past e q r → r.body ≡ Decide t v commit → zs ≡ before (e ∷ past) ++ more
     → IsUpTo m (item_in x (node_in s (e ∷ past) p).items) → (here : Bool) → (e.actor.0 == p) ≡ here
-    → (if here && (commit && subs_change x.0 (subs_at s t.0)) then version_or_zero (version_in t.0 zs) else 0) ≤ m
+    → (if here && (commit && subs_change x.0 (subs_at s t.0)) then version_or 0 (version_in t.0 zs) else 0) ≤ m
 applied_most s past e p q m x r t v commit zs more i g is shape all false at = omega arith
 applied_most s past e p q m x r t v false zs more i g is shape all true at = omega arith
 applied_most s past e p q m x r t v true zs more i g is shape all true at =
-    if_most (subs_change x.0 (subs_at s t.0)) (version_or_zero (version_in t.0 zs)) m
+    if_most (subs_change x.0 (subs_at s t.0)) (version_or 0 (version_in t.0 zs)) m
     (λ on. commit_most s past e p q m x r t v zs more i g is (sym g.does.brings.at ∙ grind (arith, nat_tests, at)) shape all on)
 
 act_most : (s : ScriptData) (past : List Entry) (e : Entry) (p m : ℕ) (x : ItemNo) (j : ℕ) (a : Act) (zs more : List Place) → IsItem s p x
@@ -274,13 +275,13 @@ act_most : (s : ScriptData) (past : List Entry) (e : Entry) (p m : ℕ) (x : Ite
     → written_by s zs x.0 (e.actor.0 == p) a ≤ m
 act_most s past e p m x j a zs more i shape all (Updates q r t k g asks of is none) =
     subst (λ (b : Act). written_by s zs x.0 (e.actor.0 == p) b ≤ m) (sym is)
-    (if_most (updates s t.0 && ops_change x.0 (ops_of s t.0 k.0)) (version_or_zero (version_in t.0 zs)) m
+    (if_most (updates s t.0 && ops_change x.0 (ops_of s t.0 k.0)) (version_or 0 (version_in t.0 zs)) m
     (λ on.
     update_most s past e p q m x r t k zs more i g asks of shape all (and_parts (updates s t.0) (ops_change x.0 (ops_of s t.0 k.0)) on).1))
 act_most s past e p m x j a zs more i shape all (Reads q r t k values g asks of is none) =
     let reads_none : updates s t.0 ≡ false = kind_updates s t.0 Read of in
     subst (λ (b : Act). written_by s zs x.0 (e.actor.0 == p) b ≤ m) (sym is)
-    (if_most (updates s t.0 && ops_change x.0 (ops_of s t.0 k.0)) (version_or_zero (version_in t.0 zs)) m
+    (if_most (updates s t.0 && ops_change x.0 (ops_of s t.0 k.0)) (version_or 0 (version_in t.0 zs)) m
     (λ on. absurd (let up = (and_parts (updates s t.0) (ops_change x.0 (ops_of s t.0 k.0)) on).0 in cc (up, reads_none))))
 act_most s past e p m x j a zs more i shape all (Votes q r t k g asks of is none) =
     subst (λ (b : Act). written_by s zs x.0 (e.actor.0 == p) b ≤ m) (sym is)

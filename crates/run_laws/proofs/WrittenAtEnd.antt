@@ -15,12 +15,11 @@ use Rattle.script_parts.specs.declared.parts.Sub.{Sub}
 use Rattle.script_parts.specs.declared.parts.Tree.{Tree}
 use Rattle.script_parts.specs.declared.parts.TreeKind.{TreeKind}
 use Rattle.script_parts.specs.declared.parts.TreeKind.TheVariants as trees
-use Rattle.board_rules.specs.Histories.{Place, applies, commits, does, is_strict_tree, is_whole_in, places_of, version_in, version_of, was_applied, was_committed}
-use Rattle.board_rules.specs.Moves.{decides_as}
+use Rattle.board_rules.specs.Histories.{Place, applies, decides_as, does, is_strict_tree, is_whole_in, places_of, version_in, version_of, was_applied, was_decided_as}
 use Rattle.board_rules.specs.Rules.{AreByRule}
 use Rattle.board_rules.specs.Serial.{is_version}
 use Rattle.board_rules.specs.Worth.{is_written, may_write, ops_change, subs_change, trees_write, writes}
-use Rattle.board_rules.proofs.ActTests.{applies_as, applies_as_is, as_commits, commits_as, does_is}
+use Rattle.board_rules.proofs.ActTests.{applies_as, applies_as_is, does_is}
 use Rattle.board_rules.proofs.ClosedWorth.{applied_as_commit}
 use Rattle.board_rules.proofs.ItemAt.{item_at, changed_in}
 use Rattle.board_rules.proofs.Once.{same_tests}
@@ -88,12 +87,12 @@ did_to s h x w t k up version change =
 
 -- the Applied of a commit: its tree was decided to commit
 was_decided : (s : ScriptData) (zs : List Place) (i q : ℕ) (t : TreeNo) → AreByRule s zs
-    → slice_get zs i ≡ Some (record { node = q; act = Applied t true }) → was_committed t.0 zs ≡ true
+    → slice_get zs i ≡ Some (record { node = q; act = Applied t true }) → was_decided_as t.0 true zs ≡ true
 was_decided s zs i q t acts is =
     let passes : applies_as t.0 true (Applied t true) ≡ true = and_from (t.0 == t.0) true (same_test t.0) refl in
     let d = decision s zs i q t.0 true acts (record { act = Applied t true; is = is; passes = passes }) in
-    there_all (λ (y : Place). commits t.0 y.act) zs d.place (record { node = d.node; act = d.at.act }) d.at.is
-    (as_commits t.0 d.at.act d.at.passes)
+    there_all (λ (y : Place). decides_as t.0 true y.act) zs d.place (record { node = d.node; act = d.at.act }) d.at.is
+    d.at.passes
 
 applied_to : (s : ScriptData) (h : List Entry) (p x w i q : ℕ) (t : TreeNo) → AreByRule s (places_of h)
     → slice_get (places_of h) i ≡ Some (record { node = q; act = Applied t true }) → is_strict_at s t.0 ≡ true
@@ -166,7 +165,7 @@ update_from s zs p x w t k acts up whole below node version change =
     there_all (writes_in s zs p x w) zs f.place f.item f.is (and_from (f.item.node == p) (act_writes s zs p x w f.item.act) here wrote)
 
 -- a whole strict tree's commit was applied at the item's node
-strict_from : (s : ScriptData) (zs : List Place) (p x w t : ℕ) → AreByRule s zs → is_strict_tree s t ≡ true → was_committed t zs ≡ true
+strict_from : (s : ScriptData) (zs : List Place) (p x w t : ℕ) → AreByRule s zs → is_strict_tree s t ≡ true → was_decided_as t true zs ≡ true
     → was_applied t p zs ≡ true → is_version w (version_in t zs) ≡ true → ops_change x (ops_at p (subs_at s t)) ≡ true
     → was_written s zs p x w ≡ true
 strict_from s zs p x w t acts strict committed applied version change =
@@ -174,9 +173,9 @@ strict_from s zs p x w t acts strict committed applied version change =
     let node : f.item.node ≡ p = eqb-true f.item.node p (left_true (f.item.node == p) (applies t f.item.act) f.passes) in
     let here = act_node (applies t) zs f.place f.item.node p
     (record { act = f.item.act; is = f.is; passes = right_true (f.item.node == p) (applies t f.item.act) f.passes }) node in
-    let g = found_all (λ (y : Place). commits t y.act) zs committed in
+    let g = found_all (λ (y : Place). decides_as t true y.act) zs committed in
     let decided : ActAt (decides_as t true) zs g.place g.item.node =
-    record { act = g.item.act; is = g.is; passes = commits_as t g.item.act g.passes } in
+    record { act = g.item.act; is = g.is; passes = g.passes } in
     let a = applied_as_commit s zs f.place g.place p g.item.node t acts here decided in
     let on : Bool = ops_change x (ops_at p (subs_at s t)) in
     let at : is_strict_at s t ≡ true = sym (strict_is s t (slice_get s.trees t) refl) ∙ strict in

@@ -20,7 +20,8 @@ use Rattle.item_versions.specs.Item.{Held, IsHeld}
 use Rattle.item_versions.specs.Table.{Table, item_in}
 use Rattle.item_versions.proofs.Holding.{IsHeld-item_in}
 use Rattle.item_versions.proofs.Window.{AllUpTo}
-use Rattle.nc_locks.specs.Locks.{Wanted, met_in}
+use Rattle.nc_locks.specs.Locks.{met_in}
+use Rattle.nc_locks.specs.Wants.{wanted_by}
 use Rattle.script_parts.specs.Deeds.{overwrites}
 use Rattle.script_parts.specs.declared.parts.SubOp.{SubOp}
 use Rattle.script_parts.specs.declared.parts.TreeKind.TheVariants.{Strict}
@@ -31,15 +32,14 @@ use Rattle.letter_types.specs.declared.bodies.Body.{Body}
 use Rattle.world_model.specs.Core.{Core}
 use Rattle.world_model.specs.Named.{is_strict_at, tree_kind_at}
 use Rattle.world_model.specs.Runs.{IsStepRun, keeping_in, node_in}
-use Rattle.world_model.specs.Votes.{cause_in, conflict_by, newer_at, newer_by, newer_in, short_in, wanted_by}
+use Rattle.world_model.specs.Votes.{cause_in, conflict_by, newer_at, newer_by, newer_in, short_in}
 use Rattle.world_model.proofs.Bags.{one_if_both}
-use Rattle.board_rules.specs.Histories.{Place, places_at, version_in}
-use Rattle.board_rules.specs.Stands.{conflict_of, newer_of, newest_of, version_or_zero, written_in}
+use Rattle.board_rules.specs.Histories.{Place, places_at, version_in, version_or}
+use Rattle.board_rules.specs.Stands.{conflict_of, newer_of, newest_of, written_in}
 use Rattle.board_rules.proofs.ItemAt.{op_row}
 use Rattle.board_rules.proofs.Places.{version_stays}
 use Rattle.board_rules.specs.Rules.{IsFreeVote}
 use Rattle.board_rules.proofs.Standing.{none_parts}
-use Rattle.tree_laws.proofs.ByActs.{wanted_needed}
 use Rattle.tree_laws.proofs.RunConflicts.{runs_meet_conflicts}
 use Rattle.tree_laws.specs.Turns.{has_turn}
 use Rattle.tree_laws.proofs.AptBounds.{effect_bound, tables_keep}
@@ -177,7 +177,7 @@ yes_by_rule s past e j p r t k values g asks of at free none =
     let own : has_turn t.0 k.0 (acts.Voted t k (Yes values)) ≡ 1 = one_if_both t.0 k.0 in
     let met : conflict_of s (before past) p t.0 os ≡ None =
     sym (runs_meet_conflicts s past p t k (has_some s t.0 strict) g.valid g.run.1 g.does.brings.below there.node)
-    ∙ ap (λ (ws : Wanted). conflict_by (met_in t ws c.locks)) (sym (wanted_needed os)) ∙ n.met in
+    ∙ n.met in
     let newer : newer_of s (front past e j) p v.0 os ≡ None =
     newer_none s past e j p t.0 k.0 v os g.valid g.run g.does.brings.below none
     (λ i o is.
@@ -191,6 +191,6 @@ yes_by_rule s past e j p r t k values g asks of at free none =
       once = not_voted t.0 k.0 (front past e j) (turn_once s past e j (acts.Voted t k (Yes values)) t.0 k.0 there.at g.valid g.run at own);
       node = there.node ∙ sym g.does.brings.at;
       free = conflict_front s past e j e.actor.0 t.0 os none ∙ ap (λ (q : ℕ). conflict_of s (before past) q t.0 os) g.does.brings.at ∙ met;
-      newest = ap (λ (q : ℕ). newer_of s (front past e j) q (version_or_zero (version_in t.0 (front past e j))) os) g.does.brings.at
-          ∙ ap (λ (o : Option Version). newer_of s (front past e j) p (version_or_zero o) os) version ∙ newer;
+      newest = ap (λ (q : ℕ). newer_of s (front past e j) q (version_or 0 (version_in t.0 (front past e j))) os) g.does.brings.at
+          ∙ ap (λ (o : Option Version). newer_of s (front past e j) p (version_or 0 o) os) version ∙ newer;
     }

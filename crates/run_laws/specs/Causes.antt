@@ -1,7 +1,7 @@
 -- What a vote names.
 use Rattle.std.specs.Prelude.{ℕ, ◌≡◌, List}
 use Rattle.letter_types.specs.declared.acts.Act.{Act}
-use Rattle.letter_types.specs.declared.acts.Act.TheVariants.{Voted, Finished}
+use Rattle.letter_types.specs.declared.acts.Act.TheVariants.{Voted}
 use Rattle.letter_types.specs.declared.entries.Entry.{Entry}
 use Rattle.script_parts.specs.ScriptData.{ScriptData, ops_of}
 use Rattle.board_rules.specs.Histories.{Place}
@@ -12,7 +12,6 @@ use Rattle.board_rules.specs.Stands.{cause_of, refusal_in}
 -- finds a cause, and names that cause
 abbrev pub NamesItsCause : ScriptData → List Entry → List Place → ℕ → Act → Type 0
 NamesItsCause s before xs p (Voted t k vote) = refusal_in vote ≡ cause_of s before xs p t.0 (ops_of s t.0 k.0)
-NamesItsCause s before xs p Finished = Unit {0}
 NamesItsCause s before xs p _ = Unit {0}
 
 -- each vote of a history does

@@ -1,14 +1,14 @@
 -- What strict trees that commit got, and where they stand in the serial order.
-use Rattle.std.specs.Prelude.{ℕ, ◌==◌, ◌≤◌, List, Option, Some, None, IsTrue}
+use Rattle.std.specs.Prelude.{ℕ, ◌==◌, ◌≤◌, true, List, Option, Some, None, IsTrue}
 use Rattle.std.specs.List.{before_first}
 use Rattle.tv_base.specs.declared.numbers.Version.{Version}
 use Rattle.commute_ops.specs.declared.value.Value.{Value}
 use Rattle.letter_types.specs.declared.acts.Act.{Act}
-use Rattle.letter_types.specs.declared.acts.Act.TheVariants.{Voted, Finished}
+use Rattle.letter_types.specs.declared.acts.Act.TheVariants.{Voted}
 use Rattle.letter_types.specs.declared.entries.Entry.{Entry}
-use Rattle.letter_types.specs.declared.votes.Vote.TheVariants.{Yes, No}
+use Rattle.letter_types.specs.declared.votes.Vote.TheVariants.{Yes}
 use Rattle.script_parts.specs.ScriptData.{ScriptData, ops_of}
-use Rattle.board_rules.specs.Histories.{Place, places_of, version_of, was_committed}
+use Rattle.board_rules.specs.Histories.{Place, places_of, version_of, was_decided_as}
 use Rattle.board_rules.specs.Moves.{AtEachAct}
 use Rattle.board_rules.specs.Right.{IsShown, gets_among}
 use Rattle.board_rules.specs.Serial.{is_in, serial_to}
@@ -26,10 +26,8 @@ worth_before s h t x v = worth_after s x (members_before s h t v)
 -- members before the tree, up to the tree's version in h
 abbrev pub GotTheFoldBefore : ScriptData → List Entry → Act → Type 0
 GotTheFoldBefore s h (Voted t k (Yes values)) =
-    IsTrue (was_committed t.0 (places_of h))
+    IsTrue (was_decided_as t.0 true (places_of h))
     → IsShown (worth_before s h t.0) (gets_among (ops_of s t.0 k.0)) values (version_of h t.0)
-GotTheFoldBefore s h (Voted t k (No cause)) = Unit {0}
-GotTheFoldBefore s h Finished = Unit {0}
 GotTheFoldBefore s h _ = Unit {0}
 
 -- each yes of a history does
@@ -44,4 +42,4 @@ StandsFrom s h t (Some w) = (v : ℕ) → w.0 ≤ v → IsTrue (is_in t (serial_
 
 -- so does each tree that was decided to commit, from its version on
 abbrev pub CommitsStand : ScriptData → List Entry → Type 0
-CommitsStand s h = (t : ℕ) → IsTrue (was_committed t (places_of h)) → StandsFrom s h t (version_of h t)
+CommitsStand s h = (t : ℕ) → IsTrue (was_decided_as t true (places_of h)) → StandsFrom s h t (version_of h t)

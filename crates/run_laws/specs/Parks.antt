@@ -1,7 +1,7 @@
 -- How often letters are parked, and how often the roots of strict trees wait, in every run.
 use Rattle.std.specs.Prelude.{ℕ, ◌==◌, ◌&&◌, ◌+◌, ◌<◌, ◌≤◌, List, [], ◌∷◌, length}
 use Rattle.letter_types.specs.declared.acts.Act.{Act}
-use Rattle.letter_types.specs.declared.acts.Act.TheVariants.{Parked, Waits, Finished}
+use Rattle.letter_types.specs.declared.acts.Act.TheVariants.{Parked, Waits}
 use Rattle.letter_types.specs.declared.entries.Entry.{Entry}
 use Rattle.letter_types.specs.declared.kept.KeptLetter.{KeptLetter}
 use Rattle.letter_types.specs.declared.kept.Why.{Why}
@@ -15,7 +15,6 @@ use Rattle.world_model.specs.Runs.{IsStepRun, node_in}
 -- subtransaction k of tree t is parked for tree h
 abbrev pub parks_for : ℕ → ℕ → ℕ → Act → ℕ
 parks_for t k h (Parked u j item g) = one_if ((u.0 == t) && ((j.0 == k) && (g.0 == h)))
-parks_for t k h Finished = 0
 parks_for t k h _ = 0
 
 -- how often it was
@@ -26,7 +25,6 @@ parks (e ∷ past) t k h = tally (parks_for t k h) e.acts + parks past t k h
 -- the root of tree t waits for a Show
 abbrev pub waits_for : ℕ → Act → ℕ
 waits_for t (Waits u v w) = one_if (u.0 == t)
-waits_for t Finished = 0
 waits_for t _ = 0
 
 -- how often it did

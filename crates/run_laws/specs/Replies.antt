@@ -5,7 +5,7 @@ use Rattle.letter_types.specs.declared.acts.Act.{Act}
 use Rattle.letter_types.specs.declared.bodies.Answer.{Answer}
 use Rattle.letter_types.specs.declared.bodies.Answer.TheVariants.{Aborted, Whole}
 use Rattle.letter_types.specs.declared.bodies.Body.{Body}
-use Rattle.letter_types.specs.declared.bodies.Body.TheVariants.{Go, Reply}
+use Rattle.letter_types.specs.declared.bodies.Body.TheVariants.{Reply}
 use Rattle.letter_types.specs.declared.entries.Entry.{Entry}
 use Rattle.letter_types.specs.declared.entries.Outgoing.{Outgoing}
 use Rattle.letter_types.specs.declared.votes.Cause.{Cause}
@@ -50,7 +50,6 @@ pub record IsReplyOf (s : ScriptData) (h : List Entry) (from to t : ℕ) (v : Ve
 -- a letter is so if it is a reply
 abbrev pub IsRightReply : ScriptData → List Entry → ℕ → ℕ → Body → Type 0
 IsRightReply s h from to (Reply t v answer) = IsReplyOf s h from to t.0 v answer
-IsRightReply s h from to Go = Unit {0}
 IsRightReply s h from to _ = Unit {0}
 
 -- so is each letter that an entry of the history sends
@@ -71,7 +70,6 @@ NamesLowestNo s acts t (Whole values) = Unit {0}
 
 abbrev pub ReplyNamesNo : ScriptData → List Entry → Body → Type 0
 ReplyNamesNo s h (Reply t v answer) = NamesLowestNo s (acts_in (places_of h)) t.0 answer
-ReplyNamesNo s h Go = Unit {0}
 ReplyNamesNo s h _ = Unit {0}
 
 abbrev pub RepliesNameNoes : ScriptData → List Entry → Type 0
@@ -86,7 +84,6 @@ ShowsWorths s h t None v answer = Unit {0}
 
 abbrev pub ReplyShows : ScriptData → List Entry → Body → Type 0
 ReplyShows s h (Reply t v answer) = ShowsWorths s h t.0 (tree_kind_at s t.0) v answer
-ReplyShows s h Go = Unit {0}
 ReplyShows s h _ = Unit {0}
 
 abbrev pub RepliesShow : ScriptData → List Entry → Type 0

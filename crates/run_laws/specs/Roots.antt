@@ -2,9 +2,9 @@
 use Rattle.std.specs.Prelude.{if◌then◌else◌, ℕ, Bool, true, false, ◌≡◌, ◌==◌, ◌+◌, ◌&&◌, List, [], ◌∷◌, filter, take, Option, Some, None, IsTrue, slice_get}
 use Rattle.tv_base.specs.declared.numbers.TreeNo.{TreeNo}
 use Rattle.letter_types.specs.declared.acts.Act.{Act}
-use Rattle.letter_types.specs.declared.acts.Act.TheVariants.{Waits, Finished}
+use Rattle.letter_types.specs.declared.acts.Act.TheVariants.{Waits}
 use Rattle.letter_types.specs.declared.bodies.Body.{Body}
-use Rattle.letter_types.specs.declared.bodies.Body.TheVariants.{Go, Root, Wake}
+use Rattle.letter_types.specs.declared.bodies.Body.TheVariants.{Root, Wake}
 use Rattle.letter_types.specs.declared.entries.Entry.{Entry}
 use Rattle.script_parts.specs.ScriptData.{ScriptData}
 use Rattle.board_rules.specs.Histories.{Place, is_strict_tree, places_at, places_of, was_born}
@@ -13,7 +13,6 @@ use Rattle.board_rules.specs.Moves.{read_after, update_after}
 -- the acts of an entry that let a root wait
 abbrev pub lets_wait : Act → Bool
 lets_wait (Waits t u r) = true
-lets_wait Finished = false
 lets_wait _ = false
 
 abbrev pub waits_among : List Act → List Act
@@ -23,7 +22,6 @@ waits_among acts = filter lets_wait acts
 abbrev pub strict_root : ScriptData → Body → Option TreeNo
 strict_root s (Root t) = if is_strict_tree s t.0 then Some t else None
 strict_root s (Wake t k) = if is_strict_tree s t.0 && (k.0 == 0) then Some t else None
-strict_root s Go = None
 strict_root s _ = None
 
 -- at a node that updates version u and reads version r: where u is the one after r, the entry bears the tree and lets

@@ -2,7 +2,7 @@
 use Rattle.std.specs.Prelude.{◌≡◌, ℕ, ◌<◌, ◌≤◌, true, false, List, length, Some}
 use Rattle.tv_base.specs.declared.numbers.Version.{Version}
 use Rattle.letter_types.specs.declared.bodies.Body.{Body}
-use Rattle.letter_types.specs.declared.bodies.Body.TheVariants.{Go, Order, Show, Sweep}
+use Rattle.letter_types.specs.declared.bodies.Body.TheVariants.{Order, Show, Sweep}
 use Rattle.letter_types.specs.declared.bodies.What.TheVariants as whats
 use Rattle.letter_types.specs.declared.entries.Entry.{Entry}
 use Rattle.tx_trees.specs.ScriptData.{ScriptData, reads}
@@ -24,7 +24,6 @@ IsBackedBy s h (Show v) = WritersAreWhole s h v.0
 IsBackedBy s h (Sweep v) = ReadsAreWhole s h v.0
 IsBackedBy s h (Order e whats.Show v) = WritersAreWhole s h v.0
 IsBackedBy s h (Order e whats.Sweep v) = ReadsAreWhole s h v.0
-IsBackedBy s h Go = Unit {0}
 IsBackedBy s h _ = Unit {0}
 
 -- from a history to a later one no writer has come to a version at most v
@@ -44,5 +43,4 @@ IsClosedBy s h later (Show v) = NoWriterCame s h later v.0
 IsClosedBy s h later (Sweep v) = NoReadCame s h later v.0
 IsClosedBy s h later (Order e whats.Show v) = NoWriterCame s h later v.0
 IsClosedBy s h later (Order e whats.Sweep v) = NoReadCame s h later v.0
-IsClosedBy s h later Go = Unit {0}
 IsClosedBy s h later _ = Unit {0}

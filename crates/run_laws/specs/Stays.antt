@@ -3,7 +3,7 @@ use Rattle.std.specs.Prelude.{ℕ, ◌≡◌, ◌≤◌, List, Option, Some, Non
 use Rattle.tv_base.specs.declared.numbers.Version.{Version}
 use Rattle.commute_ops.specs.declared.value.Value.{Value}
 use Rattle.letter_types.specs.declared.acts.Act.{Act}
-use Rattle.letter_types.specs.declared.acts.Act.TheVariants.{Did, Finished}
+use Rattle.letter_types.specs.declared.acts.Act.TheVariants.{Did}
 use Rattle.letter_types.specs.declared.entries.Entry.{Entry}
 use Rattle.script_parts.specs.ScriptData.{ScriptData, ops_of, reads}
 use Rattle.board_rules.specs.Histories.{Place, is_whole_in, version_of}
@@ -21,7 +21,6 @@ AreWritersWhole s h xs (Some v) =
 -- where the act is a Did of a read tree, the writers of its version and older ones are whole before
 abbrev pub ComesAfterWriters : ScriptData → List Entry → List Place → Act → Type 0
 ComesAfterWriters s h xs (Did t k values) = IsTrue (reads s t.0) → AreWritersWhole s h xs (version_of h t.0)
-ComesAfterWriters s h xs Finished = Unit {0}
 ComesAfterWriters s h xs _ = Unit {0}
 
 -- after the acts before any Did of a read tree of version v, every writer that the whole history gives a version of at
@@ -33,7 +32,6 @@ WritersAreFirst s h =
 -- where the act is a Did of a read tree, its values are what its items are worth, so counted, at the tree's version in h
 abbrev pub Shows : (ℕ → ℕ → Value) → ScriptData → List Entry → Act → Type 0
 Shows worth_at s h (Did t k values) = IsTrue (reads s t.0) → IsShown worth_at (ops_of s t.0 k.0) values (version_of h t.0)
-Shows worth_at s h Finished = Unit {0}
 Shows worth_at s h _ = Unit {0}
 
 -- so with every act of the history

@@ -2,7 +2,7 @@
 use Rattle.std.specs.Prelude.{if◌then◌else◌, ℕ, ◌==◌, ◌&&◌, ◌<◌, ◌≤◌, ◌≡◌, List, fold, reverse, Some, slice_get}
 use Rattle.commute_ops.specs.declared.value.Value.{Value}
 use Rattle.letter_types.specs.declared.acts.Act.{Act}
-use Rattle.letter_types.specs.declared.acts.Act.TheVariants.{Did, Applied, Finished}
+use Rattle.letter_types.specs.declared.acts.Act.TheVariants.{Did, Applied}
 use Rattle.letter_types.specs.declared.entries.Entry.{Entry}
 use Rattle.script_parts.specs.ScriptData.{ScriptData, ops_of, subs_at, updates}
 use Rattle.script_parts.specs.Valid.{IsValid}
@@ -21,7 +21,6 @@ abbrev pub value_by_act : ScriptData → List Place → ℕ → ℕ → ℕ → 
 value_by_act s zs p x v w (Did t k values) = if updates s t.0 && is_up_to v (version_in t.0 zs) then after_ops x (ops_of s t.0 k.0) w else w
 value_by_act s zs p x v w (Applied t commit) =
     if commit && (is_strict_at s t.0 && is_up_to v (version_in t.0 zs)) then after_ops x (ops_at p (subs_at s t.0)) w else w
-value_by_act s zs p x v w Finished = w
 value_by_act s zs p x v w _ = w
 
 abbrev pub value_by_place : ScriptData → List Place → ℕ → ℕ → ℕ → Value → Place → Value

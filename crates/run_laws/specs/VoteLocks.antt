@@ -6,13 +6,13 @@ use Rattle.letter_types.specs.declared.acts.Act.{Act}
 use Rattle.letter_types.specs.declared.entries.Entry.{Entry}
 use Rattle.nc_locks.specs.declared.modes.Lock.{Lock}
 use Rattle.nc_locks.specs.Locks.{has_lock, wanted_locks}
+use Rattle.nc_locks.specs.Wants.{wanted_by}
 use Rattle.script_parts.specs.ScriptData.{ScriptData, ops_of}
 use Rattle.script_parts.specs.Valid.{IsValid}
 use Rattle.world_model.specs.AllApt.{AllApt}
 use Rattle.world_model.specs.Counts.{one_if, tally}
 use Rattle.world_model.specs.Named.{is_strict_at}
 use Rattle.world_model.specs.Runs.{IsStepRun, keeping_in}
-use Rattle.world_model.specs.Votes.{wanted_by}
 use Rattle.board_rules.specs.Stands.{votes_yes}
 use Rattle.tree_laws.specs.Applied.{applied_at}
 

@@ -6,7 +6,7 @@ use Rattle.tv_base.specs.declared.numbers.Version.{Version}
 use Rattle.item_versions.specs.Item.{Held, holds}
 use Rattle.item_versions.specs.Table.{Table, item_in}
 use Rattle.letter_types.specs.declared.acts.Act.{Act}
-use Rattle.letter_types.specs.declared.acts.Act.TheVariants.{Did, Applied, Finished}
+use Rattle.letter_types.specs.declared.acts.Act.TheVariants.{Did, Applied}
 use Rattle.script_parts.specs.ScriptData.{ScriptData, ops_of, subs_at, updates}
 use Rattle.world_model.specs.Decisions.{ops_at}
 use Rattle.world_model.specs.Named.{is_strict_at}
@@ -28,7 +28,6 @@ abbrev pub act_writes : ScriptData → List Place → ℕ → ℕ → ℕ → Ac
 act_writes s zs p x w (Did t k values) = updates s t.0 && (is_version w (version_in t.0 zs) && ops_change x (ops_of s t.0 k.0))
 act_writes s zs p x w (Applied t commit) =
     commit && (is_strict_at s t.0 && (is_version w (version_in t.0 zs) && ops_change x (ops_at p (subs_at s t.0))))
-act_writes s zs p x w Finished = false
 act_writes s zs p x w _ = false
 
 abbrev pub writes_in : ScriptData → List Place → ℕ → ℕ → ℕ → Place → Bool

@@ -27,6 +27,7 @@ use Rattle.script_parts.specs.declared.parts.TreeKind.TheVariants.{Update, Read,
 use Rattle.tree_home.specs.declared.homes.Answered.{Answered}
 use Rattle.letter_types.specs.declared.entries.Outgoing.{Outgoing}
 use Rattle.nc_locks.specs.Locks.{has_lock}
+use Rattle.nc_locks.specs.Wants.{mode_wanted}
 use Rattle.world_model.proofs.Coordination.{of_forgetting, of_remembering}
 use Rattle.world_model.proofs.Epochs.{ask_each, order_each}
 use Rattle.world_model.specs.Client.{Client, client_finishes, client_row, next_after, nudge, submit, with_answer, with_end, wanted}
@@ -47,7 +48,7 @@ use Rattle.script_parts.specs.Counts.{is_lossy}
 use Rattle.world_model.proofs.Every.{each_append}
 use Rattle.board_rules.specs.Histories.{Place, places_at, places_of}
 use Rattle.board_rules.specs.Locked.{IsApartFrom, lock_at}
-use Rattle.board_rules.specs.Stands.{lock_mode_of, locked_by, modes_on}
+use Rattle.board_rules.specs.Stands.{locked_by, modes_on}
 use Rattle.board_rules.proofs.ItemAt.{op_node}
 use Rattle.board_rules.proofs.LocksStand.{locks_stand}
 use Rattle.board_rules.proofs.Places.{places_more}
@@ -204,7 +205,7 @@ acts_at_home s (e ∷ past) run =
 none_on : (x : ℕ) (os : List SubOp) → ((i : ℕ) (o : SubOp) → slice_get os i ≡ Some o → (o.item.0 == x) ≡ false) → modes_on x os ≡ []
 none_on x [] none = refl
 none_on x (o ∷ os) none =
-    ap (λ (b : Bool). map (λ (q : SubOp). lock_mode_of q.deed) (cond b (o ∷ filter (λ (q : SubOp). q.item.0 == x) os) (filter (λ (q : SubOp). q.item.0 == x) os)))
+    ap (λ (b : Bool). map (λ (q : SubOp). mode_wanted q.deed) (cond b (o ∷ filter (λ (q : SubOp). q.item.0 == x) os) (filter (λ (q : SubOp). q.item.0 == x) os)))
     (none 0 o refl)
     ∙ none_on x os (λ i q is. none (suc i) q is)
 

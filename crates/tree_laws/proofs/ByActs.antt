@@ -17,8 +17,8 @@ use Rattle.letter_types.specs.declared.votes.Vote.{Vote}
 use Rattle.letter_types.specs.declared.votes.Vote.TheVariants.{Yes, No}
 use Rattle.letter_types.specs.Steps.{Out, still}
 use Rattle.nc_locks.specs.declared.modes.Lock.{Lock}
-use Rattle.nc_locks.specs.declared.modes.Mode.{Mode}
 use Rattle.nc_locks.specs.Locks.{Wanted, marks_on, with_locks}
+use Rattle.nc_locks.specs.Wants.{mode_wanted, wanted_by}
 use Rattle.script_parts.specs.Counts.{has_strict}
 use Rattle.script_parts.specs.ScriptData.{ScriptData, is_update, ops_of, updates}
 use Rattle.script_parts.specs.declared.parts.Deed.{Deed}
@@ -40,35 +40,22 @@ use Rattle.world_model.specs.Notices.{act_of, values_of}
 use Rattle.world_model.specs.Reads.{gets}
 use Rattle.world_model.specs.Strict.{can_make_at, core_by_kind, core_row, decided, decides_near, is_core_apt, is_of_script, is_unheld, locks_by, none_refuses, note_core, noted_vote, notice_by, read_core, refused_there, update_core, voted_core, voting}
 use Rattle.world_model.specs.Updates.{can_touch, can_update, may_make, table_after_deed}
-use Rattle.world_model.specs.Votes.{mode_wanted, vote_of, wanted_by}
-use Rattle.board_rules.specs.Locked.{locks_after_act, needed_by}
-use Rattle.board_rules.specs.Stands.{lock_mode_of}
+use Rattle.world_model.specs.Votes.{vote_of}
+use Rattle.board_rules.specs.Locked.{locks_after_act}
 use Rattle.tree_laws.specs.Locks.{LocksFollowActs, locks_after_acts}
-
--- The modes that operations want, by the rules of votes and by those of the look back.
-same_mode : (d : Deed) → mode_wanted d ≡ lock_mode_of d
-same_mode (Apply op) = refl
-same_mode Get = refl
-same_mode (Set n) = refl
-same_mode (Draw n) = refl
-
-pub wanted_needed : (os : List SubOp) → wanted_by os ≡ needed_by os
-wanted_needed [] = refl
-wanted_needed (o ∷ os) =
-    ap (λ (m : Mode). (o.item, m) ∷ wanted_by os) (same_mode o.deed) ∙ ap (λ (ws : Wanted). (o.item, lock_mode_of o.deed) ∷ ws) (wanted_needed os)
 
 -- operations that can be made by an update mark their items
 marks_needed : (v : Version) (os : List SubOp) (items : Table) → can_touch v os items ≡ true
-    → marks_on (map (λ (o : SubOp). o.item) os) ≡ needed_by os
+    → marks_on (map (λ (o : SubOp). o.item) os) ≡ wanted_by os
 marks_needed v [] items can = refl
 marks_needed v (o ∷ os) items can =
     by o.deed refl (and_parts (may_make v o.item o.deed items) (can_touch v os (table_after_deed v o.item o.deed items)) can)
     (λ rest. marks_needed v os (table_after_deed v o.item o.deed items) rest) where
       by : (d : Deed) → o.deed ≡ d
           → (may_make v o.item o.deed items ≡ true) × (can_touch v os (table_after_deed v o.item o.deed items) ≡ true)
-          → (can_touch v os (table_after_deed v o.item o.deed items) ≡ true → marks_on (map (λ (q : SubOp). q.item) os) ≡ needed_by os)
-          → marks_on (map (λ (q : SubOp). q.item) (o ∷ os)) ≡ needed_by (o ∷ os)
-      by (Apply op) is can rest = rw is (ap (λ (ws : Wanted). (o.item, lock_mode_of (Apply op)) ∷ ws) (rest can.1))
+          → (can_touch v os (table_after_deed v o.item o.deed items) ≡ true → marks_on (map (λ (q : SubOp). q.item) os) ≡ wanted_by os)
+          → marks_on (map (λ (q : SubOp). q.item) (o ∷ os)) ≡ wanted_by (o ∷ os)
+      by (Apply op) is can rest = rw is (ap (λ (ws : Wanted). (o.item, mode_wanted (Apply op)) ∷ ws) (rest can.1))
       by Get is can rest = absurd (let no_such : false ≡ true = sym (ap (λ (d : Deed). may_make v o.item d items) is) ∙ can.0 in cc no_such)
       by (Set n) is can rest = absurd (let no_such : false ≡ true = sym (ap (λ (d : Deed). may_make v o.item d items) is) ∙ can.0 in cc no_such)
       by (Draw n) is can rest = absurd (let no_such : false ≡ true = sym (ap (λ (d : Deed). may_make v o.item d items) is) ∙ can.0 in cc no_such)
@@ -103,7 +90,7 @@ kind_updates s t kind is = by (slice_get s.trees t) refl where
 
 -- Acts of subtransactions.
 did_act : (s : ScriptData) (t : TreeNo) (k : SubNo) (ls : List Lock) → updates s t.0 ≡ true
-    → locks_after_act s (acts.Did t k []) ls ≡ with_locks t (needed_by (ops_of s t.0 k.0)) ls
+    → locks_after_act s (acts.Did t k []) ls ≡ with_locks t (wanted_by (ops_of s t.0 k.0)) ls
 did_act s t k ls up = rw up refl
 
 read_act : (s : ScriptData) (t : TreeNo) (k : SubNo) (values : Gets) (ls : List Lock) → updates s t.0 ≡ false
@@ -112,7 +99,7 @@ read_act s t k values ls up = rw up refl
 
 voted_act : (s : ScriptData) (t : TreeNo) (k : SubNo) (vote : Vote) (ls : List Lock)
     → locks_by vote t (ops_of s t.0 k.0) ls ≡ locks_after_act s (act_of t k (notice_by vote)) ls
-voted_act s t k (Yes values) ls = ap (λ (ws : Wanted). with_locks t ws ls) (wanted_needed (ops_of s t.0 k.0))
+voted_act s t k (Yes values) ls = refl
 voted_act s t k (No cause) ls = refl
 
 -- Each kind of tree.

@@ -13,9 +13,10 @@ use Rattle.nc_locks.specs.declared.modes.Mode.{Mode}
 use Rattle.nc_locks.specs.Locks.{first_where, is_in_way, met_by, met_in}
 use Rattle.nc_locks.specs.Modes.{modes_conflict}
 use Rattle.nc_locks.proofs.Always.{met_is_first}
+use Rattle.nc_locks.specs.Wants.{mode_wanted, wanted_by}
 use Rattle.world_model.specs.Votes.{conflict_by}
-use Rattle.board_rules.specs.Locked.{needed_by, tree_of_lock}
-use Rattle.board_rules.specs.Stands.{conflict_with, holder_of, lock_mode_of}
+use Rattle.board_rules.specs.Locked.{tree_of_lock}
+use Rattle.board_rules.specs.Stands.{conflict_with, holder_of}
 use Rattle.board_rules.proofs.Holders.{holder_is}
 use Rattle.tree_laws.specs.Locks.{MetIsConflict}
 
@@ -39,10 +40,10 @@ one_by t x m ls (Some l) is =
 pub met_is_conflict : MetIsConflict
 met_is_conflict s xs p ls t [] are = refl
 met_is_conflict s xs p ls t (o ∷ os) are =
-    let m = lock_mode_of o.deed in
+    let m = mode_wanted o.deed in
     let one = one_by t o.item m ls (first_where (is_in_way t o.item m) ls) refl
     ∙ ap (conflict_with o.item) (sym (holder_is s xs p ls t o.item m (are 0 o refl))) in
-    first_by (met_by (first_where (is_in_way t o.item m) ls)) (met_in t (needed_by os) ls)
-    ∙ ap (λ (c : Option Cause). option_or c (conflict_by (met_in t (needed_by os) ls))) one
+    first_by (met_by (first_where (is_in_way t o.item m) ls)) (met_in t (wanted_by os) ls)
+    ∙ ap (λ (c : Option Cause). option_or c (conflict_by (met_in t (wanted_by os) ls))) one
     ∙ ap (λ (c : Option Cause). option_or (conflict_with o.item (holder_of s xs p t.0 o.item.0 m)) c)
     (met_is_conflict s xs p ls t os (λ i q is. are (suc i) q is))

@@ -17,6 +17,7 @@ use Rattle.letter_types.specs.declared.votes.Cause.TheVariants.{Conflict}
 use Rattle.nc_locks.specs.declared.modes.Met.{Met}
 use Rattle.nc_locks.specs.declared.modes.Mode.{Mode}
 use Rattle.nc_locks.specs.Locks.{Wanted, marks_on, met_in}
+use Rattle.nc_locks.specs.Wants.{mode_wanted, wanted_by}
 use Rattle.script_parts.specs.Counts.{has_strict}
 use Rattle.script_parts.specs.ScriptData.{ScriptData, node_of, ops_of, reads, updates}
 use Rattle.script_parts.specs.Valid.{IsValid}
@@ -24,9 +25,8 @@ use Rattle.script_parts.specs.declared.parts.SubOp.{SubOp}
 use Rattle.script_parts.specs.declared.parts.TreeKind.{TreeKind}
 use Rattle.script_parts.specs.declared.parts.TreeKind.TheVariants.{Update, Read, Strict}
 use Rattle.board_rules.specs.Histories.{Place, does, places_of}
-use Rattle.board_rules.specs.Locked.{needed_by}
 use Rattle.board_rules.specs.Right.{IsDoneOrParked, in_way_of, parking_for, parkings}
-use Rattle.board_rules.specs.Stands.{conflict_of, lock_mode_of}
+use Rattle.board_rules.specs.Stands.{conflict_of}
 use Rattle.board_rules.proofs.NoVotes.{AreMarking, AreNoVotes, none_in_way, updates_mark}
 use Rattle.world_model.specs.Core.{Core}
 use Rattle.world_model.specs.Named.{tree_kind_at}
@@ -40,11 +40,11 @@ use Rattle.tree_laws.proofs.RunConflicts.{runs_meet_conflicts}
 use Rattle.tree_laws.proofs.Parkings.{done_here, kind_reads_by, kind_updates_by, row_parks, turned_does, turned_parkings}
 
 -- What a subtransaction of an update tree meets at its node is what is in its way.
-marking_needed : (os : List SubOp) → AreMarking os → marks_on (map (λ (o : SubOp). o.item) os) ≡ needed_by os
+marking_needed : (os : List SubOp) → AreMarking os → marks_on (map (λ (o : SubOp). o.item) os) ≡ wanted_by os
 marking_needed [] all = refl
 marking_needed (o ∷ os) all =
     ap (λ (m : Mode). (o.item, m) ∷ marks_on (map (λ (q : SubOp). q.item) os)) (sym all.0)
-    ∙ ap (λ (ws : Wanted). (o.item, lock_mode_of o.deed) ∷ ws) (marking_needed os all.1)
+    ∙ ap (λ (ws : Wanted). (o.item, mode_wanted o.deed) ∷ ws) (marking_needed os all.1)
 
 pub meets_way : (s : ScriptData) (past : List Entry) (p : ℕ) (t : TreeNo) (k : SubNo) → IsValid s → IsStepRun s past → p < s.nodes
     → node_of s t.0 k.0 ≡ p → updates s t.0 ≡ true → (has_strict s ≡ false → AreNoVotes (places_of (reverse past)))

@@ -23,6 +23,7 @@ use Rattle.nc_locks.specs.Locks.{Wanted, first_where, has_lock, is_in_way, lock_
 use Rattle.nc_locks.specs.Modes.{modes_conflict}
 use Rattle.nc_locks.proofs.Always.{freed_are_gone, met_is_first, taken_stand}
 use Rattle.nc_locks.proofs.Orders.{same_lock}
+use Rattle.nc_locks.specs.Wants.{wanted_by}
 use Rattle.script_parts.specs.Counts.{has_strict}
 use Rattle.script_parts.specs.ScriptData.{ScriptData}
 use Rattle.script_parts.specs.declared.parts.SubOp.{SubOp}
@@ -37,7 +38,7 @@ use Rattle.world_model.specs.Keeping.{AsksFor}
 use Rattle.world_model.specs.Named.{is_strict_at, tree_kind_at}
 use Rattle.world_model.specs.Notices.{values_of}
 use Rattle.world_model.specs.Strict.{core_by_kind, core_row, locks_by, marks_of, meets, note_core, noted_vote, refused_there, voting}
-use Rattle.world_model.specs.Votes.{vote_of, wanted_by}
+use Rattle.world_model.specs.Votes.{vote_of}
 use Rattle.tree_laws.specs.Keeping.{Holds}
 use Rattle.tree_laws.proofs.ByActs.{decided_locks}
 

@@ -24,6 +24,7 @@ use Rattle.nc_locks.specs.Locks.{Wanted, first_where, has_lock, is_in_way, lock_
 use Rattle.nc_locks.specs.Modes.{modes_conflict}
 use Rattle.nc_locks.proofs.Always.{freed_are_gone, none_in_way, taken_stand}
 use Rattle.nc_locks.proofs.Orders.{same_lock}
+use Rattle.nc_locks.specs.Wants.{wanted_by}
 use Rattle.script_parts.specs.ScriptData.{ScriptData, ops_of}
 use Rattle.script_parts.specs.declared.parts.SubOp.{SubOp}
 use Rattle.script_parts.specs.declared.parts.TreeKind.{TreeKind}
@@ -37,7 +38,7 @@ use Rattle.world_model.specs.Named.{is_strict_at, tree_kind_at}
 use Rattle.world_model.specs.Notices.{values_of}
 use Rattle.world_model.specs.Runs.{keeping_in}
 use Rattle.world_model.specs.Strict.{CoreKeeping, core_by_kind, core_keeping, core_row, is_core_apt, kept_by_kind, locks_by, marks_of, meets, note_core, noted_vote, parked_if, refused_there, voting}
-use Rattle.world_model.specs.Votes.{cause_in, conflict_by, newer_in, short_in, vote_of, voted, wanted_by}
+use Rattle.world_model.specs.Votes.{cause_in, conflict_by, newer_in, short_in, vote_of, voted}
 use Rattle.world_model.specs.Reads.{gets}
 use Rattle.world_model.proofs.Outstanding.{keeping_elsewhere, keeping_here}
 use Rattle.tree_laws.specs.Locks.{HaveNoConflict, RunsHaveNoConflict}

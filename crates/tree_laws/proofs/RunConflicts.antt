@@ -14,13 +14,14 @@ use Rattle.nc_locks.specs.declared.modes.Lock.{Lock}
 use Rattle.nc_locks.specs.Locks.{Wanted, has_lock, lock_of, lock_order, wanted_locks, with_locks, without}
 use Rattle.nc_locks.proofs.Always.{freed_are_gone, taken_stand}
 use Rattle.nc_locks.proofs.Orders.{same_lock}
+use Rattle.nc_locks.specs.Wants.{wanted_by}
 use Rattle.script_parts.specs.Counts.{has_strict}
 use Rattle.script_parts.specs.ScriptData.{ScriptData, node_of, ops_of, subs_at, updates}
 use Rattle.script_parts.specs.declared.parts.Sub.{Sub}
 use Rattle.script_parts.specs.declared.parts.Tree.{Tree}
 use Rattle.world_model.specs.Runs.{IsStepRun, keeping_in}
 use Rattle.board_rules.specs.Histories.{Place, places_of}
-use Rattle.board_rules.specs.Locked.{locks_after_act, locks_after_place, needed_by}
+use Rattle.board_rules.specs.Locked.{locks_after_act, locks_after_place}
 use Rattle.board_rules.proofs.ItemAt.{op_row}
 use Rattle.tree_laws.specs.Locks.{IsAtHome, RunsMeetConflicts}
 use Rattle.tree_laws.proofs.AtHome.{acts_at_home, locks_are_standing}
@@ -67,11 +68,11 @@ freed_trees s t ls old l is = old l (and_parts (not (l.tree.0 == t.0)) (has_lock
 
 act_trees : (s : ScriptData) (q : ℕ) (a : Act) (ls : List Lock) → q < s.nodes → IsAtHome s q a → OfTrees s ls → OfTrees s (locks_after_act s a ls)
 act_trees s q (acts.Did t j values) ls lt home old = by (updates s t.0) where
-  by : (b : Bool) → OfTrees s (if b then with_locks t (needed_by (ops_of s t.0 j.0)) ls else ls)
-  by true = taken_trees s t (needed_by (ops_of s t.0 j.0)) ls (tree_there s t.0 j.0 (omega (arith, home, lt))) old
+  by : (b : Bool) → OfTrees s (if b then with_locks t (wanted_by (ops_of s t.0 j.0)) ls else ls)
+  by true = taken_trees s t (wanted_by (ops_of s t.0 j.0)) ls (tree_there s t.0 j.0 (omega (arith, home, lt))) old
   by false = old
 act_trees s q (acts.Voted t j (Yes values)) ls lt home old =
-    taken_trees s t (needed_by (ops_of s t.0 j.0)) ls (tree_there s t.0 j.0 (omega (arith, home, lt))) old
+    taken_trees s t (wanted_by (ops_of s t.0 j.0)) ls (tree_there s t.0 j.0 (omega (arith, home, lt))) old
 act_trees s q (acts.Voted t j (No cause)) ls lt home old = old
 act_trees s q (acts.Freed t) ls lt home old = freed_trees s t ls old
 act_trees s q (acts.Applied t commit) ls lt home old = freed_trees s t ls old

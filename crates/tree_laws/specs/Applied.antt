@@ -3,7 +3,7 @@ use Rattle.std.specs.Prelude.{if◌then◌else◌, ℕ, Bool, true, false, ◌==
 use Rattle.letter_types.specs.declared.acts.Act.{Act}
 use Rattle.letter_types.specs.declared.acts.Act.TheVariants.{Voted, Decided, Applied, Finished}
 use Rattle.letter_types.specs.declared.bodies.Body.{Body}
-use Rattle.letter_types.specs.declared.bodies.Body.TheVariants.{Go, Decide}
+use Rattle.letter_types.specs.declared.bodies.Body.TheVariants.{Decide, Go}
 use Rattle.letter_types.specs.declared.entries.Entry.{Entry}
 use Rattle.letter_types.specs.declared.entries.Letter.{Letter}
 use Rattle.letter_types.specs.declared.votes.Vote.{Vote}
@@ -56,7 +56,6 @@ refuses t (Yes values) u = 0
 
 abbrev pub votes_no : ℕ → Act → ℕ
 votes_no t (Voted u k vote) = refuses t vote u.0
-votes_no t Finished = 0
 votes_no t _ = 0
 
 -- how often one did

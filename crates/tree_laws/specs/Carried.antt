@@ -1,7 +1,7 @@
 -- The versions that letters of trees carry, in runs of every script.
 use Rattle.std.specs.Prelude.{ℕ, ◌≡◌, ◌<◌, List, reverse, Some}
 use Rattle.letter_types.specs.declared.bodies.Body.{Body}
-use Rattle.letter_types.specs.declared.bodies.Body.TheVariants.{Go, Sub as SubLetter, Done, Decide, Decided}
+use Rattle.letter_types.specs.declared.bodies.Body.TheVariants.{Sub as SubLetter, Done, Decide, Decided}
 use Rattle.letter_types.specs.declared.entries.Entry.{Entry}
 use Rattle.letter_types.specs.declared.entries.Letter.{Letter}
 use Rattle.tree_home.specs.Homes.{home_in}
@@ -21,7 +21,6 @@ CarriesVersion xs (SubLetter t k v) = version_in t.0 xs ≡ Some v
 CarriesVersion xs (Done t k v notice) = version_in t.0 xs ≡ Some v
 CarriesVersion xs (Decide t v commit) = version_in t.0 xs ≡ Some v
 CarriesVersion xs (Decided t v) = version_in t.0 xs ≡ Some v
-CarriesVersion xs Go = Unit {0}
 CarriesVersion xs _ = Unit {0}
 
 -- where each letter that came to a node brought an apt one: each that has still to be done does

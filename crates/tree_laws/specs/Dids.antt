@@ -1,15 +1,15 @@
 -- How often subtransactions are asked for and done.
 use Rattle.std.specs.Prelude.{ℕ, ◌==◌, ◌&&◌, ◌+◌, List, [], ◌∷◌}
 use Rattle.letter_types.specs.declared.acts.Act.{Act}
-use Rattle.letter_types.specs.declared.acts.Act.TheVariants.{Born, Did, Finished}
+use Rattle.letter_types.specs.declared.acts.Act.TheVariants.{Born, Did}
 use Rattle.letter_types.specs.declared.bodies.Body.{Body}
-use Rattle.letter_types.specs.declared.bodies.Body.TheVariants.{Go, Root, Sub, Done, Reply, Nudge}
+use Rattle.letter_types.specs.declared.bodies.Body.TheVariants.{Go, Root, Sub, Done, Reply}
 use Rattle.letter_types.specs.declared.entries.Entry.{Entry}
 use Rattle.letter_types.specs.declared.entries.Letter.{Letter}
 use Rattle.letter_types.specs.declared.entries.Outgoing.{Outgoing}
 use Rattle.tx_trees.specs.ScriptData.{ScriptData}
 use Rattle.tx_trees.specs.declared.parts.ScriptRow.{ScriptRow}
-use Rattle.tx_trees.specs.declared.parts.ScriptRow.TheVariants.{Tree as TreeRow, Settle as SettleRow}
+use Rattle.tx_trees.specs.declared.parts.ScriptRow.TheVariants.{Tree as TreeRow}
 use Rattle.world_model.specs.Counts.{tally, one_if}
 use Rattle.world_model.specs.Kept.{outstanding}
 use Rattle.world_model.specs.Runs.{in_flight}
@@ -18,24 +18,20 @@ use Rattle.world_model.specs.Runs.{in_flight}
 abbrev pub asks : ℕ → ℕ → Body → ℕ
 asks t k (Root u) = one_if ((u.0 == t) && (0 == k))
 asks t k (Sub u j v) = one_if ((u.0 == t) && (j.0 == k))
-asks t k Go = 0
 asks t k _ = 0
 
 abbrev pub is_go : Body → ℕ
 is_go Go = 1
-is_go Nudge = 0
 is_go _ = 0
 
 -- the act of doing subtransaction k of tree t
 abbrev pub is_did_act : ℕ → ℕ → Act → ℕ
 is_did_act t k (Did u j values) = one_if ((u.0 == t) && (j.0 == k))
-is_did_act t k Finished = 0
 is_did_act t k _ = 0
 
 -- the act of bearing tree t
 abbrev pub is_born : ℕ → Act → ℕ
 is_born t (Born u v) = one_if (u.0 == t)
-is_born t Finished = 0
 is_born t _ = 0
 
 -- how many letters that have still to be done ask for subtransaction k of tree t
@@ -59,13 +55,11 @@ births (e ∷ past) t = tally (is_born t) e.acts + births past t
 -- a letter that brings the notice of subtransaction k of tree t
 abbrev pub tells_done : ℕ → ℕ → Body → ℕ
 tells_done t k (Done u j v notice) = one_if ((u.0 == t) && (j.0 == k))
-tells_done t k Go = 0
 tells_done t k _ = 0
 
 -- a letter that answers tree t
 abbrev pub replies_to : ℕ → Body → ℕ
 replies_to t (Reply u v answer) = one_if (u.0 == t)
-replies_to t Go = 0
 replies_to t _ = 0
 
 -- how many letters in flight bring the notice of subtransaction k of tree t
@@ -84,7 +78,6 @@ answers (e ∷ past) t = tally (λ (o : Outgoing). replies_to t o.body) e.sent +
 -- a row that sends the root of tree t
 abbrev pub is_row_of : ℕ → ScriptRow → ℕ
 is_row_of t (TreeRow u) = one_if (u.0 == t)
-is_row_of t SettleRow = 0
 is_row_of t _ = 0
 
 -- how many of these rows send the root of tree t

@@ -11,6 +11,7 @@ use Rattle.nc_locks.specs.declared.modes.Lock.{Lock}
 use Rattle.script_parts.specs.Counts.{has_strict}
 use Rattle.nc_locks.specs.Locks.{has_lock, met_in}
 use Rattle.nc_locks.specs.Modes.{modes_conflict}
+use Rattle.nc_locks.specs.Wants.{wanted_by}
 use Rattle.script_parts.specs.ScriptData.{ScriptData, node_of, ops_of}
 use Rattle.script_parts.specs.Valid.{IsValid}
 use Rattle.script_parts.specs.declared.parts.ItemRow.{ItemRow}
@@ -20,7 +21,7 @@ use Rattle.world_model.specs.Runs.{IsStepRun, keeping_in}
 use Rattle.world_model.specs.Strict.{core_step}
 use Rattle.world_model.specs.Votes.{conflict_by}
 use Rattle.board_rules.specs.Histories.{Place, places_of}
-use Rattle.board_rules.specs.Locked.{AreModesOf, AreStanding, IsApartFrom, locks_after_act, locks_at, needed_by}
+use Rattle.board_rules.specs.Locked.{AreModesOf, AreStanding, IsApartFrom, locks_after_act, locks_at}
 use Rattle.board_rules.specs.Stands.{conflict_of, modes_standing}
 
 -- the locks of a node after these acts of it
@@ -41,7 +42,7 @@ LocksStand = (s : ScriptData) (xs : List Place) (p x k : ℕ) → AllByRecursion
 abbrev pub MetIsConflict : Type 0
 MetIsConflict = (s : ScriptData) (xs : List Place) (p : ℕ) (ls : List Lock) (t : TreeNo) (os : List SubOp)
     → ((i : ℕ) (o : SubOp) → slice_get os i ≡ Some o → AreStanding s xs p ls o.item.0)
-    → conflict_by (met_in t (needed_by os) ls) ≡ conflict_of s xs p t.0 os
+    → conflict_by (met_in t (wanted_by os) ls) ≡ conflict_of s xs p t.0 os
 
 -- In every run.
 
@@ -80,5 +81,5 @@ RunsHaveNoConflict = (s : ScriptData) (past : List Entry) (p : ℕ) → HaveNoCo
 abbrev pub RunsMeetConflicts : Type 0
 RunsMeetConflicts = (s : ScriptData) (past : List Entry) (p : ℕ) (t : TreeNo) (k : SubNo) → has_strict s ≡ true → IsValid s
     → IsStepRun s past → p < s.nodes → node_of s t.0 k.0 ≡ p
-    → conflict_by (met_in t (needed_by (ops_of s t.0 k.0)) (keeping_in s past p).core.locks)
+    → conflict_by (met_in t (wanted_by (ops_of s t.0 k.0)) (keeping_in s past p).core.locks)
     ≡ conflict_of s (places_of (reverse past)) p t.0 (ops_of s t.0 k.0)

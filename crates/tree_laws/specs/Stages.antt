@@ -1,7 +1,7 @@
 -- How far trees have come at their homes, in runs of every script.
 use Rattle.std.specs.Prelude.{ℕ, ◌==◌, ◌+◌, ◌<◌, ◌≤◌, ◌≡◌, true, List, length, slice_get, Option, Some, None}
 use Rattle.letter_types.specs.declared.bodies.Body.{Body}
-use Rattle.letter_types.specs.declared.bodies.Body.TheVariants.{Go, Decide, Decided}
+use Rattle.letter_types.specs.declared.bodies.Body.TheVariants.{Decide, Decided}
 use Rattle.letter_types.specs.declared.entries.Entry.{Entry}
 use Rattle.letter_types.specs.declared.entries.Letter.{Letter}
 use Rattle.tree_home.specs.HeldAnswers.{held_in}
@@ -27,7 +27,6 @@ is_noted (Some (Some values)) = 1
 abbrev pub decides : ℕ → Body → ℕ
 decides t (Decide u v commit) = one_if (u.0 == t)
 decides t (Decided u v) = one_if (u.0 == t)
-decides t Go = 0
 decides t _ = 0
 
 -- how many letters in flight do

@@ -1,7 +1,7 @@
 -- Turns of subtransactions, in runs of every script: one is done, or it votes.
 use Rattle.std.specs.Prelude.{ℕ, ◌==◌, ◌&&◌, ◌+◌, ◌<◌, ◌≤◌, ◌≡◌, List, [], ◌∷◌, take, Some}
 use Rattle.letter_types.specs.declared.acts.Act.{Act}
-use Rattle.letter_types.specs.declared.acts.Act.TheVariants.{Did, Voted, Finished}
+use Rattle.letter_types.specs.declared.acts.Act.TheVariants.{Did, Voted}
 use Rattle.letter_types.specs.declared.entries.Entry.{Entry}
 use Rattle.tx_trees.specs.ScriptData.{ScriptData, sub_at}
 use Rattle.tx_trees.specs.Valid.{IsValid}
@@ -15,7 +15,6 @@ use Rattle.tree_laws.specs.Dids.{births, letters_asking, roots_sent}
 abbrev pub has_turn : ℕ → ℕ → Act → ℕ
 has_turn t k (Did u j values) = one_if ((u.0 == t) && (j.0 == k))
 has_turn t k (Voted u j vote) = one_if ((u.0 == t) && (j.0 == k))
-has_turn t k Finished = 0
 has_turn t k _ = 0
 
 -- how many turns subtransaction k of tree t has had

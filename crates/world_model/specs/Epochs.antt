@@ -1,6 +1,6 @@
 -- Orders and questions of a coordinator that forgets: each is of one of its epochs, and an order stands for one of a coordinator
 -- that remembers.
-use Rattle.std.specs.Prelude.{if◌then◌else◌, ℕ, Bool, true, false, not, ◌==◌, ◌&&◌, ◌||◌, nat_lt, []}
+use Rattle.std.specs.Prelude.{if◌then◌else◌, ℕ, Bool, true, not, ◌==◌, ◌&&◌, ◌||◌, nat_lt, []}
 use Rattle.tv_base.specs.declared.numbers.Version.{Version}
 use Rattle.letter_types.specs.declared.bodies.Body.{Body}
 use Rattle.letter_types.specs.declared.bodies.Body.TheVariants.{Ask, Lose, AdvanceNo, Numbers, Obeyed, Order, Wanted, Turn, Show, Sweep, Turned, Shown, Swept, Advance}
@@ -15,30 +15,24 @@ use Rattle.world_model.specs.Node.{Node}
 use Rattle.world_model.specs.Named.{is_timely}
 use Rattle.world_model.specs.Apt.{is_widely_timely}
 
--- a letter of, or to, a coordinator that forgets; and one of, or to, one that remembers
-abbrev pub is_of_forgetting : Body → Bool
-is_of_forgetting Lose = true
-is_of_forgetting (AdvanceNo i) = true
-is_of_forgetting (Ask e) = true
-is_of_forgetting (Numbers e u r l) = true
-is_of_forgetting (Wanted e k) = true
-is_of_forgetting (Order e what v) = true
-is_of_forgetting (Obeyed e what v) = true
-is_of_forgetting _ = false
-
-abbrev pub is_of_remembering : Body → Bool
-is_of_remembering Advance = true
-is_of_remembering (Turn v) = true
-is_of_remembering (Show v) = true
-is_of_remembering (Sweep v) = true
-is_of_remembering (Turned v) = true
-is_of_remembering (Shown v) = true
-is_of_remembering (Swept v) = true
-is_of_remembering _ = false
-
--- a letter that is none of the other kind of coordinator, which the script doesn't run
+-- a letter is none of the kind of coordinator that the script doesn't run: these are of, or to, one that forgets, and
+-- then one that remembers
 abbrev pub suits_coordinator : ScriptData → Body → Bool
-suits_coordinator s body = if is_lossy s then not (is_of_remembering body) else not (is_of_forgetting body)
+suits_coordinator s Lose = is_lossy s
+suits_coordinator s (AdvanceNo i) = is_lossy s
+suits_coordinator s (Ask e) = is_lossy s
+suits_coordinator s (Numbers e u r l) = is_lossy s
+suits_coordinator s (Wanted e k) = is_lossy s
+suits_coordinator s (Order e what v) = is_lossy s
+suits_coordinator s (Obeyed e what v) = is_lossy s
+suits_coordinator s Advance = not (is_lossy s)
+suits_coordinator s (Turn v) = not (is_lossy s)
+suits_coordinator s (Show v) = not (is_lossy s)
+suits_coordinator s (Sweep v) = not (is_lossy s)
+suits_coordinator s (Turned v) = not (is_lossy s)
+suits_coordinator s (Shown v) = not (is_lossy s)
+suits_coordinator s (Swept v) = not (is_lossy s)
+suits_coordinator s _ = true
 
 -- the order for which it stands
 abbrev pub plain_order : What → Version → Body

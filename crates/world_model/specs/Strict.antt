@@ -23,6 +23,7 @@ use Rattle.item_versions.specs.Table.{Table}
 use Rattle.nc_locks.specs.declared.modes.Lock.{Lock}
 use Rattle.nc_locks.specs.declared.modes.Met.{Met}
 use Rattle.nc_locks.specs.Locks.{Wanted, marks_on, met_in, with_locks, without}
+use Rattle.nc_locks.specs.Wants.{wanted_by}
 use Rattle.pair_counters.specs.Numbers.{asked_all, done_one}
 use Rattle.script_parts.specs.Counts.{has_strict}
 use Rattle.script_parts.specs.ScriptData.{ScriptData, client_of, home_of, updates, visited_by}
@@ -45,7 +46,7 @@ use Rattle.world_model.specs.Node.{Effect, Node}
 use Rattle.world_model.specs.Notices.{answer_noted, reply_letters, values_of}
 use Rattle.world_model.specs.Reads.{getting}
 use Rattle.world_model.specs.Updates.{touching}
-use Rattle.world_model.specs.Votes.{vote_of, wanted_by}
+use Rattle.world_model.specs.Votes.{vote_of}
 
 -- a letter of this body to each of these nodes
 abbrev pub to_each : Body → List ℕ → List Outgoing

@@ -1,5 +1,5 @@
 -- How a subtransaction of a strict tree votes: no for the first cause that is found, else yes.
-use Rattle.std.specs.Prelude.{if◌then◌else◌, ℕ, nat_lt, max, List, [], ◌∷◌, map, fold, Option, Some, None}
+use Rattle.std.specs.Prelude.{if◌then◌else◌, ℕ, nat_lt, max, List, [], ◌∷◌, fold, Option, Some, None}
 use Rattle.std.specs.Option.{option_or}
 use Rattle.tv_base.specs.declared.numbers.ItemNo.{ItemNo}
 use Rattle.tv_base.specs.declared.numbers.TreeNo.{TreeNo}
@@ -7,8 +7,6 @@ use Rattle.tv_base.specs.declared.numbers.Version.{Version}
 use Rattle.commute_ops.specs.declared.value.Value.{Value}
 use Rattle.item_versions.specs.Item.{Held}
 use Rattle.item_versions.specs.Table.{Table, item_in}
-use Rattle.script_parts.specs.declared.parts.Deed.{Deed}
-use Rattle.script_parts.specs.declared.parts.Deed.TheVariants.{Apply, Get, Set, Draw}
 use Rattle.script_parts.specs.declared.parts.SubOp.{SubOp}
 use Rattle.letter_types.specs.declared.votes.Cause.{Cause}
 use Rattle.letter_types.specs.declared.votes.Cause.TheVariants.{Conflict, Newer}
@@ -19,19 +17,8 @@ use Rattle.script_parts.specs.Deeds.{found_short, overwrites}
 use Rattle.letter_types.specs.Causes.{short_cause}
 use Rattle.nc_locks.specs.declared.modes.Lock.{Lock}
 use Rattle.nc_locks.specs.declared.modes.Met.{Met}
-use Rattle.nc_locks.specs.declared.modes.Mode.{Mode}
-use Rattle.nc_locks.specs.declared.modes.Mode.TheVariants.{Mark, Look, Hold}
-use Rattle.nc_locks.specs.Locks.{Wanted, met_in}
-
--- the lock that an operation needs on its item: a get looks at it, and a set or a draw holds it
-abbrev pub mode_wanted : Deed → Mode
-mode_wanted (Apply op) = Mark
-mode_wanted Get = Look
-mode_wanted (Set n) = Hold
-mode_wanted (Draw n) = Hold
-
-abbrev pub wanted_by : List SubOp → Wanted
-wanted_by os = map (λ o. (o.item, mode_wanted o.deed)) os
+use Rattle.nc_locks.specs.Locks.{met_in}
+use Rattle.nc_locks.specs.Wants.{wanted_by}
 
 -- a lock that is met, as a cause
 abbrev pub conflict_by : Option Met → Option Cause

@@ -8,13 +8,14 @@ use Rattle.letter_types.specs.declared.votes.Cause.TheVariants.{Newer}
 use Rattle.nc_locks.specs.Modes.{modes_conflict}
 use Rattle.nc_locks.specs.declared.modes.Mode.{Mode}
 use Rattle.nc_locks.specs.declared.modes.Mode.TheVariants.{Mark, Look, Hold}
+use Rattle.nc_locks.specs.Wants.{mode_wanted}
 use Rattle.script_parts.specs.ScriptData.{ScriptData, is_strict, is_update, updates}
 use Rattle.script_parts.specs.declared.parts.Sub.{Sub}
 use Rattle.script_parts.specs.declared.parts.SubOp.{SubOp}
 use Rattle.script_parts.specs.declared.parts.Tree.{Tree}
 use Rattle.script_parts.specs.declared.parts.TreeKind.{TreeKind}
-use Rattle.board_rules.specs.Histories.{Place, version_in, was_applied, was_committed, was_done}
-use Rattle.board_rules.specs.Stands.{lock_mode_of, modes_on, newest_of, overwrites, version_or_zero, voted_yes, was_freed}
+use Rattle.board_rules.specs.Histories.{Place, version_in, version_or, was_applied, was_decided_as, was_done}
+use Rattle.board_rules.specs.Stands.{modes_on, newest_of, overwrites, voted_yes, was_freed}
 use Rattle.board_judge.specs.declared.users.User.{User}
 
 -- subtransaction j of tree k has taken its items: an update tree's was done, or it has voted yes
@@ -29,7 +30,7 @@ any_taken s xs x k test j (sub ∷ subs) =
 
 -- the operations of a script's trees of a kind on item x, in order of trees, subtransactions and operations
 abbrev pub user_of : ℕ → ℕ → SubOp → User
-user_of t j o = record { tree = record { 0 = t }; sub = record { 0 = j }; mode = lock_mode_of o.deed }
+user_of t j o = record { tree = record { 0 = t }; sub = record { 0 = j }; mode = mode_wanted o.deed }
 
 abbrev pub ops_users : ℕ → ℕ → ℕ → List SubOp → List User
 ops_users t j x [] = []
@@ -95,11 +96,11 @@ changes_in Hold = true
 abbrev pub has_written : ScriptData → List Place → ℕ → User → Bool
 has_written s xs p u =
     changes_in u.mode
-    && ((updates s u.tree.0 && was_done u.tree.0 u.sub.0 xs) || (was_committed u.tree.0 xs && was_applied u.tree.0 p xs))
+    && ((updates s u.tree.0 && was_done u.tree.0 u.sub.0 xs) || (was_decided_as u.tree.0 true xs && was_applied u.tree.0 p xs))
 
 -- the greatest version of a tree whose operation has written
 abbrev pub version_by : List Place → User → ℕ
-version_by xs u = version_or_zero (version_in u.tree.0 xs)
+version_by xs u = version_or 0 (version_in u.tree.0 xs)
 
 abbrev pub newest_by : ScriptData → List Place → ℕ → List User → ℕ
 newest_by s xs p [] = 0

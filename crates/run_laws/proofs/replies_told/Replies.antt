@@ -1,7 +1,7 @@
 -- In every run a reply says what was told, in the words of the report, and names the lowest no.
 use Rattle.std.proofs.Common.{◌≡◌, ◌≢◌, ◌⊎◌, inl, inr, ℕ, ◌+◌, ◌<◌, ◌≤◌, ◌==◌, ◌&&◌, Bool, true, false, not, List, [], ◌∷◌, ◌++◌, length, reverse, refl, sym, ap, subst, ◌∙◌, arith, Option, Some, None}
 use Rattle.std.specs.Prelude.{if◌then◌else◌, is_some}
-use Rattle.std.specs.Option.{option_or}
+use Rattle.std.specs.Option.{option_and_then, option_map_or, option_or, unwrap_or}
 use Rattle.std.proofs.lemmas.Bool.{cases_eq}
 use Rattle.tv_base.specs.declared.numbers.Version.{Version}
 use Rattle.letter_types.specs.declared.acts.Act.{Act}
@@ -31,8 +31,9 @@ use Rattle.world_model.specs.Runs.{IsStepRun}
 use Rattle.world_model.specs.Strict.{answer_by, notice_by}
 use Rattle.world_model.proofs.Bridge.{reverse_more}
 use Rattle.world_model.proofs.Every.{each_append, each_both, each_map}
-use Rattle.board_rules.specs.Outcomes.{acts_in, cause_by, cause_from, decision_in, did_from, did_in, did_values, got_by, got_from, vote_in}
+use Rattle.board_rules.specs.Outcomes.{acts_in, cause_from, decision_in, did_from, did_in, got_from, got_of, vote_in}
 use Rattle.board_rules.specs.Histories.{places_of}
+use Rattle.board_rules.specs.Stands.{refusal_in}
 use Rattle.run_laws.proofs.EveryApt.{all_apt}
 use Rattle.run_laws.specs.Replies.{AnswersAsDecided, AnswersByActs, IsLowestNo, IsRightReply, NamesCause, NamesLowestNo, RepliesNameNoes, RepliesTell, ReplyNamesNo}
 use Rattle.run_laws.proofs.StrictKinds.{strict_by_kind}
@@ -110,8 +111,8 @@ gathered_update s does t o k (sub ∷ subs) values kind it =
 
 -- of a read tree those of its Dids
 read_first : (kind : Option TreeKind) (does : List Act) (t k : ℕ) (n : Notice) (first : Gets) → kind ≡ Some Read → FitsKind kind n → said_in t k does ≡ Some n
-    → values_of n ≡ first → did_values (did_in t k does) ≡ first
-read_first kind does t k (DidNotice values) first is fits said gives = ap did_values (said_did t k does values said) ∙ gives
+    → values_of n ≡ first → unwrap_or (did_in t k does) [] ≡ first
+read_first kind does t k (DidNotice values) first is fits said gives = ap (λ (o : Option Gets). unwrap_or o []) (said_did t k does values said) ∙ gives
 read_first kind does t k (Yes values) first is fits said gives = absurd (subst (λ (x : Option TreeKind). FitsKind x (Yes values)) is fits)
 read_first kind does t k (No cause) first is fits said gives = absurd (subst (λ (x : Option TreeKind). FitsKind x (No cause)) is fits)
 
@@ -122,13 +123,13 @@ gathered_read s does t o k (sub ∷ subs) values kind it =
     let slot = it.1.1.1.0 in
     let first = read_first (tree_kind_at s t) does t k slot.notice it.0 kind slot.fits slot.said slot.gives in
     let rest = gathered_read s does t o (k + 1) subs it.1.0 kind it.1.1.1.1 in
-    it.1.1.0 ∙ ap (λ (x : Gets). x ++ it.1.0) (sym first) ∙ ap (λ (x : Gets). did_values (did_in t k does) ++ x) rest
+    it.1.1.0 ∙ ap (λ (x : Gets). x ++ it.1.0) (sym first) ∙ ap (λ (x : Gets). unwrap_or (did_in t k does) [] ++ x) rest
 
 -- of a strict tree without a no those of its votes
 yes_first : (kind : Option TreeKind) (does : List Act) (t k : ℕ) (n : Notice) (first : Gets) → kind ≡ Some Strict → FitsKind kind n → Minds n None k
-    → said_in t k does ≡ Some n → values_of n ≡ first → got_by (vote_in t k does) ≡ first
+    → said_in t k does ≡ Some n → values_of n ≡ first → option_map_or got_of (vote_in t k does) [] ≡ first
 yes_first kind does t k (DidNotice values) first is fits minds said gives = absurd (subst (λ (x : Option TreeKind). FitsKind x (DidNotice values)) is fits)
-yes_first kind does t k (Yes values) first is fits minds said gives = ap got_by (said_vote t k does (votes.Yes values) said) ∙ gives
+yes_first kind does t k (Yes values) first is fits minds said gives = ap (λ (o : Option Vote). option_map_or got_of o []) (said_vote t k does (votes.Yes values) said) ∙ gives
 yes_first kind does t k (No cause) first is fits minds said gives = absurd minds
 
 gathered_yes : (s : ScriptData) (does : List Act) (t k : ℕ) (subs : List Sub) (values : Gets) → tree_kind_at s t ≡ Some Strict
@@ -138,13 +139,13 @@ gathered_yes s does t k (sub ∷ subs) values kind it =
     let slot = it.1.1.1.0 in
     let first = yes_first (tree_kind_at s t) does t k slot.notice it.0 kind slot.fits slot.minds slot.said slot.gives in
     let rest = gathered_yes s does t (k + 1) subs it.1.0 kind it.1.1.1.1 in
-    it.1.1.0 ∙ ap (λ (x : Gets). x ++ it.1.0) (sym first) ∙ ap (λ (x : Gets). got_by (vote_in t k does) ++ x) rest
+    it.1.1.0 ∙ ap (λ (x : Gets). x ++ it.1.0) (sym first) ∙ ap (λ (x : Gets). option_map_or got_of (vote_in t k does) [] ++ x) rest
 
 -- The cause of the no of least number is that of the first that votes no.
 no_cause : (kind : Option TreeKind) (does : List Act) (t k : ℕ) (n : Notice) (r : Refusal) → kind ≡ Some Strict → FitsKind kind n → Minds n (Some r) k
-    → said_in t k does ≡ Some n → k < r.sub.0 → cause_by (vote_in t k does) ≡ None
+    → said_in t k does ≡ Some n → k < r.sub.0 → option_and_then refusal_in (vote_in t k does) ≡ None
 no_cause kind does t k (DidNotice values) r is fits minds said lt = absurd (subst (λ (x : Option TreeKind). FitsKind x (DidNotice values)) is fits)
-no_cause kind does t k (Yes values) r is fits minds said lt = ap cause_by (said_vote t k does (votes.Yes values) said)
+no_cause kind does t k (Yes values) r is fits minds said lt = ap (option_and_then refusal_in) (said_vote t k does (votes.Yes values) said)
 no_cause kind does t k (No cause) r is fits minds said lt = absurd (omega (arith, minds, lt))
 
 gathered_cause : (s : ScriptData) (does : List Act) (t : ℕ) (r : Refusal) (k : ℕ) (subs : List Sub) (values : Gets) → tree_kind_at s t ≡ Some Strict
@@ -156,7 +157,7 @@ gathered_cause s does t r k (sub ∷ subs) values kind said le lt it =
       by : (k ≡ r.sub.0) ⊎ (k ≢ r.sub.0) → (k + 1 ≤ r.sub.0 → cause_from does t (k + 1) subs ≡ Some r.cause) → cause_from does t k (sub ∷ subs) ≡ Some r.cause
       by (inl same) later =
           let here : vote_in t k does ≡ Some (votes.No r.cause) = said_vote t k does (votes.No r.cause) (ap (λ (i : ℕ). said_in t i does) same ∙ said) in
-          ap (λ (o : Option Vote). option_or (cause_by o) (cause_from does t (k + 1) subs)) here
+          ap (λ (o : Option Vote). option_or (option_and_then refusal_in o) (cause_from does t (k + 1) subs)) here
       by (inr ne) later =
           let slot = it.1.1.1.0 in
           let less : k < r.sub.0 = omega (arith, le, ne) in
@@ -249,7 +250,7 @@ lowest_from does t k n (sub ∷ subs) cause size is =
         at_lower none later i named le less at (inl same) = none named (subst (λ (j : ℕ). vote_in t j does ≡ Some (votes.No named)) same at)
         at_lower none later i named le less at (inr ne) = later.lower i named (omega (arith, le, ne)) less at
 
-      by : (found : Option Vote) → vote_in t k does ≡ found → option_or (cause_by found) (cause_from does t (k + 1) subs) ≡ Some cause
+      by : (found : Option Vote) → vote_in t k does ≡ found → option_or (option_and_then refusal_in found) (cause_from does t (k + 1) subs) ≡ Some cause
           → (cause_from does t (k + 1) subs ≡ Some cause → LowestFrom does t (k + 1) n cause) → LowestFrom does t k n cause
       by None at found later = next (λ named no. absurd (cc (at, no))) (later found)
       by (Some (votes.Yes values)) at found later = next (λ named no. absurd (cc (at, no))) (later found)

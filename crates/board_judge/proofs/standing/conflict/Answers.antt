@@ -1,8 +1,9 @@
 use Rattle.std.proofs.Common.{◌<◌, length, ap, sym, subst, ◌∙◌, refl}
 use Rattle.std.proofs.lemmas.List.{drop_all}
 use Rattle.nc_locks.specs.declared.modes.Mode.{Mode}
+use Rattle.nc_locks.specs.Wants.{mode_wanted}
 use Rattle.script_parts.specs.declared.parts.SubOp.{SubOp}
-use Rattle.board_rules.specs.Stands.{conflict_of, lock_mode_of}
+use Rattle.board_rules.specs.Stands.{conflict_of}
 use Rattle.board_judge.specs.Views.{MayNeed}
 use Rattle.board_judge.proofs.Against.{all_at, conflict_found, conflict_passed}
 use Rattle.board_judge.proofs.standing.conflict.Goals as goal
@@ -13,7 +14,7 @@ loop-op-init c = λ xs view there may. refl
 pub returns-in-Some : goal.returns-in-Some
 returns-in-Some c = λ xs view there may.
     let is_there = all_at (λ (o : SubOp). o.item.0 < length c.args.script.now.items) c.args.ops.now c.loop-op.op-index _ c.loop-op-test.true there in
-    let needed = all_at (λ (o : SubOp). MayNeed c.args.script.now (lock_mode_of o.deed)) c.args.ops.now c.loop-op.op-index _ c.loop-op-test.true may in
+    let needed = all_at (λ (o : SubOp). MayNeed c.args.script.now (mode_wanted o.deed)) c.args.ops.now c.loop-op.op-index _ c.loop-op-test.true may in
     conflict_found c.args.script.now xs c.args.node.0 c.args.tree.0 c.args.ops.now c.loop-op.op-index _ c.lock_mode-mode.result c.holder.result
     c.loop-op-test.true c.lock_mode-mode.ensures
     (c.holder.ensures xs view is_there (subst (λ (m : Mode). MayNeed c.args.script.now m) (sym c.lock_mode-mode.ensures) needed))
@@ -22,7 +23,7 @@ returns-in-Some c = λ xs view there may.
 pub loop-op-preserved : goal.loop-op-preserved
 loop-op-preserved c = λ xs view there may.
     let is_there = all_at (λ (o : SubOp). o.item.0 < length c.args.script.now.items) c.args.ops.now c.loop-op.op-index _ c.loop-op-test.true there in
-    let needed = all_at (λ (o : SubOp). MayNeed c.args.script.now (lock_mode_of o.deed)) c.args.ops.now c.loop-op.op-index _ c.loop-op-test.true may in
+    let needed = all_at (λ (o : SubOp). MayNeed c.args.script.now (mode_wanted o.deed)) c.args.ops.now c.loop-op.op-index _ c.loop-op-test.true may in
     conflict_passed c.args.script.now xs c.args.node.0 c.args.tree.0 c.args.ops.now c.loop-op.op-index _ c.lock_mode-mode.result c.holder.result
     c.loop-op-test.true c.lock_mode-mode.ensures
     (c.holder.ensures xs view is_there (subst (λ (m : Mode). MayNeed c.args.script.now m) (sym c.lock_mode-mode.ensures) needed))

@@ -2,6 +2,7 @@ use Rattle.std.proofs.Common.{◌≡◌, ℕ, ◌+◌, ◌++◌, Bool, List, len
 use Rattle.commute_ops.specs.declared.value.Value.{Value}
 use Rattle.letter_types.specs.declared.acts.Act.{Act}
 use Rattle.letter_types.specs.declared.entries.Entry.{Entry}
+use Rattle.tx_trees.specs.Adding.{advances_in}
 use Rattle.tx_trees.specs.ScriptData.{ScriptData}
 use Rattle.tx_trees.specs.declared.parts.ItemRow.{ItemRow}
 use Rattle.tx_trees.specs.declared.parts.Tree.{Tree}
@@ -12,7 +13,7 @@ use Rattle.board_model.proofs.Voting.{length-ballots_of}
 use Rattle.board_model.specs.Standings.{standings_of}
 use Rattle.report_text.specs.inside.Lines.{rows_lines, trees_lines}
 use Rattle.tx_trees.specs.AsciiNames.{AreAsciiItems, AreAsciiTrees}
-use Rattle.report_text.specs.Report.{advances, nodes_text}
+use Rattle.report_text.specs.Report.{nodes_text}
 use Rattle.report_text.proofs.ItemLines.{length-worths, length-written}
 use Rattle.tx_trees.proofs.AsciiNames.{items_ascii, trees_ascii}
 use Rattle.report_text.proofs.PlainLines.{only_strict_vote}
@@ -68,7 +69,7 @@ returns c =
     let texts : List (List ℕ) = c.in_ok-shown.shown.reads in
     let t1 : List ℕ = c.push_trees.new.text in
     let t2 : List ℕ = c.push_nodes.new.text in
-    let count : n ≡ advances s = c.advances-advances.ensures in
+    let count : n ≡ advances_in s.rows = c.advances-advances.ensures in
     let trees : t1 ≡ c.new-text.result ++ trees_lines s 0 s.trees (standings_of s h) texts (ballots_of s h)
     = c.in_ok-push_trees.ensures
     ∙ ap (λ (z : List Tree). c.new-text.result ++ trees_lines s 0 z c.items-standings.result.now c.items-reads.result.now c.rows-votes.result.now) c.trees-trees.ensures.trees
@@ -77,12 +78,12 @@ returns c =
     ∙ ap (λ (z : List (List Act)). c.new-text.result ++ trees_lines s 0 s.trees (standings_of s h) texts z) (c.rows-votes.ensures ∙ c.in_ok-ballots.ensures)
     ∙ ap (λ (z : List Entry). c.new-text.result ++ trees_lines s 0 s.trees (standings_of s h) texts (ballots_of s z)) c.history_of_votes-voting.ensures
     ∙ ap (λ (z : List ℕ). c.new-text.result ++ z) (only_strict_vote s h (standings_of s h) texts) in
-    let nodes : t2 ≡ t1 ++ nodes_text (advances s) s.nodes
+    let nodes : t2 ≡ t1 ++ nodes_text (advances_in s.rows) s.nodes
     = c.in_ok-push_nodes.ensures
     ∙ ap (λ (z : ℕ). t1 ++ nodes_text n z) c.nodes-nodes.ensures.nodes
     ∙ ap (λ (z : ℕ). t1 ++ nodes_text z s.nodes) count in
     let items : c.push_rows.new.text
-    ≡ t2 ++ rows_lines (advances s) s.items (worths s h (advances s)) (worths s h (advances s + 1)) (written_items s h (advances s + 1))
+    ≡ t2 ++ rows_lines (advances_in s.rows) s.items (worths s h (advances_in s.rows)) (worths s h (advances_in s.rows + 1)) (written_items s h (advances_in s.rows + 1))
     = c.in_ok-push_rows.ensures
     ∙ ap (λ (z : List ItemRow). t2 ++ rows_lines n z c.items-balances.result.now c.items-later.result.now c.items-marks.result.now) c.items-rows.ensures.items
     ∙ ap (λ (z : List Value). t2 ++ rows_lines n s.items z c.items-later.result.now c.items-marks.result.now) (c.items-balances.ensures.items ∙ c.in_ok-shown.ensures.balances)
