@@ -19,7 +19,7 @@ use Rattle.letter_types.specs.declared.votes.Cause.TheVariants.{Newer}
 use Rattle.item_versions.specs.Item.{Held, seen}
 use Rattle.item_versions.specs.Table.{Table, item_in}
 use Rattle.nc_locks.specs.Locks.{met_in}
-use Rattle.nc_locks.specs.Wants.{mode_wanted, wanted_by}
+use Rattle.script_parts.specs.Wants.{mode_wanted, wanted_by}
 use Rattle.script_parts.specs.Counts.{has_strict}
 use Rattle.script_parts.specs.Deeds.{found_short, overwrites}
 use Rattle.script_parts.specs.ScriptData.{ScriptData, node_of, ops_of}

@@ -12,7 +12,7 @@ use Rattle.letter_types.specs.declared.votes.Cause.{Cause}
 use Rattle.letter_types.specs.declared.votes.Cause.TheVariants.{Conflict, Newer}
 use Rattle.nc_locks.specs.declared.modes.Mode.{Mode}
 use Rattle.nc_locks.specs.declared.modes.Mode.TheVariants.{Mark, Look, Hold}
-use Rattle.nc_locks.specs.Wants.{mode_wanted}
+use Rattle.script_parts.specs.Wants.{mode_wanted}
 use Rattle.script_parts.specs.Counts.{has_strict, strict_trees}
 use Rattle.script_parts.specs.Deeds.{overwrites}
 use Rattle.script_parts.specs.ScriptData.{ScriptData, is_strict, is_update}

@@ -6,7 +6,7 @@ use Rattle.std.proofs.lemmas.Bool.{or_left, or_right}
 use Rattle.commute_ops.specs.declared.kinds.Kind.{Kind}
 use Rattle.commute_ops.specs.declared.kinds.Kind.TheVariants.{Sum as SumKind, Top as TopKind, Bag as BagKind}
 use Rattle.nc_locks.specs.declared.modes.Mode.TheVariants.{Mark}
-use Rattle.nc_locks.specs.Wants.{mode_wanted}
+use Rattle.script_parts.specs.Wants.{mode_wanted}
 use Rattle.script_parts.specs.Counts.{has_strict}
 use Rattle.script_parts.specs.ScriptData.{ScriptData, is_read, ops_of, reads, sub_at, subs_at, updates}
 use Rattle.script_parts.specs.Valid.{IsOp, IsTree, IsValid, OpAt, deed_fits}

@@ -27,7 +27,7 @@ use Rattle.board_judge.specs.declared.users.User.{User}
 use Rattle.board_judge.specs.Settled.{IsMoveRun}
 use Rattle.board_judge.specs.inside.Users.{changes_in, has_written, is_tree_of, newest_by, ops_users, subs_users, tree_users, trees_users, user_of, users_of, version_by}
 use Rattle.board_judge.proofs.Holding.{any_at, drop_head, drop_next}
-use Rattle.nc_locks.specs.Wants.{mode_wanted}
+use Rattle.script_parts.specs.Wants.{mode_wanted}
 
 -- Numbers that pass the same thresholds are equal.
 same_numbers : (a b : ℕ) → ((w : ℕ) → 0 < w → nat_le w a ≡ nat_le w b) → a ≡ b

@@ -3,7 +3,7 @@ use Rattle.std.specs.Prelude.{false, true, ◌≡◌, ◌<◌, ◌⊎◌, List, 
 use Rattle.std.specs.List.{AllByRecursion}
 use Rattle.nc_locks.specs.declared.modes.Mode.{Mode}
 use Rattle.nc_locks.specs.declared.modes.Mode.TheVariants.{Mark}
-use Rattle.nc_locks.specs.Wants.{mode_wanted}
+use Rattle.script_parts.specs.Wants.{mode_wanted}
 use Rattle.script_parts.specs.Counts.{has_strict}
 use Rattle.script_parts.specs.ScriptData.{ScriptData}
 use Rattle.script_parts.specs.Valid.{IsValid}

@@ -1,7 +1,7 @@
 // Which operations of a script are on which item.
 ghost use Rattle.std.specs.Prelude.{true, false, get_or, if◌then◌else◌, ℕ, ◌≡◌, ◌==◌, ◌≤◌, [], ◌∷◌, length, IfOk, OnOk};
 ghost use Rattle.board_judge.specs.inside.Users.{AreUsersBy, is_meant, HasMore, HaveNoUsers, ops_users, subs_users, tree_users};
-ghost use Rattle.nc_locks.specs.Wants.{mode_wanted};
+ghost use Rattle.script_parts.specs.Wants.{mode_wanted};
 ghost use Rattle.script_parts.specs.Counts.{has_strict};
 ghost use Rattle.script_parts.specs.ScriptData.{is_strict, is_update};
 

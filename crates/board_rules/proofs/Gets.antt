@@ -10,7 +10,7 @@ use Rattle.script_parts.specs.Valid.{IsValid}
 use Rattle.board_rules.specs.Histories.{Place, applies, decides_as, does, is_strict_tree, is_whole_in, version_in, was_decided_as}
 use Rattle.board_rules.specs.Serial.{commit_order, is_in, is_settled_in, serial_in}
 use Rattle.nc_locks.specs.Modes.{modes_conflict}
-use Rattle.nc_locks.specs.Wants.{mode_wanted}
+use Rattle.script_parts.specs.Wants.{mode_wanted}
 use Rattle.board_rules.specs.Stands.{votes, votes_yes}
 use Rattle.board_rules.specs.Worth.{first_value, worth_after, worth_in}
 use Rattle.board_rules.proofs.ActTests.{applies_as, applies_as_one, votes_yes_is}

@@ -11,7 +11,7 @@ use Rattle.script_parts.specs.ScriptData.{ScriptData, ops_of, subs_at, updates}
 use Rattle.board_rules.specs.Histories.{Place, applies, decides_as, does, is_strict_tree, version_in}
 use Rattle.board_rules.specs.Serial.{commits_by, commit_order, is_in}
 use Rattle.nc_locks.specs.Modes.{modes_conflict}
-use Rattle.nc_locks.specs.Wants.{mode_wanted}
+use Rattle.script_parts.specs.Wants.{mode_wanted}
 use Rattle.board_rules.specs.Stands.{frees, overwrites, votes_yes}
 use Rattle.board_rules.proofs.ActTests.{applied_any, applies_as, decides_as_is, does_is, votes_yes_is}
 use Rattle.board_rules.proofs.Closings.{is_tree}

@@ -23,7 +23,7 @@ use Rattle.commute_ops.specs.declared.kinds.Kind.TheVariants.{Sum as SumKind, To
 use Rattle.board_rules.specs.Histories.{is_strict_tree}
 use Rattle.nc_locks.specs.Modes.{modes_conflict}
 use Rattle.nc_locks.specs.declared.modes.Mode.TheVariants.{Mark}
-use Rattle.nc_locks.specs.Wants.{mode_wanted}
+use Rattle.script_parts.specs.Wants.{mode_wanted}
 use Rattle.board_rules.specs.Worth.{changes, ops_change, subs_change}
 use Rattle.board_rules.proofs.Once.{AreOnce, clash, has, has_append, numbers_equal, same_number}
 use Rattle.board_rules.proofs.Precedence.{change}

@@ -13,7 +13,7 @@ use Rattle.nc_locks.specs.declared.modes.Lock.{Lock}
 use Rattle.nc_locks.specs.declared.modes.Mode.{Mode}
 use Rattle.nc_locks.specs.Locks.{has_lock, lock_of, modes_in, wanted_locks, with_locks, without}
 use Rattle.nc_locks.proofs.Always.{freed_are_gone, modes_are_locks, taken_stand}
-use Rattle.nc_locks.specs.Wants.{mode_wanted, wanted_by}
+use Rattle.script_parts.specs.Wants.{mode_wanted, wanted_by}
 use Rattle.script_parts.specs.ScriptData.{ScriptData, ops_of, updates}
 use Rattle.script_parts.specs.declared.parts.SubOp.{SubOp}
 use Rattle.board_rules.specs.Histories.{Place}

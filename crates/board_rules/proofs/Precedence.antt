@@ -16,7 +16,7 @@ use Rattle.board_rules.specs.Histories.{Place, applies, decides_as, does, is_str
 use Rattle.nc_locks.specs.Modes.{modes_conflict}
 use Rattle.nc_locks.specs.declared.modes.Mode.{Mode}
 use Rattle.nc_locks.specs.declared.modes.Mode.TheVariants.{Mark, Look, Hold}
-use Rattle.nc_locks.specs.Wants.{mode_wanted}
+use Rattle.script_parts.specs.Wants.{mode_wanted}
 use Rattle.board_rules.specs.Stands.{conflict_of, frees, locked_by, newer_of, newest_of, overwrites, votes_yes, written_by, written_in}
 use Rattle.board_rules.specs.Worth.{changes, ops_change}
 use Rattle.board_rules.proofs.ActTests.{applies_as, applies_as_one, does_is, releases, votes_yes_is}

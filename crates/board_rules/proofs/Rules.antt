@@ -8,7 +8,7 @@ use Rattle.board_rules.specs.Histories.{Place, decides_as, does, is_strict_tree}
 use Rattle.board_rules.specs.Moves.{IsApplying, IsDecision, IsFreeing}
 use Rattle.nc_locks.specs.Modes.{modes_conflict}
 use Rattle.nc_locks.specs.declared.modes.Mode.TheVariants.{Mark}
-use Rattle.nc_locks.specs.Wants.{mode_wanted}
+use Rattle.script_parts.specs.Wants.{mode_wanted}
 use Rattle.board_rules.specs.Stands.{frees, votes_yes}
 pub use Rattle.board_rules.specs.Rules.{AreBornLate, AreByRule, FollowsRules, IsByRule, IsFreeDeed, IsFreeVote, is_writer}
 use Rattle.board_rules.specs.Worth.{ops_change}

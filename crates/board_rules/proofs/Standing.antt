@@ -12,7 +12,7 @@ use Rattle.script_parts.specs.declared.parts.SubOp.{SubOp}
 use Rattle.board_rules.specs.Histories.{Place}
 use Rattle.nc_locks.specs.Modes.{modes_conflict}
 use Rattle.nc_locks.specs.declared.modes.Mode.{Mode}
-use Rattle.nc_locks.specs.Wants.{mode_wanted}
+use Rattle.script_parts.specs.Wants.{mode_wanted}
 use Rattle.board_rules.specs.Stands.{conflict_of, conflict_with, holder_of, least_from, locked_by, modes_after, modes_on, conflicts_with}
 use Rattle.board_rules.proofs.Once.{clash}
 use Rattle.board_rules.proofs.Positions.{Found}

@@ -13,7 +13,7 @@ use Rattle.script_parts.specs.Valid.{IsValid}
 use Rattle.script_parts.specs.declared.parts.Sub.{Sub}
 use Rattle.board_rules.specs.Histories.{Place, applies, decides_as, does, is_strict_tree, is_whole_in}
 use Rattle.nc_locks.specs.Modes.{modes_conflict}
-use Rattle.nc_locks.specs.Wants.{mode_wanted}
+use Rattle.script_parts.specs.Wants.{mode_wanted}
 use Rattle.board_rules.specs.Stands.{conflict_of, frees, votes, was_voted}
 use Rattle.board_rules.specs.Worth.{ops_change, worth_in}
 use Rattle.board_rules.proofs.ActTests.{applies_as_is, applies_as_one, does_is, frees_is}

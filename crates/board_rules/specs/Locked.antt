@@ -8,7 +8,7 @@ use Rattle.nc_locks.specs.declared.modes.Lock.{Lock}
 use Rattle.nc_locks.specs.declared.modes.Mode.{Mode}
 use Rattle.nc_locks.specs.Locks.{has_lock, lock_of, with_locks, without}
 use Rattle.nc_locks.specs.Modes.{mode_rank}
-use Rattle.nc_locks.specs.Wants.{wanted_by}
+use Rattle.script_parts.specs.Wants.{wanted_by}
 use Rattle.script_parts.specs.ScriptData.{ScriptData, ops_of, updates}
 use Rattle.board_rules.specs.Histories.{Place}
 use Rattle.board_rules.specs.Stands.{locked_by, modes_on, modes_standing}

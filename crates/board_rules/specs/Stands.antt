@@ -15,7 +15,7 @@ use Rattle.letter_types.specs.declared.votes.Vote.TheVariants.{Yes, No}
 pub use Rattle.script_parts.specs.Deeds.{found_short, overwrites}
 use Rattle.nc_locks.specs.Modes.{modes_conflict}
 use Rattle.nc_locks.specs.declared.modes.Mode.{Mode}
-use Rattle.nc_locks.specs.Wants.{mode_wanted}
+use Rattle.script_parts.specs.Wants.{mode_wanted}
 use Rattle.script_parts.specs.ScriptData.{ScriptData, ops_of, subs_at, updates}
 use Rattle.script_parts.specs.declared.parts.SubOp.{SubOp}
 use Rattle.board_rules.specs.Histories.{Place, applies, version_in, version_or}

@@ -1,5 +1,4 @@
 pub mod Modes
 pub mod Locks
-pub mod Wants
 pub mod Laws
 pub mod inside

@@ -19,7 +19,7 @@ use Rattle.nc_locks.specs.declared.modes.Mode.{Mode}
 use Rattle.nc_locks.specs.declared.modes.Mode.TheVariants.{Mark, Hold}
 use Rattle.nc_locks.specs.Locks.{has_lock, marks_on, met_in, wanted_locks, with_locks, without}
 use Rattle.nc_locks.proofs.Always.{freed_are_gone, taken_stand}
-use Rattle.nc_locks.specs.Wants.{wanted_by}
+use Rattle.script_parts.specs.Wants.{wanted_by}
 use Rattle.script_parts.specs.Counts.{has_strict}
 use Rattle.script_parts.specs.ScriptData.{ScriptData, ops_of}
 use Rattle.script_parts.specs.declared.parts.SubOp.{SubOp}

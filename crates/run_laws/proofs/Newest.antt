@@ -27,7 +27,7 @@ use Rattle.nc_locks.specs.Locks.{first_where, has_lock, is_in_way, lock_of, lock
 use Rattle.nc_locks.specs.Modes.{modes_conflict}
 use Rattle.nc_locks.proofs.Always.{none_in_way}
 use Rattle.nc_locks.proofs.Orders.{itself, same_lock}
-use Rattle.nc_locks.specs.Wants.{mode_wanted, wanted_by}
+use Rattle.script_parts.specs.Wants.{mode_wanted, wanted_by}
 use Rattle.script_parts.specs.Counts.{has_strict}
 use Rattle.script_parts.specs.Deeds.{overwrites}
 use Rattle.script_parts.specs.ScriptData.{ScriptData, node_of, ops_of, sub_at, subs_at, visits}

@@ -9,7 +9,7 @@ use Rattle.letter_types.specs.declared.acts.Act.TheVariants.{Did, Voted, Freed, 
 use Rattle.letter_types.specs.declared.votes.Cause.{Cause}
 use Rattle.nc_locks.specs.declared.modes.Mode.{Mode}
 use Rattle.nc_locks.specs.Modes.{modes_conflict}
-use Rattle.nc_locks.specs.Wants.{mode_wanted}
+use Rattle.script_parts.specs.Wants.{mode_wanted}
 use Rattle.script_parts.specs.declared.parts.SubOp.{SubOp}
 use Rattle.script_parts.specs.ScriptData.{ScriptData}
 use Rattle.board_rules.specs.Histories.{Place}

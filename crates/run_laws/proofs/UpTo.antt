@@ -15,7 +15,7 @@ use Rattle.item_versions.specs.Table.{Table, item_in, replaced, updated, valued}
 use Rattle.item_versions.proofs.Window.{AllUpTo}
 use Rattle.nc_locks.specs.declared.modes.Mode.TheVariants.{Mark, Hold}
 use Rattle.nc_locks.specs.Modes.{modes_conflict}
-use Rattle.nc_locks.specs.Wants.{mode_wanted}
+use Rattle.script_parts.specs.Wants.{mode_wanted}
 use Rattle.script_parts.specs.Deeds.{after_deed, overwrites}
 use Rattle.script_parts.specs.declared.parts.Deed.{Deed}
 use Rattle.script_parts.specs.declared.parts.Deed.TheVariants.{Apply, Get, Set, Draw}

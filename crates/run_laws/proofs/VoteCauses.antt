@@ -22,7 +22,7 @@ use Rattle.item_versions.specs.Table.{Table, item_in}
 use Rattle.item_versions.proofs.Holding.{IsHeld-item_in}
 use Rattle.item_versions.proofs.Window.{AllUpTo}
 use Rattle.nc_locks.specs.Locks.{met_in}
-use Rattle.nc_locks.specs.Wants.{wanted_by}
+use Rattle.script_parts.specs.Wants.{wanted_by}
 use Rattle.script_parts.specs.Deeds.{found_short, overwrites}
 use Rattle.script_parts.specs.declared.parts.SubOp.{SubOp}
 use Rattle.script_parts.specs.declared.parts.TreeKind.TheVariants.{Strict}

@@ -19,7 +19,7 @@ use Rattle.letter_types.specs.declared.votes.Vote.TheVariants.{Yes, No}
 use Rattle.nc_locks.specs.declared.modes.Lock.{Lock}
 use Rattle.nc_locks.specs.Locks.{Wanted, has_lock, wanted_locks, with_locks, without}
 use Rattle.nc_locks.proofs.Always.{freed_are_gone, taken_stand}
-use Rattle.nc_locks.specs.Wants.{wanted_by}
+use Rattle.script_parts.specs.Wants.{wanted_by}
 use Rattle.script_parts.specs.Counts.{has_strict, strict_trees}
 use Rattle.script_parts.specs.ScriptData.{ScriptData, ops_of, updates, is_strict}
 use Rattle.script_parts.specs.Valid.{IsValid}

@@ -11,7 +11,7 @@ use Rattle.letter_types.specs.declared.acts.Act.{Act}
 use Rattle.letter_types.specs.declared.entries.Entry.{Entry}
 use Rattle.letter_types.specs.declared.entries.Letter.{Letter}
 use Rattle.nc_locks.specs.Locks.{met_in}
-use Rattle.nc_locks.specs.Wants.{wanted_by}
+use Rattle.script_parts.specs.Wants.{wanted_by}
 use Rattle.script_parts.specs.declared.parts.SubOp.{SubOp}
 use Rattle.script_parts.specs.declared.parts.TreeKind.TheVariants.{Strict}
 use Rattle.script_parts.specs.ScriptData.{ScriptData, ops_of}

@@ -27,7 +27,7 @@ use Rattle.script_parts.specs.ScriptData.{ScriptData, node_of, ops_of, sub_at, s
 use Rattle.script_parts.specs.Valid.{IsValid}
 use Rattle.nc_locks.specs.declared.modes.Mode.TheVariants.{Mark}
 use Rattle.nc_locks.specs.Modes.{modes_conflict}
-use Rattle.nc_locks.specs.Wants.{mode_wanted}
+use Rattle.script_parts.specs.Wants.{mode_wanted}
 use Rattle.world_model.specs.Asked.{asked_version}
 use Rattle.world_model.specs.Core.{Core}
 use Rattle.world_model.specs.Decisions.{applied_in, ops_at}

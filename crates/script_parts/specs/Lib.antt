@@ -14,3 +14,4 @@ pub mod Undone
 pub mod Valid
 pub mod Why
 pub mod inside
+pub mod Wants

@@ -1,5 +1,5 @@
 //! The parts of a script as plain data: trees, items and rows, when they are valid, the reasons for a refusal, what a
-//! record adds to them, the undone form, and when two of them are equal.
+//! record adds to them, the undone form, the locks that operations need, and when two of them are equal.
 #![tactic(auto)]
 
 pub mod children;

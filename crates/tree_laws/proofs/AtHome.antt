@@ -27,7 +27,7 @@ use Rattle.script_parts.specs.declared.parts.TreeKind.TheVariants.{Update, Read,
 use Rattle.tree_home.specs.declared.homes.Answered.{Answered}
 use Rattle.letter_types.specs.declared.entries.Outgoing.{Outgoing}
 use Rattle.nc_locks.specs.Locks.{has_lock}
-use Rattle.nc_locks.specs.Wants.{mode_wanted}
+use Rattle.script_parts.specs.Wants.{mode_wanted}
 use Rattle.world_model.proofs.Coordination.{of_forgetting, of_remembering}
 use Rattle.world_model.proofs.Epochs.{ask_each, order_each}
 use Rattle.world_model.specs.Client.{Client, client_finishes, client_row, next_after, nudge, submit, with_answer, with_end, wanted}

@@ -13,7 +13,7 @@ use Rattle.nc_locks.specs.declared.modes.Mode.{Mode}
 use Rattle.nc_locks.specs.Locks.{first_where, is_in_way, met_by, met_in}
 use Rattle.nc_locks.specs.Modes.{modes_conflict}
 use Rattle.nc_locks.proofs.Always.{met_is_first}
-use Rattle.nc_locks.specs.Wants.{mode_wanted, wanted_by}
+use Rattle.script_parts.specs.Wants.{mode_wanted, wanted_by}
 use Rattle.world_model.specs.Votes.{conflict_by}
 use Rattle.board_rules.specs.Locked.{tree_of_lock}
 use Rattle.board_rules.specs.Stands.{conflict_with, holder_of}

@@ -17,7 +17,7 @@ use Rattle.letter_types.specs.declared.votes.Cause.TheVariants.{Conflict}
 use Rattle.nc_locks.specs.declared.modes.Met.{Met}
 use Rattle.nc_locks.specs.declared.modes.Mode.{Mode}
 use Rattle.nc_locks.specs.Locks.{Wanted, marks_on, met_in}
-use Rattle.nc_locks.specs.Wants.{mode_wanted, wanted_by}
+use Rattle.script_parts.specs.Wants.{mode_wanted, wanted_by}
 use Rattle.script_parts.specs.Counts.{has_strict}
 use Rattle.script_parts.specs.ScriptData.{ScriptData, node_of, ops_of, reads, updates}
 use Rattle.script_parts.specs.Valid.{IsValid}

@@ -23,7 +23,7 @@ use Rattle.nc_locks.specs.Locks.{Wanted, first_where, has_lock, is_in_way, lock_
 use Rattle.nc_locks.specs.Modes.{modes_conflict}
 use Rattle.nc_locks.proofs.Always.{freed_are_gone, met_is_first, taken_stand}
 use Rattle.nc_locks.proofs.Orders.{same_lock}
-use Rattle.nc_locks.specs.Wants.{wanted_by}
+use Rattle.script_parts.specs.Wants.{wanted_by}
 use Rattle.script_parts.specs.Counts.{has_strict}
 use Rattle.script_parts.specs.ScriptData.{ScriptData}
 use Rattle.script_parts.specs.declared.parts.SubOp.{SubOp}

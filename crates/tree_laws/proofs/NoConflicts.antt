@@ -24,7 +24,7 @@ use Rattle.nc_locks.specs.Locks.{Wanted, first_where, has_lock, is_in_way, lock_
 use Rattle.nc_locks.specs.Modes.{modes_conflict}
 use Rattle.nc_locks.proofs.Always.{freed_are_gone, none_in_way, taken_stand}
 use Rattle.nc_locks.proofs.Orders.{same_lock}
-use Rattle.nc_locks.specs.Wants.{wanted_by}
+use Rattle.script_parts.specs.Wants.{wanted_by}
 use Rattle.script_parts.specs.ScriptData.{ScriptData, ops_of}
 use Rattle.script_parts.specs.declared.parts.SubOp.{SubOp}
 use Rattle.script_parts.specs.declared.parts.TreeKind.{TreeKind}

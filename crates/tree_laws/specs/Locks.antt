@@ -11,7 +11,7 @@ use Rattle.nc_locks.specs.declared.modes.Lock.{Lock}
 use Rattle.script_parts.specs.Counts.{has_strict}
 use Rattle.nc_locks.specs.Locks.{has_lock, met_in}
 use Rattle.nc_locks.specs.Modes.{modes_conflict}
-use Rattle.nc_locks.specs.Wants.{wanted_by}
+use Rattle.script_parts.specs.Wants.{wanted_by}
 use Rattle.script_parts.specs.ScriptData.{ScriptData, node_of, ops_of}
 use Rattle.script_parts.specs.Valid.{IsValid}
 use Rattle.script_parts.specs.declared.parts.ItemRow.{ItemRow}

@@ -23,7 +23,7 @@ use Rattle.item_versions.specs.Table.{Table}
 use Rattle.nc_locks.specs.declared.modes.Lock.{Lock}
 use Rattle.nc_locks.specs.declared.modes.Met.{Met}
 use Rattle.nc_locks.specs.Locks.{Wanted, marks_on, met_in, with_locks, without}
-use Rattle.nc_locks.specs.Wants.{wanted_by}
+use Rattle.script_parts.specs.Wants.{wanted_by}
 use Rattle.pair_counters.specs.Numbers.{asked_all, done_one}
 use Rattle.script_parts.specs.Counts.{has_strict}
 use Rattle.script_parts.specs.ScriptData.{ScriptData, client_of, home_of, updates, visited_by}

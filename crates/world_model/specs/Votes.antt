@@ -18,7 +18,7 @@ use Rattle.letter_types.specs.Causes.{short_cause}
 use Rattle.nc_locks.specs.declared.modes.Lock.{Lock}
 use Rattle.nc_locks.specs.declared.modes.Met.{Met}
 use Rattle.nc_locks.specs.Locks.{met_in}
-use Rattle.nc_locks.specs.Wants.{wanted_by}
+use Rattle.script_parts.specs.Wants.{wanted_by}
 
 -- a lock that is met, as a cause
 abbrev pub conflict_by : Option Met → Option Cause

@@ -13,7 +13,7 @@ use Rattle.tx_trees.specs.declared.parts.SubOp.{SubOp}
 use Rattle.world_model.specs.Core.{Refusals, lesser}
 use Rattle.tree_step.specs.declared.core_change.VoteChange.{VoteChange}
 use Rattle.tree_step.specs.declared.core_change.VoteChange.TheVariants.{Stay, Take, Note}
-use Rattle.nc_locks.specs.Wants.{wanted_by}
+use Rattle.script_parts.specs.Wants.{wanted_by}
 
 -- a no of subtransaction k of tree t comes to the tree's home
 abbrev pub noted_no : TreeNo → SubNo → Cause → Refusals → VoteChange

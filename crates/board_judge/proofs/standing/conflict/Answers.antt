@@ -1,7 +1,7 @@
 use Rattle.std.proofs.Common.{◌<◌, length, ap, sym, subst, ◌∙◌, refl}
 use Rattle.std.proofs.lemmas.List.{drop_all}
 use Rattle.nc_locks.specs.declared.modes.Mode.{Mode}
-use Rattle.nc_locks.specs.Wants.{mode_wanted}
+use Rattle.script_parts.specs.Wants.{mode_wanted}
 use Rattle.script_parts.specs.declared.parts.SubOp.{SubOp}
 use Rattle.board_rules.specs.Stands.{conflict_of}
 use Rattle.board_judge.specs.Views.{MayNeed}
