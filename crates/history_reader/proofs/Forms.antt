@@ -1,7 +1,8 @@
 -- What letters and acts say is printed as its words, each after a space.
 use Rattle.std.proofs.Common.{◌≡◌, ◌<◌, ◌^◌, ◌∷◌, ◌++◌, [], List, Bool, true, false, ℕ, refl, arith}
-use Rattle.std.specs.Prelude.{if◌then◌else◌, codes, decimal, Option, Some, None, slice_get}
-use Rattle.std.specs.List.{AllByRecursion}
+use Rattle.std.specs.Prelude.{if◌then◌else◌, ◌&&◌, codes, decimal, flat_map, Option, Some, None, slice_get}
+use Rattle.std.specs.List.{AllByRecursion, list_all}
+use Rattle.tv_base.proofs.Truths.{left_true, right_true}
 use Rattle.letter_types.specs.declared.acts.Act.{Act}
 use Rattle.letter_types.specs.declared.acts.Act.TheVariants as acts
 use Rattle.letter_types.specs.declared.bodies.Answer.{Answer}
@@ -21,38 +22,103 @@ use Rattle.tx_trees.specs.Valid.{IsValid}
 use Rattle.tx_trees.specs.declared.parts.Tree.{Tree}
 use Rattle.history_text.specs.TreeNames.{cause_text, item_text, tree_text}
 use Rattle.history_text.specs.Values.{count_text}
-use Rattle.history_text.specs.Acts.{act_text}
-use Rattle.history_text.specs.Bodies.{at_version, body_text, numbers_text, what_word}
-use Rattle.history_text.specs.Names.{answer_text, commit_word, notice_text, vote_text, whole_word}
-use Rattle.history_text.specs.Printable.{IsAct, IsAnswer, IsBody, IsCause, IsItemOf, IsNotice, IsSubOf, IsTreeOf, IsVote, IsWord}
+use Rattle.history_text.specs.LineParts.{Count, Got, Half, ItemOf, Never, Only, Part, Row, SubOf, TreeOf, Whole, Why, Word, act_parts, answer_parts, body_parts, commit_word, notice_parts, part_text, parts_text, vote_parts, what_word}
+use Rattle.history_text.specs.Parts.{lacks}
+use Rattle.history_text.specs.Printable.{AreParts, IsAct, IsBody, IsCause, IsItemOf, IsPart, IsSubOf, IsTreeOf, IsWord}
 use Rattle.history_text.specs.Words.{cause_words}
-use Rattle.history_reader.specs.inside.ActWords.{act_words}
-use Rattle.history_reader.specs.inside.BodyWords.{answer_words, body_words, commit_word_of, notice_words, number_words, order_word, version_words, vote_words, whole_words}
-use Rattle.history_reader.proofs.ListsRead.{answer_there}
+use Rattle.history_reader.specs.inside.BodyWords.{act_words, body_words, number_words, part_words, whole_words, words_of}
 use Rattle.history_reader.proofs.Solid.{amount_solid, got_tail, item_solid, number_solid, tree_solid}
-use Rattle.history_reader.proofs.Spelling.{IsTail, both, fixed, none_more, word}
+use Rattle.history_reader.proofs.Spelling.{IsSolid, IsTail, both, fixed, none_more, word}
 use Rattle.history_reader.proofs.SubsThere.{small_sub, tree_of_sub}
+
+-- a word that is always the same has neither a space nor a line's end
+abbrev is_solid : List ℕ → Bool
+is_solid w = lacks 32 w && lacks 10 w
+
+-- nor has that of a part
+abbrev is_apart : Part → Bool
+is_apart (Word w) = is_solid w
+is_apart (Count w n) = is_solid w
+is_apart _ = true
+
+commit_apart : (b : Bool) → list_all is_apart (Word (commit_word b) ∷ []) ≡ true
+commit_apart true = refl
+commit_apart false = refl
+
+what_apart : (what : What) (v : ℕ) → list_all is_apart (Count (what_word what) v ∷ []) ≡ true
+what_apart whats.Turn v = refl
+what_apart whats.Show v = refl
+what_apart whats.Sweep v = refl
+
+vote_apart : (v : Vote) → list_all is_apart (vote_parts v) ≡ true
+vote_apart (votes.Yes vs) = refl
+vote_apart (votes.No cause) = refl
+
+notice_apart : (t : ℕ) (n : Notice) → list_all is_apart (notice_parts t n) ≡ true
+notice_apart t (notices.Did vs) = refl
+notice_apart t (notices.Yes vs) = refl
+notice_apart t (notices.No cause) = refl
+
+answer_apart : (t : ℕ) (a : Answer) → list_all is_apart (answer_parts t a) ≡ true
+answer_apart t (answers.Whole vs) = refl
+answer_apart t (answers.Aborted cause) = refl
+
+body_apart : (b : Body) → list_all is_apart (body_parts b) ≡ true
+body_apart Go = refl
+body_apart (Root t) = refl
+body_apart (Sub t k v) = refl
+body_apart (Done t k v n) = notice_apart t.0 n
+body_apart (Reply t v a) = answer_apart t.0 a
+body_apart Nudge = refl
+body_apart Advance = refl
+body_apart (Turn v) = refl
+body_apart (Show v) = refl
+body_apart (Sweep v) = refl
+body_apart (Turned v) = refl
+body_apart (Shown v) = refl
+body_apart (Swept v) = refl
+body_apart (AskDone v k) = refl
+body_apart (AskAsked v k) = refl
+body_apart (DoneRow v k row) = refl
+body_apart (AskedRow v k row) = refl
+body_apart (Advanced v) = refl
+body_apart (Decide t v b) = commit_apart b
+body_apart (Decided t v) = refl
+body_apart (Release t) = refl
+body_apart (Wake t k) = refl
+body_apart Lose = refl
+body_apart (AdvanceNo i) = refl
+body_apart (Ask e) = refl
+body_apart (Numbers e u r l) = refl
+body_apart (Wanted e i) = refl
+body_apart (Order e what v) = what_apart what v.0
+body_apart (Obeyed e what v) = what_apart what v.0
+
+act_apart : (a : Act) → list_all is_apart (act_parts a) ≡ true
+act_apart (acts.Born t v) = refl
+act_apart (acts.Did t k vs) = refl
+act_apart (acts.Turned v) = refl
+act_apart (acts.Showed v) = refl
+act_apart (acts.Swept v) = refl
+act_apart acts.Finished = refl
+act_apart (acts.Waits t u r) = refl
+act_apart (acts.Parked t k x h) = refl
+act_apart (acts.Voted t k vote) = vote_apart vote
+act_apart (acts.Freed t) = refl
+act_apart (acts.Decided t b) = commit_apart b
+act_apart (acts.Applied t b) = commit_apart b
 
 num : (n : ℕ) → n < 2 ^ 64 → IsTail (32 ∷ decimal n) (decimal n ∷ [])
 num n h = word (decimal n) (number_solid n h)
 
-version : (v : ℕ) → IsWord v → IsTail (at_version v) (version_words v)
-version v h = both (fixed (codes "version") refl refl) (num v h)
+said : (w : List ℕ) → is_solid w ≡ true → IsTail (32 ∷ w) (w ∷ [])
+said w h = fixed w (left_true (lacks 32 w) (lacks 10 w) h) (right_true (lacks 32 w) (lacks 10 w) h)
 
-row : (ns : List ℕ) → AllByRecursion IsWord ns → IsTail (numbers_text ns) (number_words ns)
+row : (ns : List ℕ) → AllByRecursion IsWord ns → IsTail (flat_map (count_text (codes " ")) ns) (number_words ns)
 row [] all = none_more
 row (n ∷ ns) all = both (num n all.0) (row ns all.1)
 
-commits : (b : Bool) → IsTail (commit_word b) (commit_word_of b ∷ [])
-commits true = fixed (codes "commit") refl refl
-commits false = fixed (codes "abort") refl refl
-
-orders : (what : What) (v : ℕ) → IsWord v → IsTail (count_text (what_word what) v) (order_word what ∷ decimal v ∷ [])
-orders whats.Turn v h = both (fixed (codes "turn") refl refl) (num v h)
-orders whats.Show v h = both (fixed (codes "show") refl refl) (num v h)
-orders whats.Sweep v h = both (fixed (codes "sweep") refl refl) (num v h)
-
-wholes : (o : Option Tree) → IsTail (whole_word o) (whole_words o)
+wholes : (o : Option Tree) → IsTail (elim o [ Some tree ↦ if is_strict tree.kind then codes " committed" else [] | None ↦ [] ]) (whole_words o)
 wholes None = none_more
 wholes (Some tree) = by (is_strict tree.kind)
   where
@@ -67,76 +133,33 @@ module _ (s : ScriptData) (valid : IsValid s) where
   item : (x : ℕ) → IsItemOf s x → IsTail (32 ∷ item_text s x) (item_text s x ∷ [])
   item x h = word (item_text s x) (item_solid s x valid h)
 
-  -- a head, a tree and a subtransaction
-  subs : {h : List ℕ} {hs : List (List ℕ)} → IsTail h hs → (t k : ℕ) → IsSubOf s t k → IsTail ((h ++ (32 ∷ tree_text s t)) ++ (32 ∷ decimal k)) ((hs ++ (tree_text s t ∷ [])) ++ (decimal k ∷ []))
-  subs head t k h = both (both head (tree t (tree_of_sub s t k h))) (num k (omega (arith, small_sub s t k valid h)))
-
   cause : (c : Cause) → IsCause s c → IsTail (32 ∷ cause_text s c) (cause_words s c)
-  cause (Conflict x t) may = both (both (fixed (codes "conflict") refl refl) (item x.0 may.0)) (tree t.0 may.1)
-  cause (Newer x v) may = both (both (fixed (codes "newer") refl refl) (item x.0 may.0)) (num v.0 may.1)
-  cause (Short x n) may = both (both (fixed (codes "short") refl refl) (item x.0 may.0)) (word _ (amount_solid n may.1))
+  cause (Conflict x t) may = both (fixed (codes "conflict") refl refl) (both (item x.0 may.0) (tree t.0 may.1))
+  cause (Newer x v) may = both (fixed (codes "newer") refl refl) (both (item x.0 may.0) (num v.0 may.1))
+  cause (Short x n) may = both (fixed (codes "short") refl refl) (both (item x.0 may.0) (word _ (amount_solid n may.1)))
 
-  vote : (v : Vote) → IsVote s v → IsTail (vote_text s v) (vote_words s v)
-  vote (votes.Yes vs) may = both (fixed (codes "yes") refl refl) (got_tail s vs valid may)
-  vote (votes.No c) may = both (fixed (codes "no") refl refl) (cause c may)
+  part_tail : (p : Part) → is_apart p ≡ true → IsPart s p → IsTail (part_text s p) (part_words s p)
+  part_tail (Word w) h may = said w h
+  part_tail (Never w) h may = absurd may
+  part_tail (Count w n) h may = both (said w h) (num n may)
+  part_tail (Half n) h may = num n (omega (arith, may))
+  part_tail (TreeOf t) h may = tree t may
+  part_tail (SubOf t k) h may = both (tree t (tree_of_sub s t k may)) (num k (omega (arith, small_sub s t k valid may)))
+  part_tail (ItemOf x) h may = item x may
+  part_tail (Got vs) h may = got_tail s vs valid may
+  part_tail (Why c) h may = cause c may
+  part_tail (Row ns) h may = row ns may.1
+  part_tail (Whole t) h may = wholes (slice_get s.trees t)
+  part_tail (Only strict t) h may = none_more
 
-  notice : (t : ℕ) (n : Notice) → IsNotice s t n → IsTail (notice_text s n) (notice_words s n)
-  notice t (notices.Did vs) may = got_tail s vs valid may.1
-  notice t (notices.Yes vs) may = both (fixed (codes "yes") refl refl) (got_tail s vs valid may.1)
-  notice t (notices.No c) may = both (fixed (codes "no") refl refl) (cause c may.1)
+  parts_tail : (ps : List Part) → list_all is_apart ps ≡ true → AreParts s ps → IsTail (parts_text s ps) (words_of s ps)
+  parts_tail [] h may = none_more
+  parts_tail (p ∷ ps) h may =
+      both (part_tail p (left_true (is_apart p) (list_all is_apart ps) h) may.0)
+      (parts_tail ps (right_true (is_apart p) (list_all is_apart ps) h) may.1)
 
-  answer : (t : ℕ) (a : Answer) → IsAnswer s t a → IsTail (answer_text s t a) (answer_words s t a)
-  answer t (answers.Whole vs) may = both (wholes (slice_get s.trees t)) (got_tail s vs valid may.1)
-  answer t (answers.Aborted c) may = both (fixed (codes "aborted") refl refl) (cause c may.1)
+  pub body_tail : (b : Body) → IsBody s b → IsTail (parts_text s (body_parts b)) (body_words s b)
+  body_tail b may = parts_tail (body_parts b) (body_apart b) may
 
-  there : (t : ℕ) (a : Answer) → IsAnswer s t a → IsTreeOf s t
-  there t a may = answer_there s t a may
-
-  pub body_tail : (b : Body) → IsBody s b → IsTail (32 ∷ body_text s b) (body_words s b)
-  body_tail Go may = absurd may
-  body_tail (Root t) may = both (fixed (codes "root") refl refl) (tree t.0 may)
-  body_tail (Sub t k v) may = both (subs (fixed (codes "sub") refl refl) t.0 k.0 may.0) (version v.0 may.1)
-  body_tail (Done t k v n) may = both (subs (fixed (codes "done") refl refl) t.0 k.0 may.0) (both (version v.0 may.1) (notice t.0 n may.2))
-  body_tail (Reply t v a) may = both (both (fixed (codes "reply") refl refl) (tree t.0 (there t.0 a may.1))) (both (version v.0 may.0) (answer t.0 a may.1))
-  body_tail Nudge may = fixed (codes "nudge") refl refl
-  body_tail Advance may = fixed (codes "advance") refl refl
-  body_tail (Turn v) may = both (fixed (codes "turn") refl refl) (num v.0 may)
-  body_tail (Show v) may = both (fixed (codes "show") refl refl) (num v.0 may)
-  body_tail (Sweep v) may = both (fixed (codes "sweep") refl refl) (num v.0 may)
-  body_tail (Turned v) may = both (fixed (codes "turned") refl refl) (num v.0 may)
-  body_tail (Shown v) may = both (fixed (codes "shown") refl refl) (num v.0 may)
-  body_tail (Swept v) may = both (fixed (codes "swept") refl refl) (num v.0 may)
-  body_tail (AskDone v k) may = both (both (fixed (codes "askdone") refl refl) (num v.0 may.0)) (both (fixed (codes "round") refl refl) (num k may.1))
-  body_tail (AskAsked v k) may = both (both (fixed (codes "askasked") refl refl) (num v.0 may.0)) (both (fixed (codes "round") refl refl) (num k may.1))
-  body_tail (DoneRow v k ns) may = both (both (both (fixed (codes "donerow") refl refl) (num v.0 may.0)) (both (fixed (codes "round") refl refl) (num k may.1))) (row ns may.2.1)
-  body_tail (AskedRow v k ns) may = both (both (both (fixed (codes "askedrow") refl refl) (num v.0 may.0)) (both (fixed (codes "round") refl refl) (num k may.1))) (row ns may.2.1)
-  body_tail (Advanced v) may = both (fixed (codes "advanced") refl refl) (num v.0 may)
-  body_tail (Decide t v b) may = both (both (fixed (codes "decide") refl refl) (tree t.0 may.0)) (both (version v.0 may.1) (commits b))
-  body_tail (Decided t v) may = both (both (fixed (codes "decided") refl refl) (tree t.0 may.0)) (version v.0 may.1)
-  body_tail (Release t) may = both (fixed (codes "release") refl refl) (tree t.0 may)
-  body_tail (Wake t k) may = subs (fixed (codes "wake") refl refl) t.0 k.0 may
-  body_tail Lose may = fixed (codes "lose") refl refl
-  body_tail (AdvanceNo i) may = both (fixed (codes "advance") refl refl) (num i (omega arith))
-  body_tail (Ask e) may = both (fixed (codes "ask") refl refl) (num e may)
-  body_tail (Numbers e u r l) may =
-      both (both (fixed (codes "numbers") refl refl) (num e may.0))
-      (both (both (fixed (codes "update") refl refl) (num u.0 may.1)) (both (both (fixed (codes "read") refl refl) (num r.0 may.2)) (both (fixed (codes "low") refl refl) (num l.0 may.3))))
-  body_tail (Wanted e k) may = both (both (fixed (codes "wanted") refl refl) (num e may.0)) (num k (omega (arith, may.1)))
-  body_tail (Order e what v) may = both (both (fixed (codes "order") refl refl) (num e may.0)) (orders what v.0 may.1)
-  body_tail (Obeyed e what v) may = both (both (fixed (codes "obeyed") refl refl) (num e may.0)) (orders what v.0 may.1)
-
-  pub act_tail : (a : Act) → IsAct s a → IsTail (32 ∷ act_text s a) (act_words s a)
-  act_tail (acts.Born t v) may = both (both (fixed (codes "born") refl refl) (tree t.0 may.0)) (version v.0 may.1)
-  act_tail (acts.Did t k vs) may = both (subs (fixed (codes "did") refl refl) t.0 k.0 may.0) (got_tail s vs valid may.1)
-  act_tail (acts.Turned v) may = both (fixed (codes "turned") refl refl) (num v.0 may)
-  act_tail (acts.Showed v) may = both (fixed (codes "showed") refl refl) (num v.0 may)
-  act_tail (acts.Swept v) may = both (fixed (codes "swept") refl refl) (num v.0 may)
-  act_tail acts.Finished may = fixed (codes "finished") refl refl
-  act_tail (acts.Waits t u r) may =
-      both (both (fixed (codes "waits") refl refl) (tree t.0 may.0))
-      (both (both (fixed (codes "update") refl refl) (num u.0 may.1)) (both (fixed (codes "read") refl refl) (num r.0 may.2)))
-  act_tail (acts.Parked t k x holder) may = both (subs (fixed (codes "parked") refl refl) t.0 k.0 may.0) (both (item x.0 may.1) (tree holder.0 may.2))
-  act_tail (acts.Voted t k v) may = both (subs (fixed (codes "voted") refl refl) t.0 k.0 may.0) (vote v may.1)
-  act_tail (acts.Freed t) may = both (fixed (codes "freed") refl refl) (tree t.0 may)
-  act_tail (acts.Decided t b) may = both (both (fixed (codes "decided") refl refl) (tree t.0 may)) (commits b)
-  act_tail (acts.Applied t b) may = both (both (fixed (codes "applied") refl refl) (tree t.0 may)) (commits b)
+  pub act_tail : (a : Act) → IsAct s a → IsTail (parts_text s (act_parts a)) (act_words s a)
+  act_tail a may = parts_tail (act_parts a) (act_apart a) may

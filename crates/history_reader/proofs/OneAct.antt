@@ -14,9 +14,9 @@ use Rattle.letter_types.specs.declared.votes.Vote.{Vote}
 use Rattle.tx_trees.specs.ScriptData.{ScriptData}
 use Rattle.tx_trees.specs.Valid.{IsValid}
 use Rattle.history_text.specs.Printable.{IsAct}
-use Rattle.history_reader.specs.inside.ActWords.{act_words}
+use Rattle.history_reader.specs.inside.BodyWords.{act_words}
 use Rattle.history_reader.proofs.OneBody.{su, tr, ve}
-use Rattle.history_reader.proofs.OneWords.{commit_one, gots_one, item_same, vote_one, word_at}
+use Rattle.history_reader.proofs.OneWords.{commit_one, ends_one, gots_one, item_same, vote_one, word_at}
 use Rattle.history_reader.proofs.SubsThere.{tree_of_sub}
 
 -- the heads of acts
@@ -108,59 +108,59 @@ module _ (s : ScriptData) (valid : IsValid s) where
   act_by : (b c : Act) → IsActOf (act_index b) c → act_words s b ≡ act_words s c → IsAct s b → IsAct s c → b ≡ c
   act_by (Born t v) other (t', v', e_is) is mb mc =
       act_by_form (Born t v) other (Born t' v') e_is is mc
-      (λ w m. let pt = tr s valid 1 t t' mb.0 m.0 w refl refl in
-      let pv = ve s valid 3 v v' mb.1 m.1 w refl refl in
+      (λ w m. let pt = tr s valid 1 t t' mb.1.0 m.1.0 w refl refl in
+      let pv = ve s valid 3 v v' mb.1.1.0 m.1.1.0 w refl refl in
       λ j. Born (pt j) (pv j))
   act_by (Did t k g) other (t', k', g', e_is) is mb mc =
       act_by_form (Did t k g) other (Did t' k' g') e_is is mc
-      (λ w m. let pt = tr s valid 1 t t' (tree_of_sub s t.0 k.0 mb.0) (tree_of_sub s t'.0 k'.0 m.0) w refl refl in
-      let pk = su s valid 2 t.0 t'.0 k k' mb.0 m.0 w refl refl in
-      let pg = gots_one s valid g g' (ap (drop 3) w) mb.1 m.1 in
+      (λ w m. let pt = tr s valid 1 t t' (tree_of_sub s t.0 k.0 mb.1.0) (tree_of_sub s t'.0 k'.0 m.1.0) w refl refl in
+      let pk = su s valid 2 t.0 t'.0 k k' mb.1.0 m.1.0 w refl refl in
+      let pg = gots_one s valid g g' (ends_one _ _ (ap (drop 3) w)) mb.1.1.0 m.1.1.0 in
       λ j. Did (pt j) (pk j) (pg j))
   act_by (Turned v) other (v', e_is) is mb mc =
       act_by_form (Turned v) other (Turned v') e_is is mc
-      (λ w m. let pv = ve s valid 1 v v' mb m w refl refl in
+      (λ w m. let pv = ve s valid 1 v v' mb.0 m.0 w refl refl in
       λ j. Turned (pv j))
   act_by (Showed v) other (v', e_is) is mb mc =
       act_by_form (Showed v) other (Showed v') e_is is mc
-      (λ w m. let pv = ve s valid 1 v v' mb m w refl refl in
+      (λ w m. let pv = ve s valid 1 v v' mb.0 m.0 w refl refl in
       λ j. Showed (pv j))
   act_by (Swept v) other (v', e_is) is mb mc =
       act_by_form (Swept v) other (Swept v') e_is is mc
-      (λ w m. let pv = ve s valid 1 v v' mb m w refl refl in
+      (λ w m. let pv = ve s valid 1 v v' mb.0 m.0 w refl refl in
       λ j. Swept (pv j))
   act_by Finished other e_is is mb mc = sym e_is
   act_by (Waits t v1 v2) other (t', v1', v2', e_is) is mb mc =
       act_by_form (Waits t v1 v2) other (Waits t' v1' v2') e_is is mc
-      (λ w m. let pt = tr s valid 1 t t' mb.0 m.0 w refl refl in
-      let pv1 = ve s valid 3 v1 v1' mb.1 m.1 w refl refl in
-      let pv2 = ve s valid 5 v2 v2' mb.2 m.2 w refl refl in
+      (λ w m. let pt = tr s valid 1 t t' mb.1.0 m.1.0 w refl refl in
+      let pv1 = ve s valid 3 v1 v1' mb.1.1.0 m.1.1.0 w refl refl in
+      let pv2 = ve s valid 5 v2 v2' mb.1.1.1.0 m.1.1.1.0 w refl refl in
       λ j. Waits (pt j) (pv1 j) (pv2 j))
   act_by (Parked t k x h) other (t', k', x', h', e_is) is mb mc =
       act_by_form (Parked t k x h) other (Parked t' k' x' h') e_is is mc
-      (λ w m. let pt = tr s valid 1 t t' (tree_of_sub s t.0 k.0 mb.0) (tree_of_sub s t'.0 k'.0 m.0) w refl refl in
-      let pk = su s valid 2 t.0 t'.0 k k' mb.0 m.0 w refl refl in
-      let px = item_same s valid x x' mb.1 m.1 (ap (word_at 3) w) in
-      let ph = tr s valid 4 h h' mb.2 m.2 w refl refl in
+      (λ w m. let pt = tr s valid 1 t t' (tree_of_sub s t.0 k.0 mb.1.0) (tree_of_sub s t'.0 k'.0 m.1.0) w refl refl in
+      let pk = su s valid 2 t.0 t'.0 k k' mb.1.0 m.1.0 w refl refl in
+      let px = item_same s valid x x' mb.1.1.0 m.1.1.0 (ap (word_at 3) w) in
+      let ph = tr s valid 4 h h' mb.1.1.1.0 m.1.1.1.0 w refl refl in
       λ j. Parked (pt j) (pk j) (px j) (ph j))
   act_by (Voted t k o) other (t', k', o', e_is) is mb mc =
       act_by_form (Voted t k o) other (Voted t' k' o') e_is is mc
-      (λ w m. let pt = tr s valid 1 t t' (tree_of_sub s t.0 k.0 mb.0) (tree_of_sub s t'.0 k'.0 m.0) w refl refl in
-      let pk = su s valid 2 t.0 t'.0 k k' mb.0 m.0 w refl refl in
-      let po = vote_one s valid o o' (ap (drop 3) w) mb.1 m.1 in
+      (λ w m. let pt = tr s valid 1 t t' (tree_of_sub s t.0 k.0 mb.1.0) (tree_of_sub s t'.0 k'.0 m.1.0) w refl refl in
+      let pk = su s valid 2 t.0 t'.0 k k' mb.1.0 m.1.0 w refl refl in
+      let po = vote_one s valid o o' (ap (drop 3) w) mb.1.1 m.1.1 in
       λ j. Voted (pt j) (pk j) (po j))
   act_by (Freed t) other (t', e_is) is mb mc =
       act_by_form (Freed t) other (Freed t') e_is is mc
-      (λ w m. let pt = tr s valid 1 t t' mb m w refl refl in
+      (λ w m. let pt = tr s valid 1 t t' mb.1.0 m.1.0 w refl refl in
       λ j. Freed (pt j))
   act_by (Decided t c) other (t', c', e_is) is mb mc =
       act_by_form (Decided t c) other (Decided t' c') e_is is mc
-      (λ w m. let pt = tr s valid 1 t t' mb m w refl refl in
+      (λ w m. let pt = tr s valid 1 t t' mb.1.0 m.1.0 w refl refl in
       let pc = commit_one c c' (ap (word_at 2) w) in
       λ j. Decided (pt j) (pc j))
   act_by (Applied t c) other (t', c', e_is) is mb mc =
       act_by_form (Applied t c) other (Applied t' c') e_is is mc
-      (λ w m. let pt = tr s valid 1 t t' mb m w refl refl in
+      (λ w m. let pt = tr s valid 1 t t' mb.1.0 m.1.0 w refl refl in
       let pc = commit_one c c' (ap (word_at 2) w) in
       λ j. Applied (pt j) (pc j))
 

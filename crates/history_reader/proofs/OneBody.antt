@@ -14,10 +14,9 @@ use Rattle.letter_types.specs.declared.bodies.What.{What}
 use Rattle.tx_trees.specs.ScriptData.{ScriptData}
 use Rattle.tx_trees.specs.Valid.{IsValid}
 use Rattle.history_text.specs.TreeNames.{tree_text}
-use Rattle.history_text.specs.Printable.{IsAnswer, IsBody, IsNotice, IsSubOf, IsTreeOf, IsWord}
-use Rattle.history_reader.specs.inside.BodyWords.{answer_words, body_words}
-use Rattle.history_reader.proofs.ListsRead.{answer_there}
-use Rattle.history_reader.proofs.OneWords.{answer_one, apart, commit_one, notice_one, number_one, row_one, tree_same, version_one, what_one, word_at}
+use Rattle.history_text.specs.Printable.{IsBody, IsSubOf, IsTreeOf, IsWord}
+use Rattle.history_reader.specs.inside.BodyWords.{IsAnswer, IsNotice, answer_words, body_words, notice_words}
+use Rattle.history_reader.proofs.OneWords.{answer_one, apart, commit_one, ends_one, notice_one, number_one, row_one, tree_same, version_one, what_one, word_at}
 use Rattle.history_reader.proofs.SubsThere.{small_sub, tree_of_sub}
 
 -- the heads of letters
@@ -207,130 +206,130 @@ module _ (s : ScriptData) (valid : IsValid s) where
   body_by Go other e is mb mc = sym e
   body_by (Root t) other (t', e_is) is mb mc =
       by_form (Root t) other (Root t') e_is is mc
-      (λ ws m. let pt = tr 1 t t' mb m ws refl refl in
+      (λ ws m. let pt = tr 1 t t' mb.1.0 m.1.0 ws refl refl in
       λ j. Root (pt j))
   body_by (Sub t k v) other (t', k', v', e_is) is mb mc =
       by_form (Sub t k v) other (Sub t' k' v') e_is is mc
-      (λ ws m. let pt = tr 1 t t' (tree_of_sub s t.0 k.0 mb.0) (tree_of_sub s t'.0 k'.0 m.0) ws refl refl in
-      let pk = su 2 t.0 t'.0 k k' mb.0 m.0 ws refl refl in
-      let pv = ve 4 v v' mb.1 m.1 ws refl refl in
+      (λ ws m. let pt = tr 1 t t' (tree_of_sub s t.0 k.0 mb.1.0) (tree_of_sub s t'.0 k'.0 m.1.0) ws refl refl in
+      let pk = su 2 t.0 t'.0 k k' mb.1.0 m.1.0 ws refl refl in
+      let pv = ve 4 v v' mb.1.1.0 m.1.1.0 ws refl refl in
       λ j. Sub (pt j) (pk j) (pv j))
   body_by (Done t k v n) other (t', k', v', n', e_is) is mb mc =
       by_form (Done t k v n) other (Done t' k' v' n') e_is is mc
-      (λ ws m. let pt = tr 1 t t' (tree_of_sub s t.0 k.0 mb.0) (tree_of_sub s t'.0 k'.0 m.0) ws refl refl in
-      let pk = su 2 t.0 t'.0 k k' mb.0 m.0 ws refl refl in
-      let pv = ve 4 v v' mb.1 m.1 ws refl refl in
-      let pn = notice_one s valid t.0 n n' (ap (drop 5) ws) mb.2 (subst (λ (x : TreeNo). IsNotice s x.0 n') (sym pt) m.2) in
+      (λ ws m. let pt = tr 1 t t' (tree_of_sub s t.0 k.0 mb.1.0) (tree_of_sub s t'.0 k'.0 m.1.0) ws refl refl in
+      let pk = su 2 t.0 t'.0 k k' mb.1.0 m.1.0 ws refl refl in
+      let pv = ve 4 v v' mb.1.1.0 m.1.1.0 ws refl refl in
+      let pn = notice_one s valid t.0 n n' (subst (λ (x : TreeNo). notice_words s t.0 n ≡ notice_words s x.0 n') (sym pt) (ap (drop 5) ws)) mb.1.1.1 (subst (λ (x : TreeNo). IsNotice s x.0 n') (sym pt) m.1.1.1) in
       λ j. Done (pt j) (pk j) (pv j) (pn j))
   body_by (Reply t v a) other (t', v', a', e_is) is mb mc =
       by_form (Reply t v a) other (Reply t' v' a') e_is is mc
-      (λ ws m. let pt = tr 1 t t' (answer_there s t.0 a mb.1) (answer_there s t'.0 a' m.1) ws refl refl in
-      let pv = ve 3 v v' mb.0 m.0 ws refl refl in
-      let pa = answer_one s valid t.0 a a' (subst (λ (x : TreeNo). answer_words s t.0 a ≡ answer_words s x.0 a') (sym pt) (ap (drop 4) ws)) mb.1 (subst (λ (x : TreeNo). IsAnswer s x.0 a') (sym pt) m.1) in
+      (λ ws m. let pt = tr 1 t t' mb.1.0 m.1.0 ws refl refl in
+      let pv = ve 3 v v' mb.1.1.0 m.1.1.0 ws refl refl in
+      let pa = answer_one s valid t.0 a a' (subst (λ (x : TreeNo). answer_words s t.0 a ≡ answer_words s x.0 a') (sym pt) (ap (drop 4) ws)) mb.1.1.1 (subst (λ (x : TreeNo). IsAnswer s x.0 a') (sym pt) m.1.1.1) in
       λ j. Reply (pt j) (pv j) (pa j))
   body_by Nudge other e is mb mc = sym e
   body_by Advance other (inl e) is mb mc = sym e
   body_by Advance other (inr (i', e)) is mb mc = by_form Advance other (AdvanceNo i') e is mc (λ ws m. absurd (apart 1 2 refl (ap length ws)))
   body_by (AdvanceNo i) other (inl e) is mb mc = by_form (AdvanceNo i) other Advance e is mc (λ ws m. absurd (apart 2 1 refl (ap length ws)))
-  body_by (AdvanceNo i) other (inr (i', e)) is mb mc = by_form (AdvanceNo i) other (AdvanceNo i') e is mc (λ ws m. ap (λ (x : ℕ). AdvanceNo x) (nu 1 i i' (omega arith) (omega arith) ws refl refl))
+  body_by (AdvanceNo i) other (inr (i', e)) is mb mc = by_form (AdvanceNo i) other (AdvanceNo i') e is mc (λ ws m. ap (λ (x : ℕ). AdvanceNo x) (nu 1 i i' (omega (arith, mb.1.0)) (omega (arith, m.1.0)) ws refl refl))
   body_by (Turn v) other (v', e_is) is mb mc =
       by_form (Turn v) other (Turn v') e_is is mc
-      (λ ws m. let pv = ve 1 v v' mb m ws refl refl in
+      (λ ws m. let pv = ve 1 v v' mb.0 m.0 ws refl refl in
       λ j. Turn (pv j))
   body_by (Show v) other (v', e_is) is mb mc =
       by_form (Show v) other (Show v') e_is is mc
-      (λ ws m. let pv = ve 1 v v' mb m ws refl refl in
+      (λ ws m. let pv = ve 1 v v' mb.0 m.0 ws refl refl in
       λ j. Show (pv j))
   body_by (Sweep v) other (v', e_is) is mb mc =
       by_form (Sweep v) other (Sweep v') e_is is mc
-      (λ ws m. let pv = ve 1 v v' mb m ws refl refl in
+      (λ ws m. let pv = ve 1 v v' mb.0 m.0 ws refl refl in
       λ j. Sweep (pv j))
   body_by (Turned v) other (v', e_is) is mb mc =
       by_form (Turned v) other (Turned v') e_is is mc
-      (λ ws m. let pv = ve 1 v v' mb m ws refl refl in
+      (λ ws m. let pv = ve 1 v v' mb.0 m.0 ws refl refl in
       λ j. Turned (pv j))
   body_by (Shown v) other (v', e_is) is mb mc =
       by_form (Shown v) other (Shown v') e_is is mc
-      (λ ws m. let pv = ve 1 v v' mb m ws refl refl in
+      (λ ws m. let pv = ve 1 v v' mb.0 m.0 ws refl refl in
       λ j. Shown (pv j))
   body_by (Swept v) other (v', e_is) is mb mc =
       by_form (Swept v) other (Swept v') e_is is mc
-      (λ ws m. let pv = ve 1 v v' mb m ws refl refl in
+      (λ ws m. let pv = ve 1 v v' mb.0 m.0 ws refl refl in
       λ j. Swept (pv j))
   body_by (AskDone v e) other (v', e', e_is) is mb mc =
       by_form (AskDone v e) other (AskDone v' e') e_is is mc
       (λ ws m. let pv = ve 1 v v' mb.0 m.0 ws refl refl in
-      let pe = nu 3 e e' mb.1 m.1 ws refl refl in
+      let pe = nu 3 e e' mb.1.0 m.1.0 ws refl refl in
       λ j. AskDone (pv j) (pe j))
   body_by (AskAsked v e) other (v', e', e_is) is mb mc =
       by_form (AskAsked v e) other (AskAsked v' e') e_is is mc
       (λ ws m. let pv = ve 1 v v' mb.0 m.0 ws refl refl in
-      let pe = nu 3 e e' mb.1 m.1 ws refl refl in
+      let pe = nu 3 e e' mb.1.0 m.1.0 ws refl refl in
       λ j. AskAsked (pv j) (pe j))
   body_by (DoneRow v e r) other (v', e', r', e_is) is mb mc =
       by_form (DoneRow v e r) other (DoneRow v' e' r') e_is is mc
       (λ ws m. let pv = ve 1 v v' mb.0 m.0 ws refl refl in
-      let pe = nu 3 e e' mb.1 m.1 ws refl refl in
-      let pr = row_one r r' mb.2.1 m.2.1 (ap (drop 4) ws) in
+      let pe = nu 3 e e' mb.1.0 m.1.0 ws refl refl in
+      let pr = row_one r r' mb.1.1.0.1 m.1.1.0.1 (ends_one _ _ (ap (drop 4) ws)) in
       λ j. DoneRow (pv j) (pe j) (pr j))
   body_by (AskedRow v e r) other (v', e', r', e_is) is mb mc =
       by_form (AskedRow v e r) other (AskedRow v' e' r') e_is is mc
       (λ ws m. let pv = ve 1 v v' mb.0 m.0 ws refl refl in
-      let pe = nu 3 e e' mb.1 m.1 ws refl refl in
-      let pr = row_one r r' mb.2.1 m.2.1 (ap (drop 4) ws) in
+      let pe = nu 3 e e' mb.1.0 m.1.0 ws refl refl in
+      let pr = row_one r r' mb.1.1.0.1 m.1.1.0.1 (ends_one _ _ (ap (drop 4) ws)) in
       λ j. AskedRow (pv j) (pe j) (pr j))
   body_by (Advanced v) other (v', e_is) is mb mc =
       by_form (Advanced v) other (Advanced v') e_is is mc
-      (λ ws m. let pv = ve 1 v v' mb m ws refl refl in
+      (λ ws m. let pv = ve 1 v v' mb.0 m.0 ws refl refl in
       λ j. Advanced (pv j))
   body_by (Decide t v c) other (t', v', c', e_is) is mb mc =
       by_form (Decide t v c) other (Decide t' v' c') e_is is mc
-      (λ ws m. let pt = tr 1 t t' mb.0 m.0 ws refl refl in
-      let pv = ve 3 v v' mb.1 m.1 ws refl refl in
+      (λ ws m. let pt = tr 1 t t' mb.1.0 m.1.0 ws refl refl in
+      let pv = ve 3 v v' mb.1.1.0 m.1.1.0 ws refl refl in
       let pc = commit_one c c' (ap (word_at 4) ws) in
       λ j. Decide (pt j) (pv j) (pc j))
   body_by (Decided t v) other (t', v', e_is) is mb mc =
       by_form (Decided t v) other (Decided t' v') e_is is mc
-      (λ ws m. let pt = tr 1 t t' mb.0 m.0 ws refl refl in
-      let pv = ve 3 v v' mb.1 m.1 ws refl refl in
+      (λ ws m. let pt = tr 1 t t' mb.1.0 m.1.0 ws refl refl in
+      let pv = ve 3 v v' mb.1.1.0 m.1.1.0 ws refl refl in
       λ j. Decided (pt j) (pv j))
   body_by (Release t) other (t', e_is) is mb mc =
       by_form (Release t) other (Release t') e_is is mc
-      (λ ws m. let pt = tr 1 t t' mb m ws refl refl in
+      (λ ws m. let pt = tr 1 t t' mb.1.0 m.1.0 ws refl refl in
       λ j. Release (pt j))
   body_by (Wake t k) other (t', k', e_is) is mb mc =
       by_form (Wake t k) other (Wake t' k') e_is is mc
-      (λ ws m. let pt = tr 1 t t' (tree_of_sub s t.0 k.0 mb) (tree_of_sub s t'.0 k'.0 m) ws refl refl in
-      let pk = su 2 t.0 t'.0 k k' mb m ws refl refl in
+      (λ ws m. let pt = tr 1 t t' (tree_of_sub s t.0 k.0 mb.1.0) (tree_of_sub s t'.0 k'.0 m.1.0) ws refl refl in
+      let pk = su 2 t.0 t'.0 k k' mb.1.0 m.1.0 ws refl refl in
       λ j. Wake (pt j) (pk j))
   body_by Lose other e is mb mc = sym e
   body_by (Ask e) other (e', e_is) is mb mc =
       by_form (Ask e) other (Ask e') e_is is mc
-      (λ ws m. let pe = nu 1 e e' mb m ws refl refl in
+      (λ ws m. let pe = nu 1 e e' mb.0 m.0 ws refl refl in
       λ j. Ask (pe j))
   body_by (Numbers e v1 v2 v3) other (e', v1', v2', v3', e_is) is mb mc =
       by_form (Numbers e v1 v2 v3) other (Numbers e' v1' v2' v3') e_is is mc
       (λ ws m. let pe = nu 1 e e' mb.0 m.0 ws refl refl in
-      let pv1 = ve 3 v1 v1' mb.1 m.1 ws refl refl in
-      let pv2 = ve 5 v2 v2' mb.2 m.2 ws refl refl in
-      let pv3 = ve 7 v3 v3' mb.3 m.3 ws refl refl in
+      let pv1 = ve 3 v1 v1' mb.1.0 m.1.0 ws refl refl in
+      let pv2 = ve 5 v2 v2' mb.1.1.0 m.1.1.0 ws refl refl in
+      let pv3 = ve 7 v3 v3' mb.1.1.1.0 m.1.1.1.0 ws refl refl in
       λ j. Numbers (pe j) (pv1 j) (pv2 j) (pv3 j))
   body_by (Wanted e i) other (e', i', e_is) is mb mc =
       by_form (Wanted e i) other (Wanted e' i') e_is is mc
       (λ ws m. let pe = nu 1 e e' mb.0 m.0 ws refl refl in
-      let pi = nu 2 i i' (omega (arith, mb.1)) (omega (arith, m.1)) ws refl refl in
+      let pi = nu 2 i i' (omega (arith, mb.1.0)) (omega (arith, m.1.0)) ws refl refl in
       λ j. Wanted (pe j) (pi j))
   body_by (Order e w v) other (e', w', v', e_is) is mb mc =
       by_form (Order e w v) other (Order e' w' v') e_is is mc
       (λ ws m. let pe = nu 1 e e' mb.0 m.0 ws refl refl in
       let pw = what_one w w' (ap (word_at 2) ws) in
-      let pv = ve 3 v v' mb.1 m.1 ws refl refl in
+      let pv = ve 3 v v' mb.1.0 m.1.0 ws refl refl in
       λ j. Order (pe j) (pw j) (pv j))
   body_by (Obeyed e w v) other (e', w', v', e_is) is mb mc =
       by_form (Obeyed e w v) other (Obeyed e' w' v') e_is is mc
       (λ ws m. let pe = nu 1 e e' mb.0 m.0 ws refl refl in
       let pw = what_one w w' (ap (word_at 2) ws) in
-      let pv = ve 3 v v' mb.1 m.1 ws refl refl in
+      let pv = ve 3 v v' mb.1.0 m.1.0 ws refl refl in
       λ j. Obeyed (pe j) (pw j) (pv j))
 
   pub body_one : (b c : Body) → body_words s b ≡ body_words s c → IsBody s b → IsBody s c → b ≡ c

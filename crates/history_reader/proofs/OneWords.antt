@@ -4,7 +4,7 @@ use Rattle.std.specs.Prelude.{if◌then◌else◌, ◌==◌, codes, decimal, ℤ
 use Rattle.std.specs.Fmt.{signed_decimal}
 use Rattle.std.specs.List.{AllByRecursion}
 use Rattle.std.proofs.lemmas.Bool.{eq-eqb, eqb-true}
-use Rattle.std.proofs.lemmas.List.{append_cancel_left}
+use Rattle.std.proofs.lemmas.List.{append-nil, append_cancel_left}
 use Rattle.tv_base.specs.declared.numbers.ActorNo.{ActorNo}
 use Rattle.tv_base.specs.declared.numbers.ItemNo.{ItemNo}
 use Rattle.tv_base.specs.declared.numbers.TreeNo.{TreeNo}
@@ -28,10 +28,10 @@ use Rattle.tx_trees.specs.Valid.{IsValid}
 use Rattle.tx_trees.specs.declared.parts.ItemRow.{ItemRow}
 use Rattle.tx_trees.specs.declared.parts.Tree.{Tree}
 use Rattle.tx_trees.proofs.SubsOf.{few_nodes}
-use Rattle.history_text.specs.TreeNames.{item_text, tree_text}
+use Rattle.history_text.specs.TreeNames.{actor_text, item_text, tree_text}
 use Rattle.history_text.specs.Values.{bag_text, count_text, more_numbers, value_text}
-use Rattle.history_text.specs.Names.{actor_text}
-use Rattle.history_text.specs.Printable.{AreGot, HasStrictness, IsActor, IsAnswer, IsAmount, IsCause, IsGot, IsNotice, IsOfKind, IsVote, IsWord}
+use Rattle.history_text.specs.LineParts.{commit_word, what_word}
+use Rattle.history_text.specs.Printable.{AreGot, HasStrictness, IsActor, IsAmount, IsCause, IsGot, IsOfKind, IsWord}
 use Rattle.history_text.specs.Parts.{parts_at}
 use Rattle.history_text.specs.Words.{AllAmounts, amount_words, cause_words, got_in_words, got_words}
 use Rattle.history_text.proofs.Bags.{bag_parts, within}
@@ -40,8 +40,12 @@ use Rattle.history_text.proofs.Each.{each_one}
 use Rattle.history_text.proofs.Gots.{cut_got, item_lacks, of_item}
 use Rattle.history_text.proofs.OneToOne.{item_one, signed_one, tree_one}
 use Rattle.history_text.specs.Numbers.{is_plain_number}
-use Rattle.history_reader.specs.inside.BodyWords.{AreLineWords, answer_words, commit_word_of, notice_words, number_words, order_word, vote_words, whole_words}
+use Rattle.history_reader.specs.inside.BodyWords.{AreLineWords, IsAnswer, IsNotice, IsVote, answer_words, notice_words, number_words, vote_words, whole_words}
 use Rattle.history_reader.proofs.ListsRead.{strictness_one, whole_strict}
+
+-- lists with nothing behind them
+pub ends_one : {X : Type 0} (xs ys : List X) → xs ++ [] ≡ ys ++ [] → xs ≡ ys
+ends_one xs ys is = sym (append-nil xs) ∙ is ∙ append-nil ys
 
 -- numbers that differ
 pub apart : (m n : ℕ) → (m == n) ≡ false → m ≡ n → ⊥
@@ -167,8 +171,8 @@ cause_one s valid (Short x n) (Conflict y u) is mc md = absurd (apart 115 99 ref
 cause_one s valid (Short x n) (Newer y w) is mc md = absurd (apart 115 110 refl (first_byte 0 _ _ is))
 
 pub vote_one : (s : ScriptData) → IsValid s → (v w : Vote) → vote_words s v ≡ vote_words s w → IsVote s v → IsVote s w → v ≡ w
-vote_one s valid (votes.Yes vs) (votes.Yes ws) is mv mw = ap (λ (x : List (ItemNo × Value)). votes.Yes x) (gots_one s valid vs ws (ap (drop 1) is) mv mw)
-vote_one s valid (votes.No c) (votes.No d) is mv mw = ap (λ (x : Cause). votes.No x) (cause_one s valid c d (ap (drop 1) is) mv mw)
+vote_one s valid (votes.Yes vs) (votes.Yes ws) is mv mw = ap (λ (x : List (ItemNo × Value)). votes.Yes x) (gots_one s valid vs ws (ends_one _ _ (ap (drop 1) is)) mv.1.0 mw.1.0)
+vote_one s valid (votes.No c) (votes.No d) is mv mw = ap (λ (x : Cause). votes.No x) (cause_one s valid c d (ends_one _ _ (ap (drop 1) is)) mv.1.0 mw.1.0)
 vote_one s valid (votes.Yes vs) (votes.No d) is mv mw = absurd (apart 121 110 refl (first_byte 0 _ _ is))
 vote_one s valid (votes.No c) (votes.Yes ws) is mv mw = absurd (apart 110 121 refl (first_byte 0 _ _ is))
 
@@ -177,36 +181,36 @@ clash o t f =
     let same : true ≡ false = strictness_one o true false t f in
     cc
 
-pub notice_one : (s : ScriptData) → IsValid s → (t : ℕ) (m n : Notice) → notice_words s m ≡ notice_words s n → IsNotice s t m → IsNotice s t n → m ≡ n
-notice_one s valid t (notices.Did vs) (notices.Did ws) is hm hn = ap (λ (x : List (ItemNo × Value)). notices.Did x) (gots_one s valid vs ws is hm.1 hn.1)
+pub notice_one : (s : ScriptData) → IsValid s → (t : ℕ) (m n : Notice) → notice_words s t m ≡ notice_words s t n → IsNotice s t m → IsNotice s t n → m ≡ n
+notice_one s valid t (notices.Did vs) (notices.Did ws) is hm hn = ap (λ (x : List (ItemNo × Value)). notices.Did x) (gots_one s valid vs ws (ends_one _ _ is) hm.1.0 hn.1.0)
 notice_one s valid t (notices.Did vs) (notices.Yes ws) is hm hn = absurd (clash (slice_get s.trees t) hn.0 hm.0)
 notice_one s valid t (notices.Did vs) (notices.No d) is hm hn = absurd (clash (slice_get s.trees t) hn.0 hm.0)
 notice_one s valid t (notices.Yes vs) (notices.Did ws) is hm hn = absurd (clash (slice_get s.trees t) hm.0 hn.0)
 notice_one s valid t (notices.No c) (notices.Did ws) is hm hn = absurd (clash (slice_get s.trees t) hm.0 hn.0)
-notice_one s valid t (notices.Yes vs) (notices.Yes ws) is hm hn = ap (λ (x : List (ItemNo × Value)). notices.Yes x) (gots_one s valid vs ws (ap (drop 1) is) hm.1 hn.1)
-notice_one s valid t (notices.No c) (notices.No d) is hm hn = ap (λ (x : Cause). notices.No x) (cause_one s valid c d (ap (drop 1) is) hm.1 hn.1)
+notice_one s valid t (notices.Yes vs) (notices.Yes ws) is hm hn = ap (λ (x : List (ItemNo × Value)). notices.Yes x) (gots_one s valid vs ws (ends_one _ _ (ap (drop 1) is)) hm.1.1.0 hn.1.1.0)
+notice_one s valid t (notices.No c) (notices.No d) is hm hn = ap (λ (x : Cause). notices.No x) (cause_one s valid c d (ends_one _ _ (ap (drop 1) is)) hm.1.1.0 hn.1.1.0)
 notice_one s valid t (notices.Yes vs) (notices.No d) is hm hn = absurd (apart 121 110 refl (first_byte 0 _ _ is))
 notice_one s valid t (notices.No c) (notices.Yes ws) is hm hn = absurd (apart 110 121 refl (first_byte 0 _ _ is))
 
 -- where a tree is strict, it was committed or aborted
 not_aborted : (s : ScriptData) (t : ℕ) (vs : List (ItemNo × Value)) (d : Cause) → HasStrictness true (slice_get s.trees t) → answer_words s t (answers.Whole vs) ≡ answer_words s t (answers.Aborted d) → ⊥
 not_aborted s t vs d strict is =
-    apart 99 97 refl (first_byte 0 _ _ (ap (λ (w : List (List ℕ)). w ++ got_words s vs) (sym (whole_strict (slice_get s.trees t) strict)) ∙ is))
+    apart 99 97 refl (first_byte 0 _ _ (ap (λ (w : List (List ℕ)). w ++ (got_words s vs ++ [])) (sym (whole_strict (slice_get s.trees t) strict)) ∙ is))
 
 pub answer_one : (s : ScriptData) → IsValid s → (t : ℕ) (a b : Answer) → answer_words s t a ≡ answer_words s t b → IsAnswer s t a → IsAnswer s t b → a ≡ b
 answer_one s valid t (answers.Whole vs) (answers.Whole ws) is ha hb =
-    ap (λ (x : List (ItemNo × Value)). answers.Whole x) (gots_one s valid vs ws (append_cancel_left (whole_words (slice_get s.trees t)) (got_words s vs) (got_words s ws) is) ha.1 hb.1)
-answer_one s valid t (answers.Aborted c) (answers.Aborted d) is ha hb = ap (λ (x : Cause). answers.Aborted x) (cause_one s valid c d (ap (drop 1) is) ha.1 hb.1)
+    ap (λ (x : List (ItemNo × Value)). answers.Whole x) (gots_one s valid vs ws (ends_one _ _ (append_cancel_left (whole_words (slice_get s.trees t)) (got_words s vs ++ []) (got_words s ws ++ []) is)) ha.1.0 hb.1.0)
+answer_one s valid t (answers.Aborted c) (answers.Aborted d) is ha hb = ap (λ (x : Cause). answers.Aborted x) (cause_one s valid c d (ends_one _ _ (ap (drop 1) is)) ha.1.1.0 hb.1.1.0)
 answer_one s valid t (answers.Whole vs) (answers.Aborted d) is ha hb = absurd (not_aborted s t vs d hb.0 is)
 answer_one s valid t (answers.Aborted c) (answers.Whole ws) is ha hb = absurd (not_aborted s t ws c ha.0 (sym is))
 
-pub commit_one : (a b : Bool) → commit_word_of a ≡ commit_word_of b → a ≡ b
+pub commit_one : (a b : Bool) → commit_word a ≡ commit_word b → a ≡ b
 commit_one true true is = refl
 commit_one false false is = refl
 commit_one true false is = absurd (apart 99 97 refl (byte_at 0 _ _ is))
 commit_one false true is = absurd (apart 97 99 refl (byte_at 0 _ _ is))
 
-pub what_one : (a b : What) → order_word a ≡ order_word b → a ≡ b
+pub what_one : (a b : What) → what_word a ≡ what_word b → a ≡ b
 what_one whats.Turn whats.Turn is = refl
 what_one whats.Show whats.Show is = refl
 what_one whats.Sweep whats.Sweep is = refl

@@ -3,13 +3,13 @@ use Rattle.std.proofs.Common.{◌≡◌, ◌∙◌, ◌∷◌, ◌++◌, [], Lis
 use Rattle.std.specs.Prelude.{codes}
 use Rattle.std.specs.List.{AllByRecursion}
 use Rattle.letter_types.specs.declared.acts.Act.{Act}
+use Rattle.letter_types.specs.declared.acts.Act.TheVariants as acts
 use Rattle.letter_types.specs.declared.entries.Outgoing.{Outgoing}
 use Rattle.tx_trees.specs.ScriptData.{ScriptData}
 use Rattle.tx_trees.specs.Valid.{IsValid}
-use Rattle.history_text.specs.Acts.{act_text}
-use Rattle.history_text.specs.Bodies.{body_text}
 use Rattle.history_text.specs.History.{act_line, act_lines, sent_line, sent_lines}
-use Rattle.history_text.specs.Names.{actor_text}
+use Rattle.history_text.specs.LineParts.{act_parts, body_parts, parts_text}
+use Rattle.history_text.specs.TreeNames.{actor_text}
 use Rattle.history_text.specs.Printable.{IsAct, IsSent}
 use Rattle.history_text.specs.Parts.{lacks, parts_at}
 use Rattle.history_reader.specs.inside.Heads.{act_line_words, sent_words}
@@ -21,28 +21,43 @@ use Rattle.history_reader.proofs.Spelling.{both, line, word}
 
 -- a letter's line without its end
 abbrev pub sent_text : ScriptData → Outgoing → List ℕ
-sent_text s o = codes "sent" ++ ((32 ∷ actor_text s o.to.0) ++ (32 ∷ body_text s o.body))
+sent_text s o = codes "sent" ++ ((32 ∷ actor_text s o.to.0) ++ parts_text s (body_parts o.body))
 
 abbrev pub act_line_text : ScriptData → Act → List ℕ
-act_line_text s a = codes "act" ++ (32 ∷ act_text s a)
+act_line_text s a = codes "act" ++ parts_text s (act_parts a)
 
 sent_is : (s : ScriptData) (o : Outgoing) → IsValid s → IsSent s o → IsPrinted (sent_line s o) (sent_text s o) (sent_words s o)
 sent_is s o valid may =
     let actor : List ℕ = actor_text s o.to.0 in
-    let body : List ℕ = body_text s o.body in
+    let body : List ℕ = parts_text s (body_parts o.body) in
     record {
-      is = ap (λ (t : List ℕ). codes "sent " ++ t) (sym (append_assoc actor (32 ∷ body) (10 ∷ [])));
+      is = ap (λ (t : List ℕ). codes "sent " ++ t) (sym (append_assoc actor body (10 ∷ [])));
       of = line (codes "sent") (record { no_space = refl; no_end = refl }) (both (word actor (actor_solid s o.to.0 valid may.0)) (body_tail s valid o.body may.1));
     }
 
 act_is : (s : ScriptData) (a : Act) → IsValid s → IsAct s a → IsPrinted (act_line s a) (act_line_text s a) (act_line_words s a)
 act_is s a valid may = record { is = refl; of = line (codes "act") (record { no_space = refl; no_end = refl }) (act_tail s valid a may) }
 
+-- a space is behind the word that begins an act's line
+pub act_begun : (s : ScriptData) (a : Act) (rest : List ℕ) → begins (codes "act ") (act_line s a ++ rest) ≡ true
+act_begun s (acts.Born t v) rest = refl
+act_begun s (acts.Did t k vs) rest = refl
+act_begun s (acts.Turned v) rest = refl
+act_begun s (acts.Showed v) rest = refl
+act_begun s (acts.Swept v) rest = refl
+act_begun s acts.Finished rest = refl
+act_begun s (acts.Waits t u r) rest = refl
+act_begun s (acts.Parked t k x h) rest = refl
+act_begun s (acts.Voted t k vote) rest = refl
+act_begun s (acts.Freed t) rest = refl
+act_begun s (acts.Decided t b) rest = refl
+act_begun s (acts.Applied t b) rest = refl
+
 pub letters_printed : (s : ScriptData) → IsValid s → ArePrinted (codes "sent ") (sent_line s) (sent_lines s) (sent_words s) (IsSent s)
 letters_printed s valid = record { text = sent_text s; none = refl; more = λ x xs. refl; begun = λ x rest. refl; line = λ x may. sent_is s x valid may }
 
 pub acts_printed : (s : ScriptData) → IsValid s → ArePrinted (codes "act ") (act_line s) (act_lines s) (act_line_words s) (IsAct s)
-acts_printed s valid = record { text = act_line_text s; none = refl; more = λ x xs. refl; begun = λ x rest. refl; line = λ x may. act_is s x valid may }
+acts_printed s valid = record { text = act_line_text s; none = refl; more = λ x xs. refl; begun = act_begun s; line = λ x may. act_is s x valid may }
 
 pub no_letter_line : (s : ScriptData) (old now : List ℕ) (read : List Outgoing) → IsValid s → old ≡ sent_lines s read ++ now → AllByRecursion (IsSent s) read → begins (codes "sent ") now ≡ true → lacks 10 now ≡ true
     → (xs : List Outgoing) (rest : List ℕ) → old ≡ sent_lines s xs ++ rest → AllByRecursion (IsSent s) xs → begins (codes "sent ") rest ≡ false → ⊥

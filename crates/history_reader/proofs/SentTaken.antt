@@ -158,7 +158,7 @@ found client h id l stamped is = by id.stamp.0 refl
 
 -- No entry sends Go. So a letter that was sent and not taken is found.
 not_go : (s : ScriptData) (body : Body) → IsBody s body → is_spent body ≡ false
-not_go s Go may = absurd may
+not_go s Go may = absurd may.0
 not_go s _ may = refl
 
 finds_left : (id : LetterId) (from : ActorNo) (b : Bool) (o : Outgoing) → b ≡ false → is_spent o.body ≡ false

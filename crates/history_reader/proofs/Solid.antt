@@ -14,9 +14,8 @@ use Rattle.tx_trees.specs.Names.{is_name}
 use Rattle.tx_trees.specs.ScriptData.{ScriptData, client_of}
 use Rattle.tx_trees.specs.Valid.{IsValid}
 use Rattle.tx_trees.proofs.SubsOf.{few_nodes}
-use Rattle.history_text.specs.TreeNames.{got_text, item_text, tree_text}
+use Rattle.history_text.specs.TreeNames.{actor_text, got_text, item_text, tree_text}
 use Rattle.history_text.specs.Values.{bag_text, count_text, more_numbers, value_text}
-use Rattle.history_text.specs.Names.{actor_text}
 use Rattle.history_text.specs.Printable.{AreGot, IsActor, IsAmount, IsGot, IsOfKind}
 use Rattle.history_text.specs.Parts.{lacks}
 use Rattle.history_text.specs.Words.{AllAmounts, got_in_words, got_words}

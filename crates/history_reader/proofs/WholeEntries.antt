@@ -12,7 +12,7 @@ use Rattle.letter_types.specs.declared.entries.Outgoing.{Outgoing}
 use Rattle.tx_trees.specs.ScriptData.{ScriptData}
 use Rattle.tx_trees.specs.Valid.{IsValid}
 use Rattle.history_text.specs.History.{act_line, act_lines, entry_line, entry_lines, sent_line, sent_lines, took_text}
-use Rattle.history_text.specs.Names.{actor_text}
+use Rattle.history_text.specs.TreeNames.{actor_text}
 use Rattle.history_text.specs.Printable.{Begins, EndsEntry, IsAct, IsPrintable, IsSent}
 use Rattle.history_text.specs.Parts.{lacks, parts_at}
 use Rattle.history_text.proofs.Cuts.{one_cut}

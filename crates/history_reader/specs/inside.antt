@@ -1,4 +1,3 @@
-pub mod ActWords
 pub mod BodyWords
 pub mod Finding
 pub mod Heads

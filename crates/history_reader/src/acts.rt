@@ -2,7 +2,7 @@
 ghost use Rattle.std.specs.Prelude.{◌≡◌, ◌∷◌, codes, IfOk};
 ghost use Rattle.history_text.specs.Printable.{IsAct};
 ghost use Rattle.history_text.specs.Exact.{IsReadBack};
-ghost use Rattle.history_reader.specs.inside.ActWords.{act_words};
+ghost use Rattle.history_reader.specs.inside.BodyWords.{act_words};
 
 use crate::nexts::{
     is_word, next_commit, next_item, next_number, next_sub, next_tree, next_version, number_behind,

@@ -3,7 +3,7 @@ ghost use Rattle.std.specs.Prelude.{ℕ, List, ◌≡◌, ◌∷◌, [], codes, 
 ghost use Rattle.history_text.specs.Printable.{IsHalfWord, IsSubOf, IsWord};
 ghost use Rattle.history_text.specs.Words.{HasItem, HasTree, name_of_item, name_of_tree};
 ghost use Rattle.tx_trees.specs.ScriptData.{sub_at};
-ghost use Rattle.history_reader.specs.inside.BodyWords.{commit_word_of, order_word};
+ghost use Rattle.history_text.specs.LineParts.{commit_word, what_word};
 ghost use Rattle.history_reader.specs.inside.Next.{IsNext};
 
 use history_text::{Parts, read_half, read_item, read_number, read_tree};
@@ -106,7 +106,7 @@ pub(crate) fn next_version(words: &mut Parts) -> Option<Version>
 
 // Whether a strict tree commits.
 pub(crate) fn next_commit(words: &mut Parts) -> Option<bool>
-    ensures { IsNext commit_word_of (λ commit. Unit {0}) words.old words.new result }
+    ensures { IsNext commit_word (λ commit. Unit {0}) words.old words.new result }
 {
     let word = words.next()?;
     if is_word(word, b"commit") {
@@ -120,7 +120,7 @@ pub(crate) fn next_commit(words: &mut Parts) -> Option<bool>
 
 // What is to be done with a version, or was done.
 pub(crate) fn next_what(words: &mut Parts) -> Option<What>
-    ensures { IsNext order_word (λ what. Unit {0}) words.old words.new result }
+    ensures { IsNext what_word (λ what. Unit {0}) words.old words.new result }
 {
     let word = words.next()?;
     if is_word(word, b"turn") {
@@ -137,8 +137,8 @@ pub(crate) fn next_what(words: &mut Parts) -> Option<What>
 
 // An epoch, what is to be done, and a version, which are all that is left.
 pub(crate) fn last_order(words: &mut Parts) -> Option<(u64, What, Version)>
-    ensures some { IfSome result (λ o. (words.old ≡ decimal o.0 ∷ order_word o.1 ∷ decimal o.2.0 ∷ []) × IsWord o.0 × IsWord o.2.0) }
-    ensures none { IsNone result → (e : ℕ) (what : What) (v : Version) → words.old ≡ decimal e ∷ order_word what ∷ decimal v.0 ∷ [] → IsWord e → IsWord v.0 → ⊥ }
+    ensures some { IfSome result (λ o. (words.old ≡ decimal o.0 ∷ what_word o.1 ∷ decimal o.2.0 ∷ []) × IsWord o.0 × IsWord o.2.0) }
+    ensures none { IsNone result → (e : ℕ) (what : What) (v : Version) → words.old ≡ decimal e ∷ what_word what ∷ decimal v.0 ∷ [] → IsWord e → IsWord v.0 → ⊥ }
 {
     let epoch = next_number(words)?;
     let what = next_what(words)?;

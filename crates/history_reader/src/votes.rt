@@ -1,10 +1,10 @@
 // Rows, votes, notices and answers.
 ghost use Rattle.std.specs.Prelude.{◌∷◌, true, codes, IfOk, slice_get};
 ghost use Rattle.std.specs.List.{AllByRecursion};
-ghost use Rattle.history_text.specs.Printable.{HasStrictness, IsAnswer, IsNotice, IsRow, IsVote, IsWord};
+ghost use Rattle.history_text.specs.Printable.{HasStrictness, IsRow, IsWord};
 ghost use Rattle.history_text.specs.Exact.{IsReadBack};
 ghost use Rattle.history_text.specs.Words.{HasTree};
-ghost use Rattle.history_reader.specs.inside.BodyWords.{AreLineWords, IsAnswerRead, IsNoticeRead, answer_words, notice_words, number_words, vote_words};
+ghost use Rattle.history_reader.specs.inside.BodyWords.{AreLineWords, IsAnswer, IsAnswerRead, IsNotice, IsNoticeRead, IsVote, answer_words, notice_words, number_words, vote_words};
 
 use crate::nexts::is_word;
 use history_text::{Parts, read_cause, read_number, read_values};
@@ -106,7 +106,7 @@ fn notice_of(
     words: &mut Parts,
 ) -> Result<Option<Notice>, NoMemory>
     requires { HasTree script.now tree }
-    ensures { IfOk result (λ read. IsReadBack (notice_words script.now) (IsNotice script.now tree.0) words.old read) }
+    ensures { IfOk result (λ read. IsReadBack (notice_words script.now tree.0) (IsNotice script.now tree.0) words.old read) }
 {
     if !is_strict(script, tree) {
         let Some(values) = read_values(alloc, script, words)? else {

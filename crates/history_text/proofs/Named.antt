@@ -21,6 +21,7 @@ use Rattle.tx_trees.proofs.SubsOf.{all_at}
 use Rattle.tx_trees.specs.Found.{tree_place}
 use Rattle.history_text.specs.TreeNames.{item_text, tree_text}
 use Rattle.history_text.specs.Exact.{IsReadBack}
+use Rattle.history_text.specs.Printable.{HasStrictness}
 use Rattle.history_text.specs.Words.{HasItem, HasTree, name_of_item, name_of_tree}
 
 -- what passes a test is behind the first that does, or is it
@@ -55,6 +56,12 @@ pub name_len : (name : List ℕ) → IsTrue (is_name name) → (1 ≤ length nam
 name_len name h =
     let both = left_true (has_name_len name) _ h in
     (leb-true 1 (length name) (left_true _ _ both), leb-true (length name) 32 (right_true _ _ both))
+
+-- a tree that is strict or isn't is there
+pub strictness_there : (trees : List Tree) (t : ℕ) (b : Bool) → HasStrictness b (slice_get trees t) → t < length trees
+strictness_there [] t b is = absurd is
+strictness_there (x ∷ trees) zero b is = omega arith
+strictness_there (x ∷ trees) (suc t) b is = omega (arith, strictness_there trees t b is)
 
 -- the tree at a place that is there
 pub tree_there : (s : ScriptData) (t : ℕ) → IsValid s → t < length s.trees → (tree : Tree) × (slice_get s.trees t ≡ Some tree) × (tree_text s t ≡ tree.name) × IsTrue (is_name tree.name)

@@ -1,14 +1,13 @@
 -- The lines of a history: a function of the script and the history.
-use Rattle.std.specs.Prelude.{ℕ, List, [], ◌∷◌, ◌++◌, codes}
+use Rattle.std.specs.Prelude.{ℕ, List, ◌++◌, codes, flat_map}
 use Rattle.letter_types.specs.declared.acts.Act.{Act}
 use Rattle.letter_types.specs.declared.entries.Entry.{Entry}
 use Rattle.letter_types.specs.declared.entries.LetterId.{LetterId}
 use Rattle.letter_types.specs.declared.entries.Outgoing.{Outgoing}
 use Rattle.tx_trees.specs.ScriptData.{ScriptData}
 use Rattle.history_text.specs.Values.{count_text}
-use Rattle.history_text.specs.Acts.{act_text}
-use Rattle.history_text.specs.Bodies.{body_text}
-use Rattle.history_text.specs.Names.{actor_text}
+use Rattle.history_text.specs.LineParts.{act_parts, body_parts, parts_text}
+use Rattle.history_text.specs.TreeNames.{actor_text}
 
 -- the letter that was taken, by the stamp of the entry that sent it and its place there
 abbrev pub took_text : LetterId → List ℕ
@@ -20,18 +19,16 @@ entry_line s e =
     ++ (codes " " ++ (actor_text s e.actor.0 ++ (took_text e.took.id ++ codes "\n")))
 
 abbrev pub sent_line : ScriptData → Outgoing → List ℕ
-sent_line s o = codes "sent " ++ (actor_text s o.to.0 ++ (codes " " ++ (body_text s o.body ++ codes "\n")))
+sent_line s o = codes "sent " ++ (actor_text s o.to.0 ++ (parts_text s (body_parts o.body) ++ codes "\n"))
 
 abbrev pub act_line : ScriptData → Act → List ℕ
-act_line s a = codes "act " ++ (act_text s a ++ codes "\n")
+act_line s a = codes "act" ++ (parts_text s (act_parts a) ++ codes "\n")
 
 abbrev pub sent_lines : ScriptData → List Outgoing → List ℕ
-sent_lines s [] = []
-sent_lines s (o ∷ os) = sent_line s o ++ sent_lines s os
+sent_lines s os = flat_map (sent_line s) os
 
 abbrev pub act_lines : ScriptData → List Act → List ℕ
-act_lines s [] = []
-act_lines s (a ∷ acts) = act_line s a ++ act_lines s acts
+act_lines s acts = flat_map (act_line s) acts
 
 -- an entry, the letters that it sent, and what it did beside
 abbrev pub entry_lines : ScriptData → Entry → List ℕ
@@ -39,5 +36,4 @@ entry_lines s e = entry_line s e ++ (sent_lines s e.sent ++ act_lines s e.acts)
 
 -- the lines of all entries, in order
 abbrev pub history_lines_of : ScriptData → List Entry → List ℕ
-history_lines_of s [] = []
-history_lines_of s (e ∷ es) = entry_lines s e ++ history_lines_of s es
+history_lines_of s h = flat_map (entry_lines s) h

@@ -1,8 +1,6 @@
 pub mod Values
 pub mod TreeNames
-pub mod Names
-pub mod Bodies
-pub mod Acts
+pub mod LineParts
 pub mod History
 pub mod Printable
 pub mod Exact

@@ -11,9 +11,8 @@ use Rattle.commute_ops.specs.declared.value.Value.{Value}
 use Rattle.letter_types.specs.declared.votes.Cause.{Cause}
 use Rattle.letter_types.specs.declared.votes.Cause.TheVariants.{Conflict, Newer, Short}
 use Rattle.tx_trees.specs.ScriptData.{ScriptData}
-use Rattle.history_text.specs.TreeNames.{item_text, tree_text}
+use Rattle.history_text.specs.TreeNames.{actor_text, item_text, tree_text}
 use Rattle.history_text.specs.Values.{value_text}
-use Rattle.history_text.specs.Names.{actor_text}
 use Rattle.history_text.specs.Printable.{IsActor, IsAmount, IsItemOf, IsTreeOf}
 
 abbrev pub name_of_tree : ScriptData → TreeNo → List ℕ

@@ -88,7 +88,6 @@ fn push_letter(text: &mut Text, script: &Script, letter: &Outgoing) -> Result<()
 {
     text.push_all(b"sent ")?;
     push_actor(text, script, letter.to)?;
-    text.push_all(b" ")?;
     push_body(text, script, &letter.body)?;
     text.push_all(b"\n")
 }
@@ -107,7 +106,7 @@ fn push_acts(text: &mut Text, script: &Script, acts: &[Act]) -> Result<(), NoMem
 fn push_one(text: &mut Text, script: &Script, act: &Act) -> Result<(), NoMemory>
     ensures { OnOk result (text.new ≡ text.old ++ act_line script.now act.now) }
 {
-    text.push_all(b"act ")?;
+    text.push_all(b"act")?;
     push_act(text, script, act)?;
     text.push_all(b"\n")
 }

@@ -1,7 +1,8 @@
 // What letters say.
-ghost use Rattle.std.specs.Prelude.{◌≡◌, ◌++◌, OnOk};
+ghost use Rattle.std.specs.Prelude.{◌≡◌, ◌++◌, OnOk, codes, flat_map};
 ghost use Rattle.std.specs.Str.{IsAscii};
-ghost use Rattle.history_text.specs.Bodies.{at_version, body_text, numbers_text, order_text, round_text, three_text};
+ghost use Rattle.history_text.specs.LineParts.{body_parts, parts_text, what_word};
+ghost use Rattle.history_text.specs.Values.{count_text};
 
 use crate::actor_names::push_sub_word;
 use crate::counts::push_count;
@@ -13,7 +14,7 @@ use tx_trees::Script;
 
 // A version after its word.
 pub(crate) fn push_version(text: &mut Text, version: Version) -> Result<(), NoMemory>
-    ensures { OnOk result (text.new ≡ text.old ++ at_version version.0) }
+    ensures { OnOk result (text.new ≡ text.old ++ count_text (codes " version ") version.0) }
 {
     push_count(text, b" version ", version.0)
 }
@@ -21,7 +22,7 @@ pub(crate) fn push_version(text: &mut Text, version: Version) -> Result<(), NoMe
 // A word, a version and a round.
 fn push_round(text: &mut Text, word: &[u8], version: Version, round: u64) -> Result<(), NoMemory>
     requires { IsAscii word.now }
-    ensures { OnOk result (text.new ≡ text.old ++ round_text word.now version.0 round) }
+    ensures { OnOk result (text.new ≡ text.old ++ (count_text word.now version.0 ++ count_text (codes " round ") round)) }
 {
     push_count(text, word, version.0)?;
     push_count(text, b" round ", round)
@@ -36,7 +37,7 @@ fn push_row(
     row: &Row,
 ) -> Result<(), NoMemory>
     requires { IsAscii word.now }
-    ensures { OnOk result (text.new ≡ text.old ++ (round_text word.now version.0 round ++ numbers_text row.now)) }
+    ensures { OnOk result (text.new ≡ text.old ++ (count_text word.now version.0 ++ (count_text (codes " round ") round ++ flat_map (count_text (codes " ")) row.now))) }
 {
     push_round(text, word, version, round)?;
     push_numbers(text, row.items())
@@ -44,7 +45,7 @@ fn push_row(
 
 // Numbers, each after a space.
 fn push_numbers(text: &mut Text, numbers: &[u64]) -> Result<(), NoMemory>
-    ensures { OnOk result (text.new ≡ text.old ++ numbers_text numbers.now) }
+    ensures { OnOk result (text.new ≡ text.old ++ flat_map (count_text (codes " ")) numbers.now) }
 {
     for number in numbers {
         push_count(text, b" ", *number)?;
@@ -54,7 +55,7 @@ fn push_numbers(text: &mut Text, numbers: &[u64]) -> Result<(), NoMemory>
 
 // A node's three versions.
 fn push_three(text: &mut Text, update: Version, read: Version, low: Version) -> Result<(), NoMemory>
-    ensures { OnOk result (text.new ≡ text.old ++ three_text update.0 read.0 low.0) }
+    ensures { OnOk result (text.new ≡ text.old ++ (count_text (codes " update ") update.0 ++ (count_text (codes " read ") read.0 ++ count_text (codes " low ") low.0))) }
 {
     push_count(text, b" update ", update.0)?;
     push_count(text, b" read ", read.0)?;
@@ -70,7 +71,7 @@ fn push_order(
     version: Version,
 ) -> Result<(), NoMemory>
     requires { IsAscii word.now }
-    ensures { OnOk result (text.new ≡ text.old ++ order_text word.now epoch what version.0) }
+    ensures { OnOk result (text.new ≡ text.old ++ (count_text word.now epoch ++ (codes " " ++ (what_word what ++ count_text (codes " ") version.0)))) }
 {
     push_count(text, word, epoch)?;
     match what {
@@ -80,15 +81,15 @@ fn push_order(
     }
 }
 
-// What a letter says.
+// What a letter says, part by part.
 pub(crate) fn push_body(text: &mut Text, script: &Script, body: &Body) -> Result<(), NoMemory>
-    ensures { OnOk result (text.new ≡ text.old ++ body_text script.now body.now) }
+    ensures { OnOk result (text.new ≡ text.old ++ parts_text script.now (body_parts body.now)) }
 {
     match body {
-        Body::Go => text.push_all(b"go"),
-        Body::Root { tree } => push_tree_word(text, script, b"root ", *tree),
+        Body::Go => text.push_all(b" go"),
+        Body::Root { tree } => push_tree_word(text, script, b" root ", *tree),
         Body::Sub { tree, sub, version } => {
-            push_sub_word(text, script, b"sub ", *tree, *sub)?;
+            push_sub_word(text, script, b" sub ", *tree, *sub)?;
             push_version(text, *version)
         }
         Body::Done {
@@ -97,80 +98,80 @@ pub(crate) fn push_body(text: &mut Text, script: &Script, body: &Body) -> Result
             version,
             notice,
         } => {
-            push_sub_word(text, script, b"done ", *tree, *sub)?;
+            push_sub_word(text, script, b" done ", *tree, *sub)?;
             push_version(text, *version)?;
-            push_notice(text, script, notice)
+            push_notice(text, script, *tree, notice)
         }
         Body::Reply {
             tree,
             version,
             answer,
         } => {
-            push_tree_word(text, script, b"reply ", *tree)?;
+            push_tree_word(text, script, b" reply ", *tree)?;
             push_version(text, *version)?;
             push_answer(text, script, *tree, answer)
         }
-        Body::Nudge => text.push_all(b"nudge"),
-        Body::Advance => text.push_all(b"advance"),
-        Body::Turn { version } => push_count(text, b"turn ", version.0),
-        Body::Show { version } => push_count(text, b"show ", version.0),
-        Body::Sweep { version } => push_count(text, b"sweep ", version.0),
-        Body::Turned { version } => push_count(text, b"turned ", version.0),
-        Body::Shown { version } => push_count(text, b"shown ", version.0),
-        Body::Swept { version } => push_count(text, b"swept ", version.0),
-        Body::AskDone { version, round } => push_round(text, b"askdone ", *version, *round),
-        Body::AskAsked { version, round } => push_round(text, b"askasked ", *version, *round),
+        Body::Nudge => text.push_all(b" nudge"),
+        Body::Advance => text.push_all(b" advance"),
+        Body::Turn { version } => push_count(text, b" turn ", version.0),
+        Body::Show { version } => push_count(text, b" show ", version.0),
+        Body::Sweep { version } => push_count(text, b" sweep ", version.0),
+        Body::Turned { version } => push_count(text, b" turned ", version.0),
+        Body::Shown { version } => push_count(text, b" shown ", version.0),
+        Body::Swept { version } => push_count(text, b" swept ", version.0),
+        Body::AskDone { version, round } => push_round(text, b" askdone ", *version, *round),
+        Body::AskAsked { version, round } => push_round(text, b" askasked ", *version, *round),
         Body::DoneRow {
             version,
             round,
             row,
-        } => push_row(text, b"donerow ", *version, *round, row),
+        } => push_row(text, b" donerow ", *version, *round, row),
         Body::AskedRow {
             version,
             round,
             row,
-        } => push_row(text, b"askedrow ", *version, *round, row),
-        Body::Advanced { version } => push_count(text, b"advanced ", version.0),
+        } => push_row(text, b" askedrow ", *version, *round, row),
+        Body::Advanced { version } => push_count(text, b" advanced ", version.0),
         Body::Decide {
             tree,
             version,
             commit,
         } => {
-            push_tree_word(text, script, b"decide ", *tree)?;
+            push_tree_word(text, script, b" decide ", *tree)?;
             push_version(text, *version)?;
             push_commit(text, *commit)
         }
         Body::Decided { tree, version } => {
-            push_tree_word(text, script, b"decided ", *tree)?;
+            push_tree_word(text, script, b" decided ", *tree)?;
             push_version(text, *version)
         }
-        Body::Release { tree } => push_tree_word(text, script, b"release ", *tree),
-        Body::Wake { tree, sub } => push_sub_word(text, script, b"wake ", *tree, *sub),
-        Body::Lose => text.push_all(b"lose"),
-        Body::AdvanceNo { advance } => push_count(text, b"advance ", *advance as u64),
-        Body::Ask { epoch } => push_count(text, b"ask ", *epoch),
+        Body::Release { tree } => push_tree_word(text, script, b" release ", *tree),
+        Body::Wake { tree, sub } => push_sub_word(text, script, b" wake ", *tree, *sub),
+        Body::Lose => text.push_all(b" lose"),
+        Body::AdvanceNo { advance } => push_count(text, b" advance ", *advance as u64),
+        Body::Ask { epoch } => push_count(text, b" ask ", *epoch),
         Body::Numbers {
             epoch,
             update,
             read,
             low,
         } => {
-            push_count(text, b"numbers ", *epoch)?;
+            push_count(text, b" numbers ", *epoch)?;
             push_three(text, *update, *read, *low)
         }
         Body::Wanted { epoch, advances } => {
-            push_count(text, b"wanted ", *epoch)?;
+            push_count(text, b" wanted ", *epoch)?;
             push_count(text, b" ", *advances as u64)
         }
         Body::Order {
             epoch,
             what,
             version,
-        } => push_order(text, b"order ", *epoch, *what, *version),
+        } => push_order(text, b" order ", *epoch, *what, *version),
         Body::Obeyed {
             epoch,
             what,
             version,
-        } => push_order(text, b"obeyed ", *epoch, *what, *version),
+        } => push_order(text, b" obeyed ", *epoch, *what, *version),
     }
 }

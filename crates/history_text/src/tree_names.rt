@@ -1,7 +1,7 @@
 // Trees and items by number. What the script doesn't have is printed by its number.
 ghost use Rattle.std.specs.Prelude.{◌≡◌, ◌++◌, OnErr, OnOk};
 ghost use Rattle.std.specs.Str.{IsAscii};
-ghost use Rattle.history_text.specs.TreeNames.{item_text, item_word, tree_text, word_and_tree};
+ghost use Rattle.history_text.specs.TreeNames.{item_text, tree_text};
 
 use commute_ops::push_number;
 use tv_base::{ItemNo, NoMemory, Text, TreeNo};
@@ -39,7 +39,7 @@ pub(crate) fn push_tree_word(
     tree: TreeNo,
 ) -> Result<(), NoMemory>
     requires { IsAscii word.now }
-    ensures ok { OnOk result (text.new ≡ text.old ++ word_and_tree script.now word.now tree.0) }
+    ensures ok { OnOk result (text.new ≡ text.old ++ (word.now ++ tree_text script.now tree.0)) }
     ensures err { OnErr result (text.new ≡ text.old) }
 {
     let length = text.bytes().len();
@@ -56,7 +56,7 @@ pub(crate) fn push_item_word(
     item: ItemNo,
 ) -> Result<(), NoMemory>
     requires { IsAscii word.now }
-    ensures ok { OnOk result (text.new ≡ text.old ++ item_word script.now word.now item.0) }
+    ensures ok { OnOk result (text.new ≡ text.old ++ (word.now ++ item_text script.now item.0)) }
     ensures err { OnErr result (text.new ≡ text.old) }
 {
     let length = text.bytes().len();

@@ -1,8 +1,8 @@
 // What votes, notices and answers say.
-ghost use Rattle.std.specs.Prelude.{◌≡◌, ◌++◌, OnOk, slice_get};
+ghost use Rattle.std.specs.Prelude.{◌≡◌, ◌++◌, OnOk, codes};
 ghost use Rattle.std.specs.Str.{IsAscii};
 ghost use Rattle.history_text.specs.TreeNames.{cause_text, got_text};
-ghost use Rattle.history_text.specs.Names.{answer_text, cause_word, commit_word, notice_text, vote_text, whole_word, yes_text};
+ghost use Rattle.history_text.specs.LineParts.{Whole, answer_parts, commit_word, notice_parts, part_text, parts_text, vote_parts};
 
 use crate::causes_text::{push_cause, push_got};
 use commute_ops::Values;
@@ -18,7 +18,7 @@ fn push_cause_word(
     cause: &Cause,
 ) -> Result<(), NoMemory>
     requires { IsAscii word.now }
-    ensures { OnOk result (text.new ≡ text.old ++ cause_word script.now word.now cause.now) }
+    ensures { OnOk result (text.new ≡ text.old ++ (word.now ++ cause_text script.now cause.now)) }
 {
     text.push_all(word)?;
     push_cause(text, script, cause)
@@ -26,7 +26,7 @@ fn push_cause_word(
 
 // A yes with the values of gets.
 fn push_yes(text: &mut Text, script: &Script, got: &Values) -> Result<(), NoMemory>
-    ensures { OnOk result (text.new ≡ text.old ++ yes_text script.now got.now) }
+    ensures { OnOk result (text.new ≡ text.old ++ (codes " yes" ++ got_text script.now got.now)) }
 {
     text.push_all(b" yes")?;
     push_got(text, script, got)
@@ -34,7 +34,7 @@ fn push_yes(text: &mut Text, script: &Script, got: &Values) -> Result<(), NoMemo
 
 // A vote.
 pub(crate) fn push_vote(text: &mut Text, script: &Script, vote: &Vote) -> Result<(), NoMemory>
-    ensures { OnOk result (text.new ≡ text.old ++ vote_text script.now vote.now) }
+    ensures { OnOk result (text.new ≡ text.old ++ parts_text script.now (vote_parts vote.now)) }
 {
     match vote {
         Vote::Yes(got) => push_yes(text, script, got),
@@ -42,9 +42,14 @@ pub(crate) fn push_vote(text: &mut Text, script: &Script, vote: &Vote) -> Result
     }
 }
 
-// A notice.
-pub(crate) fn push_notice(text: &mut Text, script: &Script, notice: &Notice) -> Result<(), NoMemory>
-    ensures { OnOk result (text.new ≡ text.old ++ notice_text script.now notice.now) }
+// A notice of the tree.
+pub(crate) fn push_notice(
+    text: &mut Text,
+    script: &Script,
+    _tree: TreeNo,
+    notice: &Notice,
+) -> Result<(), NoMemory>
+    ensures { OnOk result (text.new ≡ text.old ++ parts_text script.now (notice_parts _tree.0 notice.now)) }
 {
     match notice {
         Notice::Did(got) => push_got(text, script, got),
@@ -55,7 +60,7 @@ pub(crate) fn push_notice(text: &mut Text, script: &Script, notice: &Notice) -> 
 
 // That a strict tree was committed; of other trees nothing is said.
 fn push_whole(text: &mut Text, script: &Script, tree: TreeNo) -> Result<(), NoMemory>
-    ensures { OnOk result (text.new ≡ text.old ++ whole_word (slice_get script.now.trees tree.0)) }
+    ensures { OnOk result (text.new ≡ text.old ++ part_text script.now (Whole tree.0)) }
 {
     let Some(row) = script.trees().get(tree.0 as usize) else {
         return Ok(());
@@ -74,7 +79,7 @@ pub(crate) fn push_answer(
     tree: TreeNo,
     answer: &Answer,
 ) -> Result<(), NoMemory>
-    ensures { OnOk result (text.new ≡ text.old ++ answer_text script.now tree.0 answer.now) }
+    ensures { OnOk result (text.new ≡ text.old ++ parts_text script.now (answer_parts tree.0 answer.now)) }
 {
     match answer {
         Answer::Whole(got) => {
@@ -87,7 +92,7 @@ pub(crate) fn push_answer(
 
 // Whether a strict tree commits.
 pub(crate) fn push_commit(text: &mut Text, commit: bool) -> Result<(), NoMemory>
-    ensures { OnOk result (text.new ≡ text.old ++ commit_word commit) }
+    ensures { OnOk result (text.new ≡ text.old ++ (codes " " ++ commit_word commit)) }
 {
     if commit {
         text.push_all(b" commit")

@@ -1,95 +1,71 @@
--- What letters say, word by word.
-use Rattle.std.specs.Prelude.{if◌then◌else◌, ℕ, ◌≡◌, ◌≤◌, Bool, true, false, List, [], ◌∷◌, ◌++◌, codes, decimal, map, Option, Some, None, slice_get}
+-- What letters and acts say, word by word.
+use Rattle.std.specs.Prelude.{if◌then◌else◌, ℕ, ◌≡◌, ◌≤◌, List, [], ◌∷◌, codes, decimal, flat_map, map, Option, Some, None, slice_get}
 use Rattle.std.specs.List.{AllByRecursion}
 use Rattle.tv_base.specs.declared.numbers.TreeNo.{TreeNo}
+use Rattle.letter_types.specs.declared.acts.Act.{Act}
 use Rattle.letter_types.specs.declared.bodies.Answer.{Answer}
-use Rattle.letter_types.specs.declared.bodies.Answer.TheVariants.{Whole, Aborted}
 use Rattle.letter_types.specs.declared.bodies.Body.{Body}
-use Rattle.letter_types.specs.declared.bodies.Body.TheVariants.{Go, Root, Sub, Done, Reply, Nudge, Advance, Turn, Show, Sweep, Turned, Shown, Swept, AskDone, AskAsked, DoneRow, AskedRow, Advanced, Decide, Decided, Release, Wake, Lose, AdvanceNo, Ask, Numbers, Wanted, Order, Obeyed}
+use Rattle.letter_types.specs.declared.bodies.Body.TheVariants.{Root, Sub, Done, Reply, Turn, Show, Sweep, Turned, Shown, Swept, DoneRow, AskedRow, Advanced, Decide, Decided, Release, Wake, Ask}
 use Rattle.letter_types.specs.declared.bodies.Notice.{Notice}
-use Rattle.letter_types.specs.declared.bodies.Notice.TheVariants as notices
-use Rattle.letter_types.specs.declared.bodies.What.{What}
-use Rattle.letter_types.specs.declared.bodies.What.TheVariants as whats
 use Rattle.letter_types.specs.declared.votes.Vote.{Vote}
-use Rattle.letter_types.specs.declared.votes.Vote.TheVariants as votes
 use Rattle.tx_trees.specs.ScriptData.{ScriptData, is_strict}
 use Rattle.tx_trees.specs.declared.parts.Tree.{Tree}
-use Rattle.history_text.specs.TreeNames.{tree_text}
-use Rattle.history_text.specs.Printable.{IsAnswer, IsBody, IsNotice, IsWord}
+use Rattle.history_text.specs.TreeNames.{item_text, tree_text}
+use Rattle.history_text.specs.LineParts.{Count, Got, Half, ItemOf, Never, Only, Part, Row, SubOf, TreeOf, Whole, Why, Word, act_parts, answer_parts, body_parts, notice_parts, vote_parts}
+use Rattle.history_text.specs.Printable.{AreParts, IsBody, IsWord}
 use Rattle.history_text.specs.Words.{cause_words, got_words, name_of_tree}
 
-abbrev pub vote_words : ScriptData → Vote → List (List ℕ)
-vote_words s (votes.Yes vs) = codes "yes" ∷ got_words s vs
-vote_words s (votes.No cause) = codes "no" ∷ cause_words s cause
-
-abbrev pub notice_words : ScriptData → Notice → List (List ℕ)
-notice_words s (notices.Did vs) = got_words s vs
-notice_words s (notices.Yes vs) = codes "yes" ∷ got_words s vs
-notice_words s (notices.No cause) = codes "no" ∷ cause_words s cause
+abbrev pub number_words : List ℕ → List (List ℕ)
+number_words ns = map decimal ns
 
 -- a strict tree that is whole was committed
 abbrev pub whole_words : Option Tree → List (List ℕ)
 whole_words None = []
 whole_words (Some tree) = if is_strict tree.kind then codes "committed" ∷ [] else []
 
+-- the words of a part
+abbrev pub part_words : ScriptData → Part → List (List ℕ)
+part_words s (Word word) = word ∷ []
+part_words s (Never word) = word ∷ []
+part_words s (Count word n) = word ∷ decimal n ∷ []
+part_words s (Half n) = decimal n ∷ []
+part_words s (TreeOf t) = tree_text s t ∷ []
+part_words s (SubOf t k) = tree_text s t ∷ decimal k ∷ []
+part_words s (ItemOf x) = item_text s x ∷ []
+part_words s (Got vs) = got_words s vs
+part_words s (Why cause) = cause_words s cause
+part_words s (Row ns) = number_words ns
+part_words s (Whole t) = whole_words (slice_get s.trees t)
+part_words s (Only strict t) = []
+
+-- and of parts
+abbrev pub words_of : ScriptData → List Part → List (List ℕ)
+words_of s parts = flat_map (part_words s) parts
+
+abbrev pub vote_words : ScriptData → Vote → List (List ℕ)
+vote_words s vote = words_of s (vote_parts vote)
+
+abbrev pub IsVote : ScriptData → Vote → Type 0
+IsVote s vote = AreParts s (vote_parts vote)
+
+abbrev pub notice_words : ScriptData → ℕ → Notice → List (List ℕ)
+notice_words s t notice = words_of s (notice_parts t notice)
+
+-- of tree t
+abbrev pub IsNotice : ScriptData → ℕ → Notice → Type 0
+IsNotice s t notice = AreParts s (notice_parts t notice)
+
 abbrev pub answer_words : ScriptData → ℕ → Answer → List (List ℕ)
-answer_words s t (Whole vs) = whole_words (slice_get s.trees t) ++ got_words s vs
-answer_words s t (Aborted cause) = codes "aborted" ∷ cause_words s cause
+answer_words s t answer = words_of s (answer_parts t answer)
 
-abbrev pub commit_word_of : Bool → List ℕ
-commit_word_of true = codes "commit"
-commit_word_of false = codes "abort"
-
-abbrev pub order_word : What → List ℕ
-order_word whats.Turn = codes "turn"
-order_word whats.Show = codes "show"
-order_word whats.Sweep = codes "sweep"
-
-abbrev pub number_words : List ℕ → List (List ℕ)
-number_words ns = map decimal ns
-
--- a version after its word
-abbrev pub version_words : ℕ → List (List ℕ)
-version_words v = codes "version" ∷ decimal v ∷ []
-
-abbrev pub round_words : ℕ → ℕ → List (List ℕ) → List (List ℕ)
-round_words v k more = decimal v ∷ codes "round" ∷ decimal k ∷ more
+abbrev pub IsAnswer : ScriptData → ℕ → Answer → Type 0
+IsAnswer s t answer = AreParts s (answer_parts t answer)
 
 abbrev pub body_words : ScriptData → Body → List (List ℕ)
-body_words s Go = codes "go" ∷ []
-body_words s (Root t) = codes "root" ∷ tree_text s t.0 ∷ []
-body_words s (Sub t k v) = codes "sub" ∷ tree_text s t.0 ∷ decimal k.0 ∷ version_words v.0
-body_words s (Done t k v notice) =
-    codes "done" ∷ tree_text s t.0 ∷ decimal k.0 ∷ codes "version" ∷ decimal v.0 ∷ notice_words s notice
-body_words s (Reply t v answer) =
-    codes "reply" ∷ tree_text s t.0 ∷ codes "version" ∷ decimal v.0 ∷ answer_words s t.0 answer
-body_words s Nudge = codes "nudge" ∷ []
-body_words s Advance = codes "advance" ∷ []
-body_words s (Turn v) = codes "turn" ∷ decimal v.0 ∷ []
-body_words s (Show v) = codes "show" ∷ decimal v.0 ∷ []
-body_words s (Sweep v) = codes "sweep" ∷ decimal v.0 ∷ []
-body_words s (Turned v) = codes "turned" ∷ decimal v.0 ∷ []
-body_words s (Shown v) = codes "shown" ∷ decimal v.0 ∷ []
-body_words s (Swept v) = codes "swept" ∷ decimal v.0 ∷ []
-body_words s (AskDone v k) = codes "askdone" ∷ round_words v.0 k []
-body_words s (AskAsked v k) = codes "askasked" ∷ round_words v.0 k []
-body_words s (DoneRow v k row) = codes "donerow" ∷ round_words v.0 k (number_words row)
-body_words s (AskedRow v k row) = codes "askedrow" ∷ round_words v.0 k (number_words row)
-body_words s (Advanced v) = codes "advanced" ∷ decimal v.0 ∷ []
-body_words s (Decide t v commit) =
-    codes "decide" ∷ tree_text s t.0 ∷ codes "version" ∷ decimal v.0 ∷ commit_word_of commit ∷ []
-body_words s (Decided t v) = codes "decided" ∷ tree_text s t.0 ∷ version_words v.0
-body_words s (Release t) = codes "release" ∷ tree_text s t.0 ∷ []
-body_words s (Wake t k) = codes "wake" ∷ tree_text s t.0 ∷ decimal k.0 ∷ []
-body_words s Lose = codes "lose" ∷ []
-body_words s (AdvanceNo i) = codes "advance" ∷ decimal i ∷ []
-body_words s (Ask e) = codes "ask" ∷ decimal e ∷ []
-body_words s (Numbers e update read low) =
-    codes "numbers" ∷ decimal e ∷ codes "update" ∷ decimal update.0
-    ∷ codes "read" ∷ decimal read.0 ∷ codes "low" ∷ decimal low.0 ∷ []
-body_words s (Wanted e k) = codes "wanted" ∷ decimal e ∷ decimal k ∷ []
-body_words s (Order e what v) = codes "order" ∷ decimal e ∷ order_word what ∷ decimal v.0 ∷ []
-body_words s (Obeyed e what v) = codes "obeyed" ∷ decimal e ∷ order_word what ∷ decimal v.0 ∷ []
+body_words s body = words_of s (body_parts body)
+
+abbrev pub act_words : ScriptData → Act → List (List ℕ)
+act_words s act = words_of s (act_parts act)
 
 -- the order in which heads of letters are tried: those with lists, those of trees, others, and those with one number of
 -- 64 bits
@@ -124,9 +100,9 @@ AreLineWords ns = AllByRecursion IsWord ns
 
 -- what is read of these words as a notice of a tree, or of any of its name
 abbrev pub IsNoticeRead : ScriptData → TreeNo → List (List ℕ) → Option Notice → Type 0
-IsNoticeRead s tree seen (Some n) = (seen ≡ notice_words s n) × IsNotice s tree.0 n
+IsNoticeRead s tree seen (Some n) = (seen ≡ notice_words s tree.0 n) × IsNotice s tree.0 n
 IsNoticeRead s tree seen None =
-    (t : TreeNo) (n : Notice) → name_of_tree s tree ≡ name_of_tree s t → seen ≡ notice_words s n → IsNotice s t.0 n → ⊥
+    (t : TreeNo) (n : Notice) → name_of_tree s tree ≡ name_of_tree s t → seen ≡ notice_words s t.0 n → IsNotice s t.0 n → ⊥
 
 abbrev pub IsAnswerRead : ScriptData → TreeNo → List (List ℕ) → Option Answer → Type 0
 IsAnswerRead s tree seen (Some a) = (seen ≡ answer_words s tree.0 a) × IsAnswer s tree.0 a

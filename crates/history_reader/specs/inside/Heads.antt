@@ -4,11 +4,10 @@ use Rattle.letter_types.specs.declared.acts.Act.{Act}
 use Rattle.letter_types.specs.declared.entries.LetterId.{LetterId}
 use Rattle.letter_types.specs.declared.entries.Outgoing.{Outgoing}
 use Rattle.tx_trees.specs.ScriptData.{ScriptData}
-use Rattle.history_text.specs.Names.{actor_text}
+use Rattle.history_text.specs.TreeNames.{actor_text}
 use Rattle.history_text.specs.Printable.{IsActor, IsHalfWord, IsWord}
 use Rattle.history_reader.specs.declared.heads.Head.{Head}
-use Rattle.history_reader.specs.inside.ActWords.{act_words}
-use Rattle.history_reader.specs.inside.BodyWords.{body_words}
+use Rattle.history_reader.specs.inside.BodyWords.{act_words, body_words}
 
 -- a letter's id: a stamp and a place
 abbrev pub id_word : LetterId → List ℕ
