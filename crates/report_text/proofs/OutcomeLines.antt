@@ -1,7 +1,7 @@
 -- How a strict tree came out, by what is kept of it, is what the whole history says.
 use Rattle.std.proofs.Common.{◌≡◌, ℕ, ◌+◌, List, [], ◌∷◌, ◌++◌, refl, ap, sym, ◌∙◌, append_assoc}
 use Rattle.std.specs.Prelude.{codes, Bool, true, false, filter, Option, Some, None}
-use Rattle.std.specs.Option.{option_or}
+use Rattle.std.specs.Option.{option_map_or, option_or}
 use Rattle.tv_base.specs.declared.numbers.ItemNo.{ItemNo}
 use Rattle.commute_ops.specs.declared.value.Value.{Value}
 use Rattle.letter_types.specs.declared.acts.Act.{Act}
@@ -13,7 +13,7 @@ use Rattle.board_rules.specs.Outcomes.{cause_by, cause_from, decision_in, got_by
 use Rattle.board_model.specs.Ballots.{tells_of}
 use Rattle.board_model.proofs.Voting.{decisions_kept, votes_kept}
 use Rattle.history_text.specs.TreeNames.{got_text, item_text}
-use Rattle.report_text.specs.Outcomes.{outcome_of, outcome_text, why_text}
+use Rattle.report_text.specs.Outcomes.{decided_text, outcome_of, why_text}
 use Rattle.history_text.specs.Values.{get_text}
 
 pub got_text-append : (s : ScriptData) (vs more : List (ItemNo × Value)) → got_text s (vs ++ more) ≡ got_text s vs ++ got_text s more
@@ -35,7 +35,7 @@ cause_kept acts t k (sub ∷ subs) =
     ∙ ap (λ (o : Option Cause). option_or (cause_by (vote_in t k acts)) o) (cause_kept acts t (k + 1) subs)
 
 decided_kept : (s : ScriptData) (acts : List Act) (t : ℕ) (subs : List Sub) (o : Option Bool)
-    → outcome_text s (filter (tells_of t) acts) t subs o ≡ outcome_text s acts t subs o
+    → option_map_or (decided_text s (filter (tells_of t) acts) t subs) o [] ≡ option_map_or (decided_text s acts t subs) o []
 decided_kept s acts t subs None = refl
 decided_kept s acts t subs (Some true) = ap (λ (vs : List (ItemNo × Value)). codes " committed" ++ got_text s vs) (got_kept acts t 0 subs)
 decided_kept s acts t subs (Some false) = ap (λ (o : Option Cause). codes " aborted" ++ why_text s o) (cause_kept acts t 0 subs)
@@ -43,5 +43,5 @@ decided_kept s acts t subs (Some false) = ap (λ (o : Option Cause). codes " abo
 pub outcome_kept : (s : ScriptData) (acts : List Act) (t : ℕ) (subs : List Sub)
     → outcome_of s (filter (tells_of t) acts) t subs ≡ outcome_of s acts t subs
 outcome_kept s acts t subs =
-    ap (λ (o : Option Bool). outcome_text s (filter (tells_of t) acts) t subs o) (decisions_kept t acts)
+    ap (λ (o : Option Bool). option_map_or (decided_text s (filter (tells_of t) acts) t subs) o []) (decisions_kept t acts)
     ∙ decided_kept s acts t subs (decision_in t acts)
