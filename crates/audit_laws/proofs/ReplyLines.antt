@@ -1,6 +1,7 @@
 -- In every run the report's line of a tree says what its reply says.
-use Rattle.std.proofs.Common.{◌≡◌, ℕ, Bool, true, false, List, ◌++◌, reverse, refl, sym, ap, subst, ◌∙◌, Option, Some, None}
+use Rattle.std.proofs.Common.{◌≡◌, ℕ, Bool, true, false, List, [], ◌++◌, reverse, refl, sym, ap, subst, ◌∙◌, Option, Some, None}
 use Rattle.std.specs.Prelude.{codes}
+use Rattle.std.specs.Option.{option_map_or}
 use Rattle.std.proofs.lemmas.List.{reverse-reverse}
 use Rattle.tv_base.specs.declared.numbers.Version.{Version}
 use Rattle.letter_types.specs.declared.acts.Act.{Act}
@@ -23,7 +24,7 @@ use Rattle.world_model.proofs.Every.{each_both, each_map}
 use Rattle.world_model.proofs.Posts.{steps}
 use Rattle.board_rules.specs.Histories.{places_of, version_of}
 use Rattle.board_rules.specs.Outcomes.{acts_in, cause_from, decision_in}
-use Rattle.report_text.specs.Outcomes.{outcome_of, outcome_text, strict_line, why_text}
+use Rattle.report_text.specs.Outcomes.{decided_text, outcome_of, strict_line, why_text}
 use Rattle.report_text.specs.Report.{gets_text, read_line, tree_line}
 use Rattle.run_laws.specs.Replies.{AnswersAsDecided, AnswersByActs, IsRightReply, NamesCause, ReplyShows, ShowsWorths}
 use Rattle.run_laws.proofs.replies_told.Replies.{replies_tell}
@@ -32,7 +33,7 @@ use Rattle.audit_laws.specs.ReplyLines.{IsItsLine, LinesSayReplies, line_by, out
 
 -- what is decided of a tree and what its reply says of that have one text
 decided_says : (s : ScriptData) (does : List Act) (t : ℕ) (subs : List Sub) (answer : Answer) (decision : Option Bool) → AnswersAsDecided does t subs decision answer
-    → outcome_text s does t subs decision ≡ outcome_by s answer
+    → option_map_or (decided_text s does t subs) decision [] ≡ outcome_by s answer
 decided_says s does t subs answer None it = absurd it
 decided_says s does t subs answer (Some true) it = sym (ap (outcome_by s) it)
 decided_says s does t subs answer (Some false) it = by (cause_from does t 0 subs) it where

@@ -1,6 +1,7 @@
 pub mod Parse
 pub mod Digits
 pub mod Getters
+pub mod Fields
 pub mod Plain
 pub mod Steps
 pub mod Equal

@@ -11,13 +11,8 @@ use Rattle.command_words.specs.Numbers.{is_option_number}
 use Rattle.command_words.specs.Lines.{is_given_in, line_with, mode_of}
 use Rattle.command_words.specs.declared.Line.{Line}
 use Rattle.command_words.specs.declared.ModeName.{ModeName}
-use Rattle.command_words.specs.Grammar.{Given, Opt, by_option, given, line_of_given, line_of_options, mode, nothing_given, option_in, option_of, put, put_history, seed, trees, value_of, with_value, workers}
-
-abbrev pub name_of : Opt → Text
-name_of mode = codes "mode"
-name_of workers = codes "workers"
-name_of seed = codes "seed"
-name_of trees = codes "trees"
+use Rattle.command_words.specs.Grammar.{line_of_options, option_in}
+use Rattle.command_words.proofs.Fields.{Fields, Opt, by_fields, by_option, fields_of, line_of_fields, mode, no_fields, option_of, fill, fill_history, seed, trees, field_of, with_field, workers}
 
 -- a hyphen and a character after it
 abbrev pub is_short_word : Text → Bool
@@ -28,17 +23,17 @@ abbrev pub is_option_word : Text → Bool
 is_option_word word = (is_some (long_of word) || is_short_word word) || bytes_eq word (codes "--")
 
 -- what the words give where such a word is no value
-unfoldable pub taken : Given → Option Opt → List Text → Option Given
+unfoldable pub taken : Fields → Option Opt → List Text → Option Fields
 taken g None [] = Some g
 taken g (Some o) [] = None
 taken g None (word ∷ rest) = by_option g (long_of word) (λ h waiting. taken h waiting rest)
-taken g (Some o) (word ∷ rest) = if is_option_word word then None else option_and_then (λ h. taken h None rest) (put o word g)
+taken g (Some o) (word ∷ rest) = if is_option_word word then None else option_and_then (λ h. taken h None rest) (fill o word g)
 
 abbrev pub line_taken : List Text → Option Line
-line_taken words = option_and_then line_of_given (taken nothing_given None (drop 1 words))
+line_taken words = option_and_then line_of_fields (taken no_fields None (drop 1 words))
 
-abbrev line_in : Option Given → Option Line
-line_in o = option_and_then line_of_given o
+abbrev line_in : Option Fields → Option Line
+line_in o = option_and_then line_of_fields o
 
 -- ---- a word that begins with a hyphen meets no form
 record BadForm (x : Text) : Type 0 where
@@ -78,31 +73,31 @@ third_of_three a b false e = last_false a b
 no_form : (low high : ℕ) (x : Text) (o : Option Text) → BadForm x → o ≡ Some x → is_given_in low high o ≡ false
 no_form low high x o b e = ap (is_given_in low high) e ∙ rw b.no_number refl
 
-abbrev forms : Given → Bool
+abbrev forms : Fields → Bool
 forms g = is_given_in 1 32 g.workers_given && is_given_in 0 18446744073709551615 g.seed_given && is_given_in 1 20000 g.trees_given
 
-no_line : (g : Given) → forms g ≡ false → line_of_given g ≡ None
+no_line : (g : Fields) → forms g ≡ false → line_of_fields g ≡ None
 no_line g e = by g.mode_given refl
   where
     by_mode : (m : Option ModeName) → line_with m g.workers_given g.seed_given g.trees_given g.history_given ≡ None
     by_mode None = refl
     by_mode (Some m) = rw e refl
 
-    by : (w : Option Text) → g.mode_given ≡ w → line_of_given g ≡ None
+    by : (w : Option Text) → g.mode_given ≡ w → line_of_fields g ≡ None
     by None h = rw h refl
     by (Some word) h = rw h (by_mode (mode_of word))
 
-bad_line : (x : Text) (o : Opt) (g : Given) → BadForm x → value_of o g ≡ Some x → line_of_given g ≡ None
+bad_line : (x : Text) (o : Opt) (g : Fields) → BadForm x → field_of o g ≡ Some x → line_of_fields g ≡ None
 bad_line x mode g b e = rw (e, b.no_mode) refl
 bad_line x workers g b e = no_line g (first_of_three (is_given_in 1 32 g.workers_given) (is_given_in 0 18446744073709551615 g.seed_given) (is_given_in 1 20000 g.trees_given) (no_form 1 32 x g.workers_given b e))
 bad_line x seed g b e = no_line g (second_of_three (is_given_in 1 32 g.workers_given) (is_given_in 0 18446744073709551615 g.seed_given) (is_given_in 1 20000 g.trees_given) (no_form 0 18446744073709551615 x g.seed_given b e))
 bad_line x trees g b e = no_line g (third_of_three (is_given_in 1 32 g.workers_given) (is_given_in 0 18446744073709551615 g.seed_given) (is_given_in 1 20000 g.trees_given) (no_form 1 20000 x g.trees_given b e))
 
 -- ---- a value that is given stays
-taken_twice : (o : Opt) (x : Text) (g : Given) → value_of o g ≡ Some x → is_some (value_of o g) ≡ false → ⊥
-taken_twice o x g e n = let t : is_some (value_of o g) ≡ true = rw e refl in cc
+taken_twice : (o : Opt) (x : Text) (g : Fields) → field_of o g ≡ Some x → is_some (field_of o g) ≡ false → ⊥
+taken_twice o x g e n = let t : is_some (field_of o g) ≡ true = rw e refl in cc
 
-kept : (q o : Opt) (v x : Text) (g : Given) → value_of o g ≡ Some x → is_some (value_of q g) ≡ false → value_of o (with_value q v g) ≡ Some x
+kept : (q o : Opt) (v x : Text) (g : Fields) → field_of o g ≡ Some x → is_some (field_of q g) ≡ false → field_of o (with_field q v g) ≡ Some x
 kept mode mode v x g e n = absurd (taken_twice mode x g e n)
 kept mode workers v x g e n = e
 kept mode seed v x g e n = e
@@ -120,39 +115,39 @@ kept trees workers v x g e n = e
 kept trees seed v x g e n = e
 kept trees trees v x g e n = absurd (taken_twice trees x g e n)
 
-kept_on : (o : Opt) (x : Text) (g : Given) → value_of o g ≡ Some x → value_of o (record g { history_given = true }) ≡ Some x
+kept_on : (o : Opt) (x : Text) (g : Fields) → field_of o g ≡ Some x → field_of o (record g { history_given = true }) ≡ Some x
 kept_on mode x g e = e
 kept_on workers x g e = e
 kept_on seed x g e = e
 kept_on trees x g e = e
 
-set_is : (q : Opt) (v : Text) (g : Given) → value_of q (with_value q v g) ≡ Some v
+set_is : (q : Opt) (v : Text) (g : Fields) → field_of q (with_field q v g) ≡ Some v
 set_is mode v g = refl
 set_is workers v g = refl
 set_is seed v g = refl
 set_is trees v g = refl
 
 -- ---- so a bad value leaves no line
-put_doomed : (o q : Opt) (x v : Text) (g : Given) (f : Given → Option Given) → ((h : Given) → value_of o h ≡ Some x → line_in (f h) ≡ None) → value_of o g ≡ Some x → line_in (option_and_then f (put q v g)) ≡ None
-put_doomed o q x v g f more e = by (is_some (value_of q g)) refl
+put_doomed : (o q : Opt) (x v : Text) (g : Fields) (f : Fields → Option Fields) → ((h : Fields) → field_of o h ≡ Some x → line_in (f h) ≡ None) → field_of o g ≡ Some x → line_in (option_and_then f (fill q v g)) ≡ None
+put_doomed o q x v g f more e = by (is_some (field_of q g)) refl
   where
-    by : (b : Bool) → is_some (value_of q g) ≡ b → line_in (option_and_then f (put q v g)) ≡ None
+    by : (b : Bool) → is_some (field_of q g) ≡ b → line_in (option_and_then f (fill q v g)) ≡ None
     by true n = rw n refl
-    by false n = rw n (more (with_value q v g) (kept q o v x g e n))
+    by false n = rw n (more (with_field q v g) (kept q o v x g e n))
 
-history_doomed : (o : Opt) (x : Text) (g : Given) (f : Given → Option Given) → ((h : Given) → value_of o h ≡ Some x → line_in (f h) ≡ None) → value_of o g ≡ Some x → line_in (option_and_then f (put_history g)) ≡ None
+history_doomed : (o : Opt) (x : Text) (g : Fields) (f : Fields → Option Fields) → ((h : Fields) → field_of o h ≡ Some x → line_in (f h) ≡ None) → field_of o g ≡ Some x → line_in (option_and_then f (fill_history g)) ≡ None
 history_doomed o x g f more e = by g.history_given refl
   where
-    by : (b : Bool) → g.history_given ≡ b → line_in (option_and_then f (put_history g)) ≡ None
+    by : (b : Bool) → g.history_given ≡ b → line_in (option_and_then f (fill_history g)) ≡ None
     by true n = rw n refl
     by false n = rw n (more (record g { history_given = true }) (kept_on o x g e))
 
-each_none : {A : Type 0} (o : Option A) (f : A → Option Given) → ((a : A) → line_in (f a) ≡ None) → line_in (option_and_then f o) ≡ None
+each_none : {A : Type 0} (o : Option A) (f : A → Option Fields) → ((a : A) → line_in (f a) ≡ None) → line_in (option_and_then f o) ≡ None
 each_none None f h = refl
 each_none (Some a) f h = h a
 
-option_doomed : (o : Opt) (x : Text) (g : Given) (l : Option (Text × Option Text)) (next : Given → Option Opt → Option Given)
-    → ((h : Given) (w : Option Opt) → value_of o h ≡ Some x → line_in (next h w) ≡ None) → value_of o g ≡ Some x → line_in (by_option g l next) ≡ None
+option_doomed : (o : Opt) (x : Text) (g : Fields) (l : Option (Text × Option Text)) (next : Fields → Option Opt → Option Fields)
+    → ((h : Fields) (w : Option Opt) → field_of o h ≡ Some x → line_in (next h w) ≡ None) → field_of o g ≡ Some x → line_in (by_option g l next) ≡ None
 option_doomed o x g None next more e = refl
 option_doomed o x g (Some (name, Some v)) next more e = each_none (option_of name) _ (λ q. put_doomed o q x v g _ (λ h k. more h None k) e)
 option_doomed o x g (Some (name, None)) next more e = by (bytes_eq (codes "history") name) refl
@@ -161,19 +156,19 @@ option_doomed o x g (Some (name, None)) next more e = by (bytes_eq (codes "histo
     by true n = rw n (history_doomed o x g _ (λ h k. more h None k) e)
     by false n = rw n (each_none (option_of name) _ (λ q. more g (Some q) e))
 
-doomed : (xs : List Text) (g : Given) (w : Option Opt) (o : Opt) (x : Text) → BadForm x → value_of o g ≡ Some x → line_in (given g w xs) ≡ None
-unfolding given
+doomed : (xs : List Text) (g : Fields) (w : Option Opt) (o : Opt) (x : Text) → BadForm x → field_of o g ≡ Some x → line_in (fields_of g w xs) ≡ None
+unfolding fields_of
 doomed [] g None o x b e = bad_line x o g b e
 doomed [] g (Some q) o x b e = refl
 doomed (y ∷ ys) g None o x b e = option_doomed o x g (option_in y) _ (λ h w k. doomed ys h w o x b k) e
 doomed (y ∷ ys) g (Some q) o x b e = put_doomed o q x y g _ (λ h k. doomed ys h None o x b k) e
 
 -- ---- both recursions give one line
-long_rest : (g : Given) (rest : Text) (next : Given → Option Opt → Option Given) → by_option g (long_of (45 ∷ 45 ∷ rest)) next ≡ by_option g (option_in (45 ∷ 45 ∷ rest)) next
+long_rest : (g : Fields) (rest : Text) (next : Fields → Option Opt → Option Fields) → by_option g (long_of (45 ∷ 45 ∷ rest)) next ≡ by_option g (option_in (45 ∷ 45 ∷ rest)) next
 long_rest g [] next = refl
 long_rest g (c ∷ cs) next = refl
 
-long_is : (g : Given) (x : Text) (next : Given → Option Opt → Option Given) → by_option g (long_of x) next ≡ by_option g (option_in x) next
+long_is : (g : Fields) (x : Text) (next : Fields → Option Opt → Option Fields) → by_option g (long_of x) next ≡ by_option g (option_in x) next
 long_is g [] next = refl
 long_is g (a ∷ []) next = by (a == 45) refl
   where
@@ -189,31 +184,31 @@ long_is g (a ∷ b ∷ rest) next = by (a == 45) refl (b == 45) refl
     by true d false e = rw (d, e) refl
     by false d q e = rw d refl
 
-then_same : {A : Type 0} (o : Option A) (f k : A → Option Given) → ((a : A) → line_in (f a) ≡ line_in (k a)) → line_in (option_and_then f o) ≡ line_in (option_and_then k o)
+then_same : {A : Type 0} (o : Option A) (f k : A → Option Fields) → ((a : A) → line_in (f a) ≡ line_in (k a)) → line_in (option_and_then f o) ≡ line_in (option_and_then k o)
 then_same None f k h = refl
 then_same (Some a) f k h = h a
 
-option_same : (g : Given) (l : Option (Text × Option Text)) (next more : Given → Option Opt → Option Given) → ((h : Given) (w : Option Opt) → line_in (next h w) ≡ line_in (more h w)) → line_in (by_option g l next) ≡ line_in (by_option g l more)
+option_same : (g : Fields) (l : Option (Text × Option Text)) (next more : Fields → Option Opt → Option Fields) → ((h : Fields) (w : Option Opt) → line_in (next h w) ≡ line_in (more h w)) → line_in (by_option g l next) ≡ line_in (by_option g l more)
 option_same g None next more same = refl
-option_same g (Some (name, Some v)) next more same = then_same (option_of name) _ _ (λ o. then_same (put o v g) _ _ (λ h. same h None))
+option_same g (Some (name, Some v)) next more same = then_same (option_of name) _ _ (λ o. then_same (fill o v g) _ _ (λ h. same h None))
 option_same g (Some (name, None)) next more same = by (bytes_eq (codes "history") name) refl
   where
     by : (b : Bool) → bytes_eq (codes "history") name ≡ b → line_in (by_option g (Some (name, None)) next) ≡ line_in (by_option g (Some (name, None)) more)
-    by true n = rw n (then_same (put_history g) _ _ (λ h. same h None))
+    by true n = rw n (then_same (fill_history g) _ _ (λ h. same h None))
     by false n = rw n (then_same (option_of name) _ _ (λ o. same g (Some o)))
 
 -- where an option waits
-value_same : (ys : List Text) (g : Given) (q : Opt) (y : Text) → ((h : Given) (w : Option Opt) → line_in (given h w ys) ≡ line_in (taken h w ys)) → (b : Bool) → is_option_word y ≡ b
-    → line_in (option_and_then (λ h. given h None ys) (put q y g)) ≡ line_in (if b then None else option_and_then (λ h. taken h None ys) (put q y g))
-value_same ys g q y same false e = then_same (put q y g) _ _ (λ h. same h None)
-value_same ys g q y same true e = by (is_some (value_of q g)) refl
+value_same : (ys : List Text) (g : Fields) (q : Opt) (y : Text) → ((h : Fields) (w : Option Opt) → line_in (fields_of h w ys) ≡ line_in (taken h w ys)) → (b : Bool) → is_option_word y ≡ b
+    → line_in (option_and_then (λ h. fields_of h None ys) (fill q y g)) ≡ line_in (if b then None else option_and_then (λ h. taken h None ys) (fill q y g))
+value_same ys g q y same false e = then_same (fill q y g) _ _ (λ h. same h None)
+value_same ys g q y same true e = by (is_some (field_of q g)) refl
   where
-    by : (b : Bool) → is_some (value_of q g) ≡ b → line_in (option_and_then (λ h. given h None ys) (put q y g)) ≡ None
+    by : (b : Bool) → is_some (field_of q g) ≡ b → line_in (option_and_then (λ h. fields_of h None ys) (fill q y g)) ≡ None
     by true n = rw n refl
-    by false n = rw n (doomed ys (with_value q y g) None q y (bad_form y e) (set_is q y g))
+    by false n = rw n (doomed ys (with_field q y g) None q y (bad_form y e) (set_is q y g))
 
-both : (xs : List Text) (g : Given) (w : Option Opt) → line_in (given g w xs) ≡ line_in (taken g w xs)
-unfolding given taken
+both : (xs : List Text) (g : Fields) (w : Option Opt) → line_in (fields_of g w xs) ≡ line_in (taken g w xs)
+unfolding fields_of taken
 both [] g None = refl
 both [] g (Some q) = refl
 both (y ∷ ys) g None = option_same g (option_in y) _ _ (λ h w. both ys h w) ∙ ap line_in (sym (long_is g y (λ h w. taken h w ys)))
@@ -222,4 +217,4 @@ both (y ∷ ys) g (Some q) = value_same ys g q y (λ h w. both ys h w) (is_optio
 pub plain_line : (words : List Text) → line_of_options words ≡ line_taken words
 unfolding taken
 plain_line [] = refl
-plain_line (name ∷ rest) = both rest nothing_given None
+plain_line (name ∷ rest) = by_fields rest ∙ both rest no_fields None

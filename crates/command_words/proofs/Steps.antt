@@ -24,8 +24,7 @@ use Rattle.clap.proofs.FaultLemmas.{leaf_fault}
 use Rattle.clap.proofs.OnLiterals.{clap_on_literals}
 use Rattle.command_words.specs.Parser.{history_rule, mode_rule, option_rule, the_app}
 use Rattle.command_words.specs.inside.Parser.{is_on}
-use Rattle.command_words.specs.Grammar.{Opt, mode, workers, seed, trees, option_of, Given, nothing_given, value_of, with_value}
-use Rattle.command_words.proofs.Plain.{name_of}
+use Rattle.command_words.proofs.Fields.{name_of, Opt, mode, workers, seed, trees, option_of, Fields, no_fields, field_of, with_field}
 
 abbrev pub top : Shape
 top = (built the_app).top
@@ -466,28 +465,28 @@ abbrev pub flag_value : Bool → Option Text
 flag_value true = Some (codes "true")
 flag_value false = None
 
-pub record Rel (g : Given) (rows : List Row) : Type 0 where
-  pub has : (o : Opt) → has_row (name_of o) rows ≡ is_some (value_of o g)
+pub record Rel (g : Fields) (rows : List Row) : Type 0 where
+  pub has : (o : Opt) → has_row (name_of o) rows ≡ is_some (field_of o g)
   pub flag : has_row (codes "history") rows ≡ g.history_given
   pub modes : is_given (codes "mode") rows ≡ is_some g.mode_given
-  pub values : (o : Opt) → first_of (name_of o) rows ≡ value_of o g
+  pub values : (o : Opt) → first_of (name_of o) rows ≡ field_of o g
   pub on : first_of (codes "history") rows ≡ flag_value g.history_given
 
 -- what the rows say at the end
-pub record Holds (g : Given) (rows : List Row) : Type 0 where
-  pub values : (o : Opt) → first_of (name_of o) rows ≡ value_of o g
+pub record Holds (g : Fields) (rows : List Row) : Type 0 where
+  pub values : (o : Opt) → first_of (name_of o) rows ≡ field_of o g
   pub on : is_on (first_of (codes "history") rows) ≡ g.history_given
 
-pub rel_start : Rel nothing_given []
+pub rel_start : Rel no_fields []
 rel_start = record { has = has_none; flag = refl; modes = refl; values = no_value; on = refl }
   where
-    has_none : (o : Opt) → has_row (name_of o) [] ≡ is_some (value_of o nothing_given)
+    has_none : (o : Opt) → has_row (name_of o) [] ≡ is_some (field_of o no_fields)
     has_none mode = refl
     has_none workers = refl
     has_none seed = refl
     has_none trees = refl
 
-    no_value : (o : Opt) → first_of (name_of o) [] ≡ value_of o nothing_given
+    no_value : (o : Opt) → first_of (name_of o) [] ≡ field_of o no_fields
     no_value mode = refl
     no_value workers = refl
     no_value seed = refl
@@ -536,70 +535,70 @@ first_new id rows r t e =
     let some : find p (r ∷ []) ≡ Some r = rw t refl in
     ap (λ (o : Option Row). option_and_then (λ (x : Row). slice_get x.values 0) o) (find-append p rows (r ∷ []) ∙ ap (λ (o : Option Row). option_or o (find p (r ∷ []))) (find_none id rows e) ∙ some)
 
-pub rel_value : (g : Given) (rows : List Row) (o : Opt) (v : Text) → Rel g rows → has_row (name_of o) rows ≡ false → Rel (with_value o v g) (rows ++ new_row (rule o) v ∷ [])
+pub rel_value : (g : Fields) (rows : List Row) (o : Opt) (v : Text) → Rel g rows → has_row (name_of o) rows ≡ false → Rel (with_field o v g) (rows ++ new_row (rule o) v ∷ [])
 rel_value g rows mode v r fresh = record { has = each; flag = has_push (codes "history") rows (new_row (rule mode) v) ∙ or-false _ ∙ r.flag; modes = given_new rows v fresh; values = vals; on = first_push (codes "history") rows (new_row (rule mode) v) refl ∙ r.on }
   where
-    vals : (q : Opt) → first_of (name_of q) (rows ++ new_row (rule mode) v ∷ []) ≡ value_of q (with_value mode v g)
+    vals : (q : Opt) → first_of (name_of q) (rows ++ new_row (rule mode) v ∷ []) ≡ field_of q (with_field mode v g)
     vals mode = first_new (name_of mode) rows (new_row (rule mode) v) refl fresh
     vals workers = first_push (name_of workers) rows (new_row (rule mode) v) refl ∙ r.values workers
     vals seed = first_push (name_of seed) rows (new_row (rule mode) v) refl ∙ r.values seed
     vals trees = first_push (name_of trees) rows (new_row (rule mode) v) refl ∙ r.values trees
 
-    each : (q : Opt) → has_row (name_of q) (rows ++ new_row (rule mode) v ∷ []) ≡ is_some (value_of q (with_value mode v g))
+    each : (q : Opt) → has_row (name_of q) (rows ++ new_row (rule mode) v ∷ []) ≡ is_some (field_of q (with_field mode v g))
     each mode = has_push (name_of mode) rows (new_row (rule mode) v) ∙ or-true _
     each workers = has_push (name_of workers) rows (new_row (rule mode) v) ∙ or-false _ ∙ r.has workers
     each seed = has_push (name_of seed) rows (new_row (rule mode) v) ∙ or-false _ ∙ r.has seed
     each trees = has_push (name_of trees) rows (new_row (rule mode) v) ∙ or-false _ ∙ r.has trees
 rel_value g rows workers v r fresh = record { has = each; flag = has_push (codes "history") rows (new_row (rule workers) v) ∙ or-false _ ∙ r.flag; modes = given_push (codes "mode") rows (new_row (rule workers) v) refl ∙ r.modes; values = vals; on = first_push (codes "history") rows (new_row (rule workers) v) refl ∙ r.on }
   where
-    vals : (q : Opt) → first_of (name_of q) (rows ++ new_row (rule workers) v ∷ []) ≡ value_of q (with_value workers v g)
+    vals : (q : Opt) → first_of (name_of q) (rows ++ new_row (rule workers) v ∷ []) ≡ field_of q (with_field workers v g)
     vals mode = first_push (name_of mode) rows (new_row (rule workers) v) refl ∙ r.values mode
     vals workers = first_new (name_of workers) rows (new_row (rule workers) v) refl fresh
     vals seed = first_push (name_of seed) rows (new_row (rule workers) v) refl ∙ r.values seed
     vals trees = first_push (name_of trees) rows (new_row (rule workers) v) refl ∙ r.values trees
 
-    each : (q : Opt) → has_row (name_of q) (rows ++ new_row (rule workers) v ∷ []) ≡ is_some (value_of q (with_value workers v g))
+    each : (q : Opt) → has_row (name_of q) (rows ++ new_row (rule workers) v ∷ []) ≡ is_some (field_of q (with_field workers v g))
     each mode = has_push (name_of mode) rows (new_row (rule workers) v) ∙ or-false _ ∙ r.has mode
     each workers = has_push (name_of workers) rows (new_row (rule workers) v) ∙ or-true _
     each seed = has_push (name_of seed) rows (new_row (rule workers) v) ∙ or-false _ ∙ r.has seed
     each trees = has_push (name_of trees) rows (new_row (rule workers) v) ∙ or-false _ ∙ r.has trees
 rel_value g rows seed v r fresh = record { has = each; flag = has_push (codes "history") rows (new_row (rule seed) v) ∙ or-false _ ∙ r.flag; modes = given_push (codes "mode") rows (new_row (rule seed) v) refl ∙ r.modes; values = vals; on = first_push (codes "history") rows (new_row (rule seed) v) refl ∙ r.on }
   where
-    vals : (q : Opt) → first_of (name_of q) (rows ++ new_row (rule seed) v ∷ []) ≡ value_of q (with_value seed v g)
+    vals : (q : Opt) → first_of (name_of q) (rows ++ new_row (rule seed) v ∷ []) ≡ field_of q (with_field seed v g)
     vals mode = first_push (name_of mode) rows (new_row (rule seed) v) refl ∙ r.values mode
     vals workers = first_push (name_of workers) rows (new_row (rule seed) v) refl ∙ r.values workers
     vals seed = first_new (name_of seed) rows (new_row (rule seed) v) refl fresh
     vals trees = first_push (name_of trees) rows (new_row (rule seed) v) refl ∙ r.values trees
 
-    each : (q : Opt) → has_row (name_of q) (rows ++ new_row (rule seed) v ∷ []) ≡ is_some (value_of q (with_value seed v g))
+    each : (q : Opt) → has_row (name_of q) (rows ++ new_row (rule seed) v ∷ []) ≡ is_some (field_of q (with_field seed v g))
     each mode = has_push (name_of mode) rows (new_row (rule seed) v) ∙ or-false _ ∙ r.has mode
     each workers = has_push (name_of workers) rows (new_row (rule seed) v) ∙ or-false _ ∙ r.has workers
     each seed = has_push (name_of seed) rows (new_row (rule seed) v) ∙ or-true _
     each trees = has_push (name_of trees) rows (new_row (rule seed) v) ∙ or-false _ ∙ r.has trees
 rel_value g rows trees v r fresh = record { has = each; flag = has_push (codes "history") rows (new_row (rule trees) v) ∙ or-false _ ∙ r.flag; modes = given_push (codes "mode") rows (new_row (rule trees) v) refl ∙ r.modes; values = vals; on = first_push (codes "history") rows (new_row (rule trees) v) refl ∙ r.on }
   where
-    vals : (q : Opt) → first_of (name_of q) (rows ++ new_row (rule trees) v ∷ []) ≡ value_of q (with_value trees v g)
+    vals : (q : Opt) → first_of (name_of q) (rows ++ new_row (rule trees) v ∷ []) ≡ field_of q (with_field trees v g)
     vals mode = first_push (name_of mode) rows (new_row (rule trees) v) refl ∙ r.values mode
     vals workers = first_push (name_of workers) rows (new_row (rule trees) v) refl ∙ r.values workers
     vals seed = first_push (name_of seed) rows (new_row (rule trees) v) refl ∙ r.values seed
     vals trees = first_new (name_of trees) rows (new_row (rule trees) v) refl fresh
 
-    each : (q : Opt) → has_row (name_of q) (rows ++ new_row (rule trees) v ∷ []) ≡ is_some (value_of q (with_value trees v g))
+    each : (q : Opt) → has_row (name_of q) (rows ++ new_row (rule trees) v ∷ []) ≡ is_some (field_of q (with_field trees v g))
     each mode = has_push (name_of mode) rows (new_row (rule trees) v) ∙ or-false _ ∙ r.has mode
     each workers = has_push (name_of workers) rows (new_row (rule trees) v) ∙ or-false _ ∙ r.has workers
     each seed = has_push (name_of seed) rows (new_row (rule trees) v) ∙ or-false _ ∙ r.has seed
     each trees = has_push (name_of trees) rows (new_row (rule trees) v) ∙ or-true _
 
-pub rel_flag : (g : Given) (rows : List Row) → Rel g rows → has_row (codes "history") rows ≡ false → Rel (record g { history_given = true }) (rows ++ new_row history (codes "true") ∷ [])
+pub rel_flag : (g : Fields) (rows : List Row) → Rel g rows → has_row (codes "history") rows ≡ false → Rel (record g { history_given = true }) (rows ++ new_row history (codes "true") ∷ [])
 rel_flag g rows r fresh = record { has = each; flag = has_push (codes "history") rows (new_row history (codes "true")) ∙ or-true _; modes = given_push (codes "mode") rows (new_row history (codes "true")) refl ∙ r.modes; values = vals; on = first_new (codes "history") rows (new_row history (codes "true")) refl fresh }
   where
-    vals : (q : Opt) → first_of (name_of q) (rows ++ new_row history (codes "true") ∷ []) ≡ value_of q (record g { history_given = true })
+    vals : (q : Opt) → first_of (name_of q) (rows ++ new_row history (codes "true") ∷ []) ≡ field_of q (record g { history_given = true })
     vals mode = first_push (name_of mode) rows (new_row history (codes "true")) refl ∙ r.values mode
     vals workers = first_push (name_of workers) rows (new_row history (codes "true")) refl ∙ r.values workers
     vals seed = first_push (name_of seed) rows (new_row history (codes "true")) refl ∙ r.values seed
     vals trees = first_push (name_of trees) rows (new_row history (codes "true")) refl ∙ r.values trees
 
-    each : (q : Opt) → has_row (name_of q) (rows ++ new_row history (codes "true") ∷ []) ≡ is_some (value_of q (record g { history_given = true }))
+    each : (q : Opt) → has_row (name_of q) (rows ++ new_row history (codes "true") ∷ []) ≡ is_some (field_of q (record g { history_given = true }))
     each mode = has_push (name_of mode) rows (new_row history (codes "true")) ∙ or-false _ ∙ r.has mode
     each workers = has_push (name_of workers) rows (new_row history (codes "true")) ∙ or-false _ ∙ r.has workers
     each seed = has_push (name_of seed) rows (new_row history (codes "true")) ∙ or-false _ ∙ r.has seed
@@ -661,7 +660,7 @@ not_flag seed = refl
 not_flag trees = refl
 
 -- the rows with the flag's default
-holds_at : (g : Given) (rows : List Row) → Rel g rows → Holds g (with_default rows history)
+holds_at : (g : Fields) (rows : List Row) → Rel g rows → Holds g (with_default rows history)
 holds_at g rows r = by (has_row (codes "history") rows) refl
   where
     on_by : (b : Bool) → is_on (flag_value b) ≡ b
@@ -680,7 +679,7 @@ holds_at g rows r = by (has_row (codes "history") rows) refl
           on = ap is_on (first_new (codes "history") rows row refl e) ∙ (sym e ∙ r.flag);
         })
 
-pub ends_at : (g : Given) (rows : List Row) → Rel g rows → ((total (at_rows rows) []).0 ≡ mode_wanted (is_some g.mode_given)) × Holds g (total (at_rows rows) []).1
+pub ends_at : (g : Fields) (rows : List Row) → Rel g rows → ((total (at_rows rows) []).0 ≡ mode_wanted (is_some g.mode_given)) × Holds g (total (at_rows rows) []).1
 unfolding total
 ends_at g rows r =
     let m = ap (is_given (codes "mode")) (finished_is rows) ∙ modes_stay rows ∙ r.modes in

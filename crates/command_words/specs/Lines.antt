@@ -1,5 +1,5 @@
 -- The line that the values of the options make.
-use Rattle.std.specs.Prelude.{ℕ, Bool, true, false, ◌≡◌, ◌≤◌, ◌&&◌, nat_le, Option, Some, None, Result, Ok, Err, codes, unwrap_or, if◌then◌else◌, ⊤}
+use Rattle.std.specs.Prelude.{ℕ, Bool, true, false, ◌≡◌, ◌≤◌, ◌&&◌, nat_le, Option, Some, None, Result, Ok, Err, codes, option_map, unwrap_or, if◌then◌else◌, ⊤}
 use Rattle.std.specs.Str.{bytes_eq}
 use Rattle.clap.specs.Words.{Text}
 use Rattle.tv_base.specs.Digits.{decimal_value}
@@ -29,10 +29,6 @@ abbrev pub is_given_in : ℕ → ℕ → Option Text → Bool
 is_given_in low high None = true
 is_given_in low high (Some text) = is_option_number text && nat_le low (decimal_value text) && nat_le (decimal_value text) high
 
-abbrev pub given_value : Option Text → Option ℕ
-given_value None = None
-given_value (Some text) = Some (decimal_value text)
-
 -- what goes with each mode: workers are 4 where they aren't given, and a soak needs its seed and its trees
 abbrev pub line_of_mode : ModeName → Option ℕ → Option ℕ → Option ℕ → Bool → Option Line
 line_of_mode names.Check None None None false = Some (lines.OfScript modes.Check)
@@ -48,7 +44,7 @@ abbrev pub line_with : Option ModeName → Option Text → Option Text → Optio
 line_with None workers seed trees history = None
 line_with (Some name) workers seed trees history =
     if is_given_in 1 32 workers && is_given_in 0 18446744073709551615 seed && is_given_in 1 20000 trees
-    then line_of_mode name (given_value workers) (given_value seed) (given_value trees) history
+    then line_of_mode name (option_map decimal_value workers) (option_map decimal_value seed) (option_map decimal_value trees) history
     else None
 
 -- a mode that runs threads has from 1 to 32 workers

@@ -4,8 +4,9 @@
 ghost use Rattle.std.specs.Prelude.{◌≡◌, IfOk, MatchResult, codes, drop, false, map, option_and_then, option_map, string_bytes, true};
 ghost use Rattle.std.specs.List.{list_any};
 ghost use Rattle.std.specs.Str.{bytes_eq};
+ghost use Rattle.tv_base.specs.Digits.{decimal_value};
 ghost use Rattle.command_words.specs.Grammar.{asked as asked_in, asked_by as asked_in_word, line_of, line_of_options};
-ghost use Rattle.command_words.specs.Lines.{IsInRange, HasReadLine, given_value, is_given_in, line_of_mode, mode_of};
+ghost use Rattle.command_words.specs.Lines.{IsInRange, HasReadLine, is_given_in, line_of_mode, mode_of};
 ghost use Rattle.command_words.specs.inside.Parser.{is_on as is_on_text, line_from};
 
 mod numbers;
@@ -120,7 +121,7 @@ fn mode_by_word(word: &str) -> Option<ModeName>
 fn given(low: u64, high: u64, text: Option<&str>) -> Result<Option<u64>, WordsError>
     ensures { MatchResult result
         (λ v. (is_given_in low high (option_map (λ t. t.now) text.entry) ≡ true)
-        × (v ≡ given_value (option_map (λ t. t.now) text.entry)))
+        × (v ≡ option_map decimal_value (option_map (λ t. t.now) text.entry)))
         (λ e. (e ≡ WordsError.Refused) × (is_given_in low high (option_map (λ t. t.now) text.entry) ≡ false)) }
 {
     let Some(text) = text else {
@@ -136,7 +137,7 @@ fn given(low: u64, high: u64, text: Option<&str>) -> Result<Option<u64>, WordsEr
 fn given_count(most: u32, text: Option<&str>) -> Result<Option<u32>, WordsError>
     ensures { MatchResult result
         (λ v. (is_given_in 1 most (option_map (λ t. t.now) text.entry) ≡ true)
-        × (v ≡ given_value (option_map (λ t. t.now) text.entry)))
+        × (v ≡ option_map decimal_value (option_map (λ t. t.now) text.entry)))
         (λ e. (e ≡ WordsError.Refused) × (is_given_in 1 most (option_map (λ t. t.now) text.entry) ≡ false)) }
 {
     let count = given(1, most as u64, text)?;

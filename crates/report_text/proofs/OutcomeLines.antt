@@ -14,7 +14,7 @@ use Rattle.board_rules.specs.Stands.{refusal_in}
 use Rattle.board_model.specs.Ballots.{tells_of}
 use Rattle.board_model.proofs.Voting.{decisions_kept, votes_kept}
 use Rattle.history_text.specs.TreeNames.{got_text, item_text}
-use Rattle.report_text.specs.Outcomes.{outcome_of, outcome_text, why_text}
+use Rattle.report_text.specs.Outcomes.{decided_text, outcome_of, why_text}
 use Rattle.history_text.specs.Values.{get_text}
 
 pub got_text-append : (s : ScriptData) (vs more : List (ItemNo × Value)) → got_text s (vs ++ more) ≡ got_text s vs ++ got_text s more
@@ -36,7 +36,7 @@ cause_kept acts t k (sub ∷ subs) =
     ∙ ap (λ (o : Option Cause). option_or (option_and_then refusal_in (vote_in t k acts)) o) (cause_kept acts t (k + 1) subs)
 
 decided_kept : (s : ScriptData) (acts : List Act) (t : ℕ) (subs : List Sub) (o : Option Bool)
-    → outcome_text s (filter (tells_of t) acts) t subs o ≡ outcome_text s acts t subs o
+    → option_map_or (decided_text s (filter (tells_of t) acts) t subs) o [] ≡ option_map_or (decided_text s acts t subs) o []
 decided_kept s acts t subs None = refl
 decided_kept s acts t subs (Some true) = ap (λ (vs : List (ItemNo × Value)). codes " committed" ++ got_text s vs) (got_kept acts t 0 subs)
 decided_kept s acts t subs (Some false) = ap (λ (o : Option Cause). codes " aborted" ++ why_text s o) (cause_kept acts t 0 subs)
@@ -44,5 +44,5 @@ decided_kept s acts t subs (Some false) = ap (λ (o : Option Cause). codes " abo
 pub outcome_kept : (s : ScriptData) (acts : List Act) (t : ℕ) (subs : List Sub)
     → outcome_of s (filter (tells_of t) acts) t subs ≡ outcome_of s acts t subs
 outcome_kept s acts t subs =
-    ap (λ (o : Option Bool). outcome_text s (filter (tells_of t) acts) t subs o) (decisions_kept t acts)
+    ap (λ (o : Option Bool). option_map_or (decided_text s (filter (tells_of t) acts) t subs) o []) (decisions_kept t acts)
     ∙ decided_kept s acts t subs (decision_in t acts)
