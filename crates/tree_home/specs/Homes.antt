@@ -125,6 +125,11 @@ answer_of t s vs (Some h) = answer_with t h (gathered (slice_set h.notices s.0 (
 abbrev pub answer_in : TreeNo → SubNo → Gets → OpenTrees → Option Answered
 answer_in t s vs hs = answer_of t s vs (home_in t hs)
 
+-- the trees after one more notice, by the answer that it gives: a tree that is answered is gone
+abbrev pub after_notice : TreeNo → SubNo → Gets → OpenTrees → Option Answered → OpenTrees
+after_notice t s vs hs None = noted t s vs hs
+after_notice t s vs hs (Some a) = forgotten t hs
+
 -- the version of an answer, where there is one
 abbrev pub answered_version : Option Answered → Option Version
 answered_version None = None
@@ -147,8 +152,3 @@ outcome t s vs hs = told (missing_in t (noted t s vs hs)) (answer_in t s vs hs)
 abbrev pub MissesSome : Noted → Type 0
 MissesSome (Missing k) = 0 < k
 MissesSome (WasAnswered a) = ⊤
-
--- the trees after one more notice: a tree that is answered is gone
-abbrev pub after_notice : TreeNo → SubNo → Gets → OpenTrees → Noted → OpenTrees
-after_notice t s vs hs (Missing k) = noted t s vs hs
-after_notice t s vs hs (WasAnswered a) = forgotten t hs

@@ -129,8 +129,8 @@ impl Homes {
         requires { IsTrue (misses tree sub (open_trees self.old)) }
         ensures noted { IfOk result (λ told. told ≡ outcome tree sub values (open_trees self.old)) }
         ensures missing { IfOk result (λ told. MissesSome told) }
-        ensures homes { IfOk result
-            (λ told. open_trees self.new ≡ after_notice tree sub values (open_trees self.old) told) }
+        ensures homes { OnOk result (open_trees self.new
+            ≡ after_notice tree sub values (open_trees self.old) (answer_in tree sub values (open_trees self.old))) }
         ensures held { self.new.held ≡ self.old.held }
         ensures refused { IfErr result (λ e. e.1 ≡ values) }
         ensures err { OnErr result (self.new ≡ self.old) }

@@ -3,7 +3,7 @@ ghost use Rattle.std.specs.Prelude.{◌≡◌, ◌<◌, ◌↔◌, [], false, If
 ghost use Rattle.item_versions.specs.Window.{in_window};
 ghost use Rattle.pair_counters.specs.Numbers.{AllBelow, MOST_COUNT};
 ghost use Rattle.pair_counters.specs.Rows.{counts_of};
-ghost use Rattle.tree_home.specs.Homes.{after_notice, answer_in, misses, missing_in, outcome, open_trees};
+ghost use Rattle.tree_home.specs.Homes.{after_notice, answer_in, misses, missing_in, open_trees};
 ghost use Rattle.tree_step.specs.Changes.{home_after, IsTreePartOf, MayHome};
 ghost use Rattle.world_model.specs.Done.{note_part};
 ghost use Rattle.tree_step.specs.Node.{data_of, IsInWindow};
@@ -32,7 +32,7 @@ fn notice_home(
     requires answer { answer.now ≡ answer_in tree sub values (open_trees homes.now) }
     requires none { IsNone answer.now ↔ (1 < missing_in tree (open_trees homes.now)) }
     ensures after { home_after result (open_trees homes.now)
-        ≡ after_notice tree sub values (open_trees homes.now) (outcome tree sub values (open_trees homes.now)) }
+        ≡ after_notice tree sub values (open_trees homes.now) (answer_in tree sub values (open_trees homes.now)) }
     ensures may { MayHome result (open_trees homes.now) }
 {
     match answer {
