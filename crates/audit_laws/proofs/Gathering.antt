@@ -11,12 +11,10 @@ use Rattle.letter_types.specs.declared.bodies.Notice.{Notice}
 use Rattle.letter_types.specs.declared.bodies.Notice.TheVariants.{Did, Yes, No}
 use Rattle.script_parts.specs.ScriptData.{ScriptData}
 use Rattle.tree_home.specs.HeldAnswers.{HeldAnswers, acked, acked_of, answer_when_acked, held_for, held_in, holding, last_answer}
-use Rattle.tree_home.specs.Homes.{Gets, OpenTrees, after_notice, answer_in, answer_of, answer_with, begun, gathered, home_in, misses, new_tree, noted_of, outcome, prepended}
+use Rattle.tree_home.specs.Homes.{Gets, OpenTrees, after_notice, answer_in, answer_of, answer_with, begun, gathered, home_in, misses, new_tree, noted_of, prepended}
 use Rattle.tree_home.specs.Maps.{put_at}
 use Rattle.tree_home.specs.declared.homes.Answered.{Answered}
 use Rattle.tree_home.specs.declared.homes.Held.{Held}
-use Rattle.tree_home.specs.declared.homes.Noted.{Noted}
-use Rattle.tree_home.specs.declared.homes.Noted.TheVariants.{Missing, Answered as WasAnswered}
 use Rattle.tree_home.specs.declared.homes.OpenTree.{OpenTree}
 use Rattle.world_model.specs.Core.{Refusals, lesser, refused_by}
 use Rattle.world_model.specs.Notices.{answer_noted, homes_noted, values_of}
@@ -66,17 +64,17 @@ of_noted : (s : ScriptData) (t : ℕ) (k : SubNo) (vs : Gets) (found : Option Op
 of_noted s t k vs None one all = tt
 of_noted s t k vs (Some h) one all = one_noted s h.notices k.0 vs one all
 
-after_all : (s : ScriptData) (t : TreeNo) (k : SubNo) (vs : Gets) (hs : OpenTrees) (told : Noted) → AreGot s vs → AreOpen s hs
-    → AreOpen s (after_notice t k vs hs told)
-after_all s t k vs hs (Missing n) one all =
+after_all : (s : ScriptData) (t : TreeNo) (k : SubNo) (vs : Gets) (hs : OpenTrees) (o : Option Answered) → AreGot s vs → AreOpen s hs
+    → AreOpen s (after_notice t k vs hs o)
+after_all s t k vs hs None one all =
     put_all (IsOpen s) t.0 (noted_of k vs (home_in t hs)) hs (of_noted s t.0 k vs (home_in t hs) one (all t.0)) all
-after_all s t k vs hs (WasAnswered a) one all = put_all (IsOpen s) t.0 None hs tt all
+after_all s t k vs hs (Some a) one all = put_all (IsOpen s) t.0 None hs tt all
 
 pub open_noted : (s : ScriptData) (t : TreeNo) (k : SubNo) (vs : Gets) (hs : OpenTrees) → AreGot s vs → AreOpen s hs
     → AreOpen s (homes_noted t k vs hs)
 open_noted s t k vs hs one all = by (misses t k hs) where
-  by : (b : Bool) → AreOpen s (if b then after_notice t k vs hs (outcome t k vs hs) else hs)
-  by true = after_all s t k vs hs (outcome t k vs hs) one all
+  by : (b : Bool) → AreOpen s (if b then after_notice t k vs hs (answer_in t k vs hs) else hs)
+  by true = after_all s t k vs hs (answer_in t k vs hs) one all
   by false = all
 
 -- The values of an answer.

@@ -2,7 +2,7 @@ ghost use Rattle.std.specs.Prelude.{◌≡◌, ◌<◌, true, [], ◌∷◌, len
 ghost use Rattle.nc_locks.specs.Locks.{AreLocks, first_where, has_lock, is_in_way, lock_of, locks_after, marks_on, met_in, with_locks, without};
 ghost use Rattle.nc_locks.specs.inside.Found.{AreAdded, AreTaken, IsFirst, IsLockOf, OthersStay, is_of_other, missing_locks};
 
-use crate::modes::{Lock, Met, Mode, first_of};
+use crate::modes::{Lock, Met, Mode, WantedLocks, first_of};
 use crate::owned::Owned;
 use crate::search::{add, lock_of, other_lock, take_away};
 use std::alloc::Global;
@@ -74,7 +74,7 @@ impl Locks {
         ensures err { OnErr result (self.new ≡ self.old) }
     {
         let wanted = marks(self.alloc, items)?;
-        self.try_strict(tree, &wanted)
+        self.try_strict(tree, wanted.items())
     }
 
     /// Takes locks for a tree, each an item with a mode. Where it meets a lock of another tree that conflicts it gets
@@ -224,10 +224,10 @@ impl Locks {
 }
 
 /// Marks on items.
-fn marks(alloc: Global, items: &[ItemNo]) -> Result<Vec<(ItemNo, Mode)>, NoMemory>
-    ensures { IfOk result (λ wanted. wanted.items ≡ marks_on items.now) }
+fn marks(alloc: Global, items: &[ItemNo]) -> Result<WantedLocks, NoMemory>
+    ensures { IfOk result (λ wanted. wanted ≡ marks_on items.now) }
 {
-    let mut wanted = Vec::new(alloc);
+    let mut wanted = WantedLocks::new(alloc);
     for item in items {
         wanted.push((*item, Mode::Mark))?;
     }

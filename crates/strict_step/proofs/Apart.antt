@@ -10,11 +10,9 @@ use Rattle.letter_types.specs.declared.bodies.Body.{Body}
 use Rattle.letter_types.specs.declared.bodies.Body.TheVariants.{Root, Sub as SubLetter}
 use Rattle.tree_home.proofs.Maps.{put_at-other, put_at-same}
 use Rattle.tree_home.specs.HeldAnswers.{HeldAnswers, held_answers, held_in}
-use Rattle.tree_home.specs.Homes.{Gets, OpenTrees, after_notice, answer_in, begun, home_in, misses, missing_in, new_tree, noted, noted_of, outcome, told}
+use Rattle.tree_home.specs.Homes.{Gets, OpenTrees, after_notice, answer_in, begun, home_in, misses, new_tree, noted, noted_of}
 use Rattle.tree_home.specs.declared.homes.Answered.{Answered}
 use Rattle.tree_home.specs.declared.homes.Held.{Held}
-use Rattle.tree_home.specs.declared.homes.Noted.{Noted}
-use Rattle.tree_home.specs.declared.homes.Noted.TheVariants.{Missing, Answered as WasAnswered}
 use Rattle.tree_home.specs.declared.homes.OpenTree.{OpenTree}
 use Rattle.tree_home.proofs.Gathered.{answer_of_tree}
 use Rattle.tx_trees.specs.ScriptData.{ScriptData, subs_at}
@@ -42,9 +40,9 @@ none_some (Some h) is some = cc
 abbrev some_of : Option OpenTree → Type 0
 some_of o = IsSome o
 
-open_by : (t u : TreeNo) (k : SubNo) (values : Gets) (hs : OpenTrees) (o : Noted)
+open_by : (t u : TreeNo) (k : SubNo) (values : Gets) (hs : OpenTrees) (o : Option Answered)
     → IsSome (home_in u (after_notice t k values hs o)) → IsSome (home_in u hs)
-open_by t u k values hs (Missing j) there =
+open_by t u k values hs None there =
     elim (cases_eq u.0 t.0) [
       | inl eq ↦
           let here : home_in u (noted t k values hs) ≡ noted_of k values (hs t.0) =
@@ -52,18 +50,18 @@ open_by t u k values hs (Missing j) there =
           subst some_of (ap (λ (i : ℕ). hs i) (sym eq)) (noted_some k values (hs t.0) (subst some_of here there))
       | inr ne ↦ subst some_of (put_at-other t.0 u.0 (noted_of k values (hs t.0)) hs ne) there
     ]
-open_by t u k values hs (WasAnswered a) there =
+open_by t u k values hs (Some a) there =
     elim (cases_eq u.0 t.0) [
       | inl eq ↦
-          let here : home_in u (after_notice t k values hs (WasAnswered a)) ≡ None =
-          ap (λ (i : ℕ). after_notice t k values hs (WasAnswered a) i) eq ∙ put_at-same t.0 None hs in
-          absurd (none_some (home_in u (after_notice t k values hs (WasAnswered a))) here there)
+          let here : home_in u (after_notice t k values hs (Some a)) ≡ None =
+          ap (λ (i : ℕ). after_notice t k values hs (Some a) i) eq ∙ put_at-same t.0 None hs in
+          absurd (none_some (home_in u (after_notice t k values hs (Some a))) here there)
       | inr ne ↦ subst some_of (put_at-other t.0 u.0 None hs ne) there
     ]
 
 open_if : (t u : TreeNo) (k : SubNo) (values : Gets) (hs : OpenTrees) (b : Bool)
-    → IsSome (home_in u (if b then after_notice t k values hs (outcome t k values hs) else hs)) → IsSome (home_in u hs)
-open_if t u k values hs true there = open_by t u k values hs (outcome t k values hs) there
+    → IsSome (home_in u (if b then after_notice t k values hs (answer_in t k values hs) else hs)) → IsSome (home_in u hs)
+open_if t u k values hs true there = open_by t u k values hs (answer_in t k values hs) there
 open_if t u k values hs false there = there
 
 pub apart_noted : (t : TreeNo) (k : SubNo) (values : Gets) (hs : OpenTrees) (held : HeldAnswers) → AreApart hs held
@@ -105,7 +103,7 @@ apart_part part n o row apart =
 
 -- a tree that is answered is the notice's, and isn't open any more
 gone_by : (t : TreeNo) (k : SubNo) (values : Gets) (hs : OpenTrees) (a : Answered) (o : Option Answered) → o ≡ Some a
-    → home_in t (after_notice t k values hs (told (missing_in t (noted t k values hs)) o)) ≡ None
+    → home_in t (after_notice t k values hs o) ≡ None
 gone_by t k values hs a None is = cc
 gone_by t k values hs a (Some b) is = put_at-same t.0 None hs
 
@@ -122,6 +120,6 @@ answered_gone t k values hs a is = by (misses t k hs) refl is
           missed,
           same,
           ap (λ (u : TreeNo). home_in u (homes_noted t k values hs)) same
-              ∙ ap (λ (b : Bool). home_in t (if b then after_notice t k values hs (outcome t k values hs) else hs)) missed
+              ∙ ap (λ (b : Bool). home_in t (if b then after_notice t k values hs (answer_in t k values hs) else hs)) missed
               ∙ gone_by t k values hs a (answer_in t k values hs) is,
         )

@@ -1,15 +1,16 @@
 -- What is gathered of notices, how many are missing, and a tree that has one more. The version of an answer, and that
 -- it names its tree.
-use Rattle.std.proofs.Common.{◌≡◌, ℕ, zero, suc, ◌+◌, ◌<◌, ◌≤◌, List, [], ◌∷◌, ◌++◌, length, set, refl, ap, subst, ◌∙◌, arith, append_assoc, append-nil, Bool, true, false, Option, Some, None, sym}
+use Rattle.std.proofs.Common.{◌≡◌, ℕ, zero, suc, ◌+◌, ◌<◌, ◌≤◌, List, [], ◌∷◌, ◌++◌, length, set, refl, ap, subst, ◌∙◌, arith, append_assoc, append-nil, Bool, true, false, Option, Some, None, sym, inl, inr}
 use Rattle.std.specs.Prelude.{if◌then◌else◌, IsSome, IsNone, IsTrue, nat_le, slice_get, ◌↔◌, slice_set}
-use Rattle.std.proofs.lemmas.Bool.{leb-false, leb-true}
+use Rattle.std.proofs.lemmas.Bool.{cases_lt, leb-false, leb-true}
 use Rattle.tv_base.specs.declared.numbers.TreeNo.{TreeNo}
 use Rattle.tv_base.specs.declared.numbers.SubNo.{SubNo}
 use Rattle.tv_base.specs.declared.numbers.Version.{Version}
 use Rattle.tree_home.specs.declared.homes.OpenTree.{OpenTree}
 use Rattle.tree_home.specs.declared.homes.Answered.{Answered}
 use Rattle.tree_home.specs.declared.homes.Noted.TheVariants.{Missing}
-use Rattle.tree_home.specs.Homes.{Gets, OpenTrees, home_in, with_notice, noted, noted_of, prepended, gathered, missing_count, missing_of, missing_in, misses, misses_of, is_missing, told, answer_of, answer_with, last_version, answered_version}
+use Rattle.tree_home.specs.declared.homes.Prospect.TheVariants.{NotMissing, Noted as WouldBeNoted, Answered as WouldBeAnswered}
+use Rattle.tree_home.specs.Homes.{Gets, OpenTrees, home_in, with_notice, noted, noted_of, prepended, gathered, missing_count, missing_of, missing_in, misses, misses_of, is_missing, told, answer_of, answer_with, last_version, answered_version, prospect_of, IsNotedAmong}
 use Rattle.tree_home.proofs.Maps.{put_at-same}
 
 pub prepended-append : (vs ws : Gets) (o : Option Gets) → prepended (vs ++ ws) o ≡ prepended vs (prepended ws o)
@@ -122,19 +123,39 @@ version-told t s vs (Some h) v is = sym is ∙ by (is_missing (slice_get h.notic
 pub told-missing : (k m : ℕ) (o : Option Answered) → k ≡ m → None ≡ o → Missing k ≡ told m o
 told-missing k m o left none = rw (← left, ← none) refl
 
-pub more-missing : (o : Option Answered) (m : ℕ) → o ≡ None → (IsNone o ↔ (1 < m)) → 1 < m
-more-missing None m is when = when.0 refl
-more-missing (Some a) m is when = cc
+-- what would come of a notice that is missing
+pub prospect-missing : (b : Bool) (o : Option Answered) → IsTrue b → (if b then prospect_of o else NotMissing) ≡ prospect_of o
+prospect-missing b o is = rw is refl
+
+pub prospect-among : (o : Option Answered) (k : ℕ) → (IsNone o ↔ (1 < k)) → IsNotedAmong k (prospect_of o)
+prospect-among None k when = when.0 refl
+prospect-among (Some a) k when = elim (cases_lt 1 k) [
+  | inl more ↦ absurd (let none = when.1 more in cc)
+  | inr few ↦ omega (arith, few)
+]
+
+-- by what would come of it, there is an answer or none
+pub noted-none : (o : Option Answered) → WouldBeNoted ≡ prospect_of o → o ≡ None
+noted-none None is = refl
+noted-none (Some a) is = cc
+
+pub answered-some : (o : Option Answered) (a : Answered) → WouldBeAnswered a ≡ prospect_of o → o ≡ Some a
+answered-some None a is = cc
+answered-some (Some b) a is = let same : a ≡ b = cc is in ap Some (sym same)
+
+pub never-stray : (o : Option Answered) → NotMissing ≡ prospect_of o → ⊥
+never-stray None is = cc
+never-stray (Some a) is = cc
 
 pub ruleset gathering = (prepended-append, prepended-nil, append-nil)
 
 pub ruleset completing = (gathered-others, gathered-last)
 
-pub ruleset answering = (misses-there, misses-here)
+pub ruleset answering = (misses-there, misses-here, prospect-missing, prospect-among)
 
 pub ruleset telling_version = (version-told)
 
-pub ruleset telling = (missing_in-noted, misses-there)
+pub ruleset telling = (missing_in-noted, misses-there, prospect-missing, noted-none, answered-some, never-stray)
 
 -- an answer names its tree
 pub answer_with_tree : (t : TreeNo) (h : OpenTree) (o : Option Gets) (a : Answered) → answer_with t h o ≡ Some a → a.tree ≡ t

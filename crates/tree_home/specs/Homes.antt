@@ -1,5 +1,5 @@
 -- What a home keeps, and the notices of trees that are open there.
-use Rattle.std.specs.Prelude.{if◌then◌else◌, ℕ, ◌+◌, ◌<◌, nat_le, Bool, true, false, List, [], ◌∷◌, ◌++◌, replicate, slice_set, slice_get, ⊤, Option, Some, None}
+use Rattle.std.specs.Prelude.{if◌then◌else◌, ℕ, ◌+◌, ◌<◌, ◌≤◌, nat_le, Bool, true, false, List, [], ◌∷◌, ◌++◌, replicate, slice_set, slice_get, ⊤, Option, Some, None}
 use Rattle.tv_base.specs.declared.numbers.TreeNo.{TreeNo}
 use Rattle.tv_base.specs.declared.numbers.SubNo.{SubNo}
 use Rattle.tv_base.specs.declared.numbers.ItemNo.{ItemNo}
@@ -10,6 +10,8 @@ use Rattle.tree_home.specs.declared.homes.Answered.{Answered}
 use Rattle.tree_home.specs.declared.homes.Held.{Held}
 use Rattle.tree_home.specs.declared.homes.Noted.{Noted}
 use Rattle.tree_home.specs.declared.homes.Noted.TheVariants.{Missing, Answered as WasAnswered}
+use Rattle.tree_home.specs.declared.homes.Prospect.{Prospect}
+use Rattle.tree_home.specs.declared.homes.Prospect.TheVariants.{NotMissing, Noted as WouldBeNoted, Answered as WouldBeAnswered}
 use Rattle.tree_home.specs.Maps.{AreAscending, by_tree, put_at}
 
 -- the values of gets, in order
@@ -125,6 +127,11 @@ answer_of t s vs (Some h) = answer_with t h (gathered (slice_set h.notices s.0 (
 abbrev pub answer_in : TreeNo → SubNo → Gets → OpenTrees → Option Answered
 answer_in t s vs hs = answer_of t s vs (home_in t hs)
 
+-- the trees after one more notice, by the answer that it gives: a tree that is answered is gone
+abbrev pub after_notice : TreeNo → SubNo → Gets → OpenTrees → Option Answered → OpenTrees
+after_notice t s vs hs None = noted t s vs hs
+after_notice t s vs hs (Some a) = forgotten t hs
+
 -- the version of an answer, where there is one
 abbrev pub answered_version : Option Answered → Option Version
 answered_version None = None
@@ -148,7 +155,17 @@ abbrev pub MissesSome : Noted → Type 0
 MissesSome (Missing k) = 0 < k
 MissesSome (WasAnswered a) = ⊤
 
--- the trees after one more notice: a tree that is answered is gone
-abbrev pub after_notice : TreeNo → SubNo → Gets → OpenTrees → Noted → OpenTrees
-after_notice t s vs hs (Missing k) = noted t s vs hs
-after_notice t s vs hs (WasAnswered a) = forgotten t hs
+-- what would come of a notice that is missing, by the answer that it gives
+abbrev pub prospect_of : Option Answered → Prospect
+prospect_of None = WouldBeNoted
+prospect_of (Some a) = WouldBeAnswered a
+
+-- what would come of a notice
+abbrev pub prospect : TreeNo → SubNo → Gets → OpenTrees → Prospect
+prospect t s vs hs = if misses t s hs then prospect_of (answer_in t s vs hs) else NotMissing
+
+-- a notice that is missing, among so many, would be noted exactly where another is missing too
+abbrev pub IsNotedAmong : ℕ → Prospect → Type 0
+IsNotedAmong k NotMissing = ⊤
+IsNotedAmong k WouldBeNoted = 1 < k
+IsNotedAmong k (WouldBeAnswered a) = k ≤ 1

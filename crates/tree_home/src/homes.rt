@@ -2,7 +2,7 @@ ghost use Rattle.std.specs.Prelude.{if◌then◌else◌, ◌≡◌, ◌++◌, �
 ghost use Rattle.std.specs.Option.{option_copied, is_some};
 ghost use Rattle.tree_home.specs.Maps.{AreAscending, by_tree, put_at};
 ghost use Rattle.tree_home.specs.HeldAnswers.{acked, answer_when_acked, held_answers, held_for, held_in, holding, waits_for_more};
-ghost use Rattle.tree_home.specs.Homes.{Gets, no_homes, open_trees, home_in, begun, with_notice, noted, forgotten, gathered, missing_count, missing_in, misses, is_missing, after_notice, answer_in, answer_of, answered_version, last_version, outcome, MissesSome};
+ghost use Rattle.tree_home.specs.Homes.{Gets, no_homes, open_trees, home_in, begun, with_notice, noted, forgotten, gathered, missing_count, missing_in, misses, is_missing, after_notice, answer_in, answer_of, answered_version, last_version, outcome, prospect, prospect_of, IsNotedAmong, MissesSome};
 
 use crate::tree_map::{find, insert, remove};
 use commute_ops::{Value, Values};
@@ -39,6 +39,17 @@ pub enum Noted {
     /// This many notices of the tree are still missing, at least 1.
     Missing(u32),
     /// None is missing: the tree is answered and gone.
+    Answered(Answered),
+}
+
+/// What would come of a notice.
+#[derive(Drop)]
+pub enum Prospect {
+    /// Nothing: the notice isn't missing. Its tree isn't open, has no such subtransaction, or has the notice already.
+    NotMissing,
+    /// It would be noted: another notice of the tree is missing too.
+    Noted,
+    /// No other notice is missing: the tree would be answered so.
     Answered(Answered),
 }
 
@@ -129,46 +140,44 @@ impl Homes {
         requires { IsTrue (misses tree sub (open_trees self.old)) }
         ensures noted { IfOk result (λ told. told ≡ outcome tree sub values (open_trees self.old)) }
         ensures missing { IfOk result (λ told. MissesSome told) }
-        ensures homes { IfOk result
-            (λ told. open_trees self.new ≡ after_notice tree sub values (open_trees self.old) told) }
+        ensures homes { OnOk result (open_trees self.new
+            ≡ after_notice tree sub values (open_trees self.old) (answer_in tree sub values (open_trees self.old))) }
         ensures held { self.new.held ≡ self.old.held }
         ensures refused { IfErr result (λ e. e.1 ≡ values) }
         ensures err { OnErr result (self.new ≡ self.old) }
     {
         match self.would_answer(tree, sub, &values) {
             Err(e) => Err((e, values)),
-            Ok(None) => unreachable!(),
-            Ok(Some(None)) => {
+            Ok(Prospect::NotMissing) => unreachable!(),
+            Ok(Prospect::Noted) => {
                 self.put_notice(tree, sub, values);
                 Ok(Noted::Missing(self.still_missing(tree)))
             }
-            Ok(Some(Some(answer))) => {
+            Ok(Prospect::Answered(answer)) => {
                 self.forget(tree);
                 Ok(Noted::Answered(answer))
             }
         }
     }
 
-    /// The answer that `note` would give with these values, found in one search. None exactly where the notice of `sub`
-    /// isn't missing; else the answer is None exactly where another notice of the tree is missing too.
+    /// What would come of the notice of `sub` with these values, found in one search. A tree that would be answered has
+    /// the answer that `note` would give.
     #[tactic(auto, using(crate::proofs::Gathered::answering))]
     pub fn would_answer(
         &self,
         tree: TreeNo,
         sub: SubNo,
         values: &Values,
-    ) -> Result<Option<Option<Answered>>, NoMemory>
-        ensures misses { IfOk result (λ found. is_some found ≡ misses tree sub (open_trees self.now)) }
-        ensures answer { IfOk result (λ found. IfSome found
-            (λ answer. answer ≡ answer_in tree sub values.now (open_trees self.now))) }
-        ensures none { IfOk result (λ found. IfSome found
-            (λ answer. IsNone answer ↔ (1 < missing_in tree (open_trees self.now)))) }
+    ) -> Result<Prospect, NoMemory>
+        ensures prospect { IfOk result (λ found. found ≡ prospect tree sub values.now (open_trees self.now)) }
+        ensures among { IfOk result (IsNotedAmong (missing_in tree (open_trees self.now))) }
     {
         match find(&self.trees, tree) {
             Some(opened) if is_missing(opened.notices.items(), sub) => {
-                Ok(Some(answer(self.alloc, tree, opened, sub, values.items())?))
+                let answer = answer(self.alloc, tree, opened, sub, values.items())?;
+                Ok(prospect_of(answer))
             }
-            _ => Ok(None),
+            _ => Ok(Prospect::NotMissing),
         }
     }
 
@@ -387,6 +396,16 @@ fn last_version(opened: &OpenTree) -> Option<Version>
         Some(opened.version)
     } else {
         None
+    }
+}
+
+/// What would come of a notice that is missing, by the answer that it gives.
+fn prospect_of(answer: Option<Answered>) -> Prospect
+    ensures { result ≡ prospect_of answer }
+{
+    match answer {
+        None => Prospect::Noted,
+        Some(answer) => Prospect::Answered(answer),
     }
 }
 

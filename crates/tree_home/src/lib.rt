@@ -6,7 +6,7 @@ mod homes;
 mod laws;
 pub mod tree_map;
 
-pub use homes::{Answered, Held, Homes, Noted, Notices, OpenTree};
+pub use homes::{Answered, Held, Homes, Noted, Notices, OpenTree, Prospect};
 pub use laws::{
     a_held_answer_waits, a_tree_comes_and_goes, answered_when_none_is_missing,
     entries_are_their_trees, held_answers_come_and_go, other_answers_stay, other_trees_stay,

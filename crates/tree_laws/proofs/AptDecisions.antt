@@ -17,11 +17,9 @@ use Rattle.letter_types.specs.declared.votes.Vote.{Vote}
 use Rattle.letter_types.specs.Kept.{kept_without, wakes}
 use Rattle.letter_types.specs.Steps.{Out, still}
 use Rattle.tree_home.specs.HeldAnswers.{answer_when_acked}
-use Rattle.tree_home.specs.Homes.{Gets, OpenTrees, after_notice, answer_in, answer_of, answer_with, begun, home_in, misses, new_tree, noted_of, outcome, with_notice}
+use Rattle.tree_home.specs.Homes.{Gets, OpenTrees, after_notice, answer_in, answer_of, answer_with, begun, home_in, misses, new_tree, noted_of, with_notice}
 use Rattle.tree_home.specs.Maps.{put_at}
 use Rattle.tree_home.specs.declared.homes.Answered.{Answered}
-use Rattle.tree_home.specs.declared.homes.Noted.{Noted}
-use Rattle.tree_home.specs.declared.homes.Noted.TheVariants.{Missing, Answered as WasAnswered}
 use Rattle.tree_home.specs.declared.homes.OpenTree.{OpenTree}
 use Rattle.tx_trees.specs.ScriptData.{ScriptData, client_of, home_of, subs_at, visited_by}
 use Rattle.tx_trees.specs.Valid.{IsValid}
@@ -81,15 +79,15 @@ noted_version P n k vs None h all at = absurd (cc at)
 noted_version P n k vs (Some g) h all at =
     let same : with_notice k vs g ≡ h = cc at in subst (λ (x : OpenTree). P n x.version) same (all g refl)
 
-each_after : (P : ℕ → Version → Type 0) (t : TreeNo) (k : SubNo) (vs : Gets) (hs : OpenTrees) (n : Noted) → EachOpen P hs
-    → EachOpen P (after_notice t k vs hs n)
-each_after P t k vs hs (Missing m) all =
+each_after : (P : ℕ → Version → Type 0) (t : TreeNo) (k : SubNo) (vs : Gets) (hs : OpenTrees) (o : Option Answered) → EachOpen P hs
+    → EachOpen P (after_notice t k vs hs o)
+each_after P t k vs hs None all =
     each_put P t.0 (noted_of k vs (home_in t hs)) hs all (λ h at. noted_version P t.0 k vs (home_in t hs) h (λ g is. all t.0 g is) at)
-each_after P t k vs hs (WasAnswered a) all = each_put P t.0 None hs all (λ h at. absurd (cc at))
+each_after P t k vs hs (Some a) all = each_put P t.0 None hs all (λ h at. absurd (cc at))
 
 each_noted : (P : ℕ → Version → Type 0) (t : TreeNo) (k : SubNo) (vs : Gets) (hs : OpenTrees) (test : Bool) → EachOpen P hs
-    → EachOpen P (if test then after_notice t k vs hs (outcome t k vs hs) else hs)
-each_noted P t k vs hs true all = each_after P t k vs hs (outcome t k vs hs) all
+    → EachOpen P (if test then after_notice t k vs hs (answer_in t k vs hs) else hs)
+each_noted P t k vs hs true all = each_after P t k vs hs (answer_in t k vs hs) all
 each_noted P t k vs hs false all = all
 
 each_begun : (P : ℕ → Version → Type 0) (t : TreeNo) (n : ℕ) (v : Version) (hs : OpenTrees) → EachOpen P hs → P t.0 v

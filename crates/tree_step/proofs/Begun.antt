@@ -6,7 +6,7 @@ use Rattle.std.proofs.lemmas.List.{append-nil}
 use Rattle.tv_base.specs.declared.numbers.SubNo.{SubNo}
 use Rattle.tv_base.specs.declared.numbers.TreeNo.{TreeNo}
 use Rattle.tv_base.specs.declared.numbers.Version.{Version}
-use Rattle.tree_home.specs.Homes.{Gets, OpenTrees, after_notice, answer_in, answer_of, answer_with, begun, gathered, misses, missing_in, new_tree, noted, told}
+use Rattle.tree_home.specs.Homes.{Gets, OpenTrees, after_notice, answer_in, answer_of, answer_with, begun, gathered, misses, missing_in, new_tree, noted}
 use Rattle.tree_home.specs.declared.homes.Answered.{Answered}
 use Rattle.tree_home.specs.declared.homes.OpenTree.{OpenTree}
 use Rattle.world_model.specs.Notices.{answer_noted, homes_noted}
@@ -57,12 +57,11 @@ root_answered t n v values hs some =
 noted_root : (t : TreeNo) (n : ℕ) (v : Version) (values : Gets) (hs : OpenTrees) (o : Option Answered) → 0 < n
     → root_answer n t v values ≡ o
     → homes_noted t root_no values (begun t n v hs)
-    ≡ after_notice t root_no values (begun t n v hs) (told (missing_in t (noted t root_no values (begun t n v hs))) o)
+    ≡ after_notice t root_no values (begun t n v hs) o
 noted_root t n v values hs o some is =
     let missed = root_missed t n v hs (begun t n v hs) refl some in
     let answer = answer_begun t n v values hs some ∙ is in
-    rw missed (ap (λ (a : Option Answered). after_notice t root_no values (begun t n v hs)
-    (told (missing_in t (noted t root_no values (begun t n v hs))) a)) answer)
+    rw missed (ap (λ (a : Option Answered). after_notice t root_no values (begun t n v hs) a) answer)
 
 -- one of more misses the others
 no_answer : (n : ℕ) (t : TreeNo) (v : Version) (values : Gets) → 1 < n → root_answer n t v values ≡ None

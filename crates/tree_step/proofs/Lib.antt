@@ -6,6 +6,7 @@ pub mod Replied
 pub mod Dues
 pub mod KindsAt
 pub mod Ordered
+pub mod Noticed
 pub mod Opened
 pub mod Asking
 pub mod Stepped

@@ -1,11 +1,12 @@
 // A notice at its tree's home.
-ghost use Rattle.std.specs.Prelude.{◌≡◌, ◌<◌, ◌↔◌, [], false, IfOk, IsNone, IsTrue};
+ghost use Rattle.std.specs.Prelude.{◌≡◌, ◌<◌, [], false, IfOk, IsTrue};
 ghost use Rattle.item_versions.specs.Window.{in_window};
 ghost use Rattle.pair_counters.specs.Numbers.{AllBelow, MOST_COUNT};
 ghost use Rattle.pair_counters.specs.Rows.{counts_of};
-ghost use Rattle.tree_home.specs.Homes.{after_notice, answer_in, misses, missing_in, outcome, open_trees};
+ghost use Rattle.tree_home.specs.Homes.{open_trees};
 ghost use Rattle.tree_step.specs.Changes.{home_after, IsTreePartOf, MayHome};
 ghost use Rattle.world_model.specs.Done.{note_part};
+ghost use Rattle.world_model.specs.Notices.{answer_noted, homes_noted};
 ghost use Rattle.tree_step.specs.Node.{data_of, IsInWindow};
 ghost use Rattle.tree_step.specs.inside.Noting.{noting};
 
@@ -17,27 +18,30 @@ use commute_ops::{Values, copy_values};
 use item_versions::Staged;
 use letter_types::StepOut;
 use std::alloc::Global;
-use tree_home::{Answered, Homes};
+use tree_home::{Answered, Homes, Prospect};
 use tv_base::{NoMemory, SubNo, TreeNo};
 
-/// What the home does for a notice that is missing, where it is known what the tree is answered then.
+/// What the home does for a notice of these values, and what the tree is answered then.
+#[tactic(auto, using(crate::proofs::Noticed::noticed))]
 fn notice_home(
+    alloc: Global,
     homes: &Homes,
     tree: TreeNo,
     sub: SubNo,
-    values: Values,
-    answer: &Option<Answered>,
-) -> HomeChange
-    requires misses { IsTrue (misses tree sub (open_trees homes.now)) }
-    requires answer { answer.now ≡ answer_in tree sub values (open_trees homes.now) }
-    requires none { IsNone answer.now ↔ (1 < missing_in tree (open_trees homes.now)) }
-    ensures after { home_after result (open_trees homes.now)
-        ≡ after_notice tree sub values (open_trees homes.now) (outcome tree sub values (open_trees homes.now)) }
-    ensures may { MayHome result (open_trees homes.now) }
+    values: &Values,
+) -> Result<(HomeChange, Option<Answered>), NoMemory>
+    ensures after { IfOk result (λ r. home_after r.0 (open_trees homes.now)
+        ≡ homes_noted tree sub values.now (open_trees homes.now)) }
+    ensures answered { IfOk result (λ r. r.1 ≡ answer_noted tree sub values.now (open_trees homes.now)) }
+    ensures may { IfOk result (λ r. MayHome r.0 (open_trees homes.now)) }
 {
-    match answer {
-        None => HomeChange::Note { tree, sub, values },
-        Some(_) => HomeChange::Forget { tree },
+    match homes.would_answer(tree, sub, values)? {
+        Prospect::NotMissing => Ok((HomeChange::Stay, None)),
+        Prospect::Noted => {
+            let values = copy_values(alloc, values)?;
+            Ok((HomeChange::Note { tree, sub, values }, None))
+        }
+        Prospect::Answered(answer) => Ok((HomeChange::Forget { tree }, Some(answer))),
     }
 }
 
@@ -86,10 +90,6 @@ pub fn prepare_notice(
         (data_of node.now)) node.now) }
 {
     let Request { tree, sub, .. } = request;
-    let Some(answered) = node.homes.would_answer(tree, sub, values)? else {
-        return Ok(noting(alloc, request, HomeChange::Stay, None));
-    };
-    let taken = copy_values(alloc, values)?;
-    let home = notice_home(&node.homes, tree, sub, taken, &answered);
+    let (home, answered) = notice_home(alloc, &node.homes, tree, sub, values)?;
     Ok(noting(alloc, request, home, answered))
 }

@@ -3,7 +3,7 @@
 use Rattle.std.specs.Prelude.{if◌then◌else◌, ℕ, List, [], ◌∷◌, Option, Some, None}
 use Rattle.tv_base.specs.declared.numbers.TreeNo.{TreeNo}
 use Rattle.tv_base.specs.declared.numbers.SubNo.{SubNo}
-use Rattle.tree_home.specs.Homes.{Gets, OpenTrees, misses, after_notice, outcome, answer_in}
+use Rattle.tree_home.specs.Homes.{Gets, OpenTrees, misses, after_notice, answer_in}
 use Rattle.tree_home.specs.declared.homes.Answered.{Answered}
 use Rattle.letter_types.specs.declared.acts.Act.{Act}
 use Rattle.letter_types.specs.declared.acts.Act.TheVariants as acts
@@ -28,7 +28,7 @@ values_of (No cause) = []
 
 -- the open trees after a notice: one that isn't missing changes nothing
 abbrev pub homes_noted : TreeNo → SubNo → Gets → OpenTrees → OpenTrees
-homes_noted t k values hs = if misses t k hs then after_notice t k values hs (outcome t k values hs) else hs
+homes_noted t k values hs = if misses t k hs then after_notice t k values hs (answer_in t k values hs) else hs
 
 -- the answer of the tree, where this notice was the last that it missed
 abbrev pub answer_noted : TreeNo → SubNo → Gets → OpenTrees → Option Answered

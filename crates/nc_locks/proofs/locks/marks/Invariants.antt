@@ -3,4 +3,4 @@ use Rattle.nc_locks.specs.Locks.{marks_on}
 use Rattle.nc_locks.proofs.locks.marks.Given as goal
 
 abbrev pub invariant-loop-item : goal.invariant-loop-item
-invariant-loop-item l = l.wanted.items ≡ marks_on (take l.item-index l.items)
+invariant-loop-item l = l.wanted ≡ marks_on (take l.item-index l.items)
