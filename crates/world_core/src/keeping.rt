@@ -7,16 +7,20 @@ ghost use Rattle.tree_step.specs.Core.{core_of};
 ghost use Rattle.node_keeping.specs.Plans.{kept_core};
 ghost use Rattle.tree_step.specs.Raising.{RaisesNear};
 ghost use Rattle.node_keeping.specs.Changes.{IsKeepingStepOf, IsSettled};
+ghost use Rattle.node_keeping.specs.Meant.{IsPlanned};
 ghost use Rattle.node_keeping.specs.State.{IsKeepingReady, keeping_of};
+ghost use Rattle.tree_step.specs.Meant.{IsEmpty};
 ghost use Rattle.world_model.specs.Epochs.{plain_order};
 ghost use Rattle.world_core.specs.inside.Bringing.{IsBroughtBy, done_out, keep_by, kept_out, sent_behind, waking_order, waking_out};
 
 use crate::orders::is_obeyed_now;
 use crate::plan::plan_core;
 use letter_types::{Body, Boxed, KeptLetter, Letter, Letters, StepOut, What, Why};
-use node_keeping::{CoreKept, CorePlan, Keep, KeepingParts, KeepingPrepared, KeptChange};
+use node_keeping::{
+    CoreKept, CorePlan, Keep, KeepingParts, KeepingPrepared, KeptChange, NodePlan, flatten_node,
+};
 use std::alloc::Global;
-use tree_step::{CorePrepared, NodeCore, Prepared};
+use tree_step::{CorePrepared, NodeCore, Prepared, Scratch};
 use tv_base::{NoMemory, SubNo, TreeNo, Version};
 use tx_trees::Script;
 
@@ -246,8 +250,8 @@ fn nothing(alloc: Global, node: &KeepingParts) -> KeepingPrepared
 }
 
 /// Prepares what a node does with a letter: nothing where what it brings isn't apt, or where it is a Wake that calls
-/// none; else what it brought is kept, or is done (docs/ALGORITHM.md, "Nodes with strict trees").
-pub fn prepare_letter(
+/// none; else what it brought is kept, or is done.
+fn prepare_letter(
     alloc: Global,
     node: &KeepingParts,
     letter: &Letter,
@@ -265,4 +269,22 @@ pub fn prepare_letter(
         CorePlan::Keeps(kept) => prepare_keep(alloc, node, letter, brought, kept),
         CorePlan::Does(prepared) => prepare_does(alloc, node, letter, brought, prepared),
     }
+}
+
+/// Plans what a node does with a letter, its row of the node's table (docs/ALGORITHM.md, "Nodes with strict trees"). It
+/// changes nothing but the scratch, which gets all that takes memory.
+pub fn plan_letter(
+    alloc: Global,
+    node: &KeepingParts,
+    letter: &Letter,
+    script: &Script,
+    scratch: &mut Scratch,
+) -> Result<NodePlan, NoMemory>
+    requires ready { IsKeepingReady script.now letter.now.to.0 node.now }
+    requires empty { IsEmpty scratch.old }
+    ensures { IfOk result (λ plan. IsPlanned (keeping_row script.now letter.now.to.0 (keeping_of node.now) letter.now)
+        node.now plan scratch.new) }
+{
+    let prepared = prepare_letter(alloc, node, letter, script)?;
+    Ok(flatten_node(prepared, scratch))
 }

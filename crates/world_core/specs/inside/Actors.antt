@@ -4,17 +4,18 @@ use Rattle.letter_types.specs.declared.entries.Letter.{Letter}
 use Rattle.letter_types.specs.declared.entries.Entry.{Entry}
 use Rattle.letter_types.specs.declared.entries.StepOut.{StepOut}
 use Rattle.world_core.specs.declared.actor.ActorState.{ActorState}
-use Rattle.world_core.specs.declared.actor.ActorPrepared.{ActorPrepared}
+use Rattle.tree_step.specs.declared.plan.Scratch.{Scratch}
+use Rattle.world_core.specs.declared.actor.ActorPlan.{ActorPlan}
 use Rattle.world_core.specs.Actors.{WorldData}
 use Rattle.world_core.specs.Prepared.{IsActorDone}
 
 abbrev pub world_of : List ActorState → List Letter → List Entry → WorldData
 world_of actors bag history = record { actors = actors; bag = bag; history = history }
 
--- actor a did a step that was prepared, this goes out, and the other actors stay
-pub record Acted (a : ℕ) (p : ActorPrepared) (old new : List ActorState) (out : StepOut) : Type 0 where
+-- actor a did a step that was planned, this goes out, and the other actors stay
+pub record Acted (a : ℕ) (p : ActorPlan) (x : Scratch) (old new : List ActorState) (out : StepOut) : Type 0 where
   pub before : ActorState
   pub after : ActorState
   pub there : slice_get old a ≡ Some before
   pub set : new ≡ slice_set old a after
-  pub done : IsActorDone p before after out
+  pub done : IsActorDone p x before after out
