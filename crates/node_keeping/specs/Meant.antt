@@ -1,5 +1,5 @@
 -- What a plan of a node and a scratch mean: a step that was prepared.
-use Rattle.std.specs.Prelude.{Option, Some, None}
+use Rattle.std.specs.Prelude.{Ok, Option, Some, None}
 use Rattle.letter_types.specs.declared.bodies.Body.{Body}
 use Rattle.letter_types.specs.declared.entries.Letter.{Letter}
 use Rattle.letter_types.specs.Steps.{Out}
@@ -18,7 +18,7 @@ use Rattle.node_keeping.specs.declared.node_plan.KeptPlan.TheVariants as plans
 use Rattle.node_keeping.specs.declared.node_plan.NodePlan.{NodePlan}
 use Rattle.node_keeping.specs.declared.node_plan.NodePlan.TheVariants as nodes
 use Rattle.node_keeping.specs.declared.state.KeepingParts.{KeepingParts}
-use Rattle.node_keeping.specs.Changes.{IsKeepingStepOf}
+use Rattle.node_keeping.specs.Changes.{IsKeepingDone, IsKeepingStepOf}
 
 -- how a letter is kept: one that came now, or the called one once more
 abbrev pub keep_meant : KeepPlan → Option Letter → Keep
@@ -44,3 +44,7 @@ node_meant (nodes.Does p k) x = steps.Does (core_meant p x) (kept_meant k x.call
 -- a plan and a scratch are this row of a node, and the node may do it
 abbrev pub IsPlanned : Out KeepingNode → KeepingParts → NodePlan → Scratch → Type 0
 IsPlanned o n p x = IsKeepingStepOf o n (node_meant p x)
+
+-- what is planned was done: the node before it and after it
+abbrev pub IsNodeDone : NodePlan → Scratch → KeepingParts → KeepingParts → Type 0
+IsNodeDone p x old new = IsKeepingDone (node_meant p x) old new (Ok (out_in x))

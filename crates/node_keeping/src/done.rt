@@ -3,9 +3,9 @@ ghost use Rattle.std.specs.Prelude.{◌≡◌, Ok, OnErr, OnOk};
 ghost use Rattle.tree_step.specs.Meant.{core_meant, out_in};
 ghost use Rattle.tree_step.specs.Raising.{raised_by};
 ghost use Rattle.tree_step.specs.CoreChanges.{MayDoCore};
-ghost use Rattle.node_keeping.specs.Changes.{IsKeepingDone, MayDoKeeping, MayBeKept, MayKeepLetter, kept_after, kept_with};
+ghost use Rattle.node_keeping.specs.Changes.{MayDoKeeping, MayBeKept, MayKeepLetter, kept_after, kept_with};
 ghost use Rattle.node_keeping.specs.declared.change.KeepingPrepared.TheVariants.{Does, Keeps};
-ghost use Rattle.node_keeping.specs.Meant.{keep_meant, kept_meant, node_meant};
+ghost use Rattle.node_keeping.specs.Meant.{IsNodeDone, keep_meant, kept_meant, node_meant};
 
 use crate::kept::KeptLetters;
 use crate::node_plan::{KeepPlan, KeptPlan, NodePlan};
@@ -53,8 +53,7 @@ fn raise_by(turns: &mut Turns, raises: Option<Version>)
 /// A letter is kept, and then the update version raised. Where no memory is found the node is as it was.
 fn do_keep(node: &mut KeepingParts, keep: KeepPlan, scratch: &mut Scratch) -> Result<(), NoMemory>
     requires { MayKeepLetter (keep_meant keep scratch.old.letter) keep.raises node.old }
-    ensures done { OnOk result (IsKeepingDone (Keeps (keep_meant keep scratch.old.letter) keep.raises (out_in scratch.old))
-        node.old node.new (Ok (out_in scratch.old))) }
+    ensures done { OnOk result (IsNodeDone (NodePlan.Keeps keep) scratch.old node.old node.new) }
     ensures err { OnErr result (node.new ≡ node.old) }
     ensures out { out_in scratch.new ≡ out_in scratch.old }
 {
@@ -89,8 +88,7 @@ fn do_row(
     scratch: &mut Scratch,
 ) -> Result<(), NoMemory>
     requires { MayDoCore (core_meant plan scratch.old) node.old.core }
-    ensures done { OnOk result (IsKeepingDone (Does (core_meant plan scratch.old) (kept_meant kept scratch.old.calls)) node.old
-        node.new (Ok (out_in scratch.old))) }
+    ensures done { OnOk result (IsNodeDone (NodePlan.Does plan kept) scratch.old node.old node.new) }
     ensures err { OnErr result (node.new ≡ node.old) }
     ensures out { out_in scratch.new ≡ out_in scratch.old }
 {
@@ -108,7 +106,7 @@ pub fn do_node(
     scratch: &mut Scratch,
 ) -> Result<(), NoMemory>
     requires { MayDoKeeping (node_meant plan scratch.old) node.old }
-    ensures done { OnOk result (IsKeepingDone (node_meant plan scratch.old) node.old node.new (Ok (out_in scratch.old))) }
+    ensures done { OnOk result (IsNodeDone plan scratch.old node.old node.new) }
     ensures err { OnErr result (node.new ≡ node.old) }
     ensures out { out_in scratch.new ≡ out_in scratch.old }
 {

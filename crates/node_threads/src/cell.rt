@@ -4,11 +4,11 @@ ghost use Rattle.letter_types.specs.Steps.{made};
 ghost use Rattle.pair_counters.specs.Numbers.{MOST_COUNT};
 ghost use Rattle.stamp_post.specs.Shown.{seat_data};
 ghost use Rattle.tree_step.specs.Meant.{IsEmpty};
-ghost use Rattle.world_model.specs.Tables.{actor_row};
 ghost use Rattle.world_model.specs.Taking.{CountsBelow, IsAddressed};
 ghost use Rattle.world_core.specs.Actors.{IsFor, actor_data};
 ghost use Rattle.history_merge.specs.OwnLogs.{Delivered, Handled};
 ghost use Rattle.node_threads.specs.Cells.{cell_data};
+ghost use Rattle.world_core.specs.Prepared.{row_at};
 
 use history_merge::{ClusterName, Made, OwnLog};
 use letter_types::{Letter, Letters, StepOut, copy_letters};
@@ -69,8 +69,7 @@ fn step(
     requires addressed { IsAddressed script.now letter.now (actor_data state.old) }
     requires script { IsFor script.now state.old }
     requires small { CountsBelow MOST_COUNT (actor_data state.old) }
-    ensures row { IfOk result (λ r. made (actor_data state.new) r.0
-        ≡ actor_row script.now letter.now.to.0 (actor_data state.old) letter.now) }
+    ensures row { IfOk result (λ r. made (actor_data state.new) r.0 ≡ row_at script.now letter.now state.old) }
     ensures copy { IfOk result (λ r. r.1 ≡ r.0.sent) }
     ensures script { OnOk result (IsFor script.now state.new) }
     ensures err { OnErr result (state.new ≡ state.old) }

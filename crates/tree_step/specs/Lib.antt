@@ -6,3 +6,4 @@ pub mod Core
 pub mod CoreChanges
 pub mod Raising
 pub mod Meant
+pub mod AtNode

@@ -1,14 +1,20 @@
 -- What a plan and a scratch mean: a step that was prepared.
-use Rattle.std.specs.Prelude.{◌≡◌, [], Option, Some, None}
+use Rattle.std.specs.Prelude.{◌≡◌, List, [], Ok, Option, Some, None}
 use Rattle.tv_base.specs.declared.numbers.TreeNo.{TreeNo}
 use Rattle.tv_base.specs.declared.numbers.Version.{Version}
 use Rattle.letter_types.specs.declared.entries.StepOut.{StepOut}
 use Rattle.letter_types.specs.Steps.{Out}
 use Rattle.tree_home.specs.Homes.{Gets}
 use Rattle.tree_home.specs.declared.homes.Answered.{Answered}
-use Rattle.world_model.specs.Core.{Core}
+use Rattle.nc_locks.specs.declared.modes.Lock.{Lock}
+use Rattle.tree_home.specs.Maps.{by_tree}
+use Rattle.world_model.specs.Core.{Core, Refusals}
 use Rattle.world_model.specs.declared.refusal.Refusal.{Refusal}
-use Rattle.tree_step.specs.CoreChanges.{IsCoreStepOf}
+use Rattle.tree_step.specs.Changes.{IsDone, prepared_row}
+use Rattle.tree_step.specs.Core.{core_of}
+use Rattle.tree_step.specs.CoreChanges.{IsCoreDone, IsCoreStepOf, core_prepared_row, locks_with, refusals_with}
+use Rattle.tree_step.specs.Node.{data_of}
+use Rattle.tree_step.specs.declared.node.NodeParts.{NodeParts}
 use Rattle.tree_step.specs.declared.change.HomeChange.{HomeChange}
 use Rattle.tree_step.specs.declared.change.HomeChange.TheVariants as homes
 use Rattle.tree_step.specs.declared.change.TreeChange.{TreeChange}
@@ -124,3 +130,18 @@ IsEmpty x = x ≡ record {
   sent = [];
   acts = [];
 }
+
+-- a step that a plan and a scratch mean was done: the node before it and after it
+abbrev pub IsMeantDone : CorePrepared → Scratch → NodeCore → NodeCore → Type 0
+IsMeantDone p x old new = IsCoreDone (core_prepared_row p (core_of old)) old new (Ok (out_in x))
+
+-- the same of a node's parts
+abbrev pub IsDoingDone : Doing → Scratch → NodeParts → NodeParts → Type 0
+IsDoingDone d x old new = IsDone (prepared_row (parts_meant d x) (data_of old)) old new (Ok (out_in x))
+
+-- the locks and the noes that votes leave
+abbrev pub locks_meant : VotePlan → Scratch → List Lock → List Lock
+locks_meant v x ls = locks_with (votes_meant v x) ls
+
+abbrev pub refusals_meant : VotePlan → Scratch → List (TreeNo × Refusal) → Refusals
+refusals_meant v x rs = refusals_with (votes_meant v x) (by_tree rs)

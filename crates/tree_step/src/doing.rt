@@ -1,18 +1,15 @@
 // What is planned is done.
 ghost use Rattle.std.specs.Prelude.{ℕ, ◌≡◌, ◌<◌, ◌≤◌, ◌+◌, ◌^◌, [], length, All, None, Some, Ok, MatchResult, OnErr, OnOk};
-ghost use Rattle.pair_counters.specs.Numbers.{asked_all};
 ghost use Rattle.pair_counters.specs.Rows.{counts_of};
-ghost use Rattle.letter_types.specs.Steps.{made};
 ghost use Rattle.tree_home.specs.Homes.{open_trees};
 ghost use Rattle.tree_home.specs.Maps.{by_tree};
-ghost use Rattle.tree_step.specs.Changes.{after_tree_change, home_after, prepared_row, IsDone, MayDo, MayHome, OpensNone, OpensNoTree};
+ghost use Rattle.tree_step.specs.Changes.{home_after, MayDo, MayHome, OpensNone, OpensNoTree};
 ghost use Rattle.tree_step.specs.declared.change.Change.TheVariants.{Tree};
 ghost use Rattle.tree_step.specs.declared.core_change.HoldChange.TheVariants.{Stay, Ack};
-ghost use Rattle.tree_step.specs.CoreChanges.{IsCoreDone, MayDoCore, core_prepared_row, epoch_with, locks_with, numbers_of_nodes, refusals_with};
-ghost use Rattle.tree_step.specs.Core.{core_of};
-ghost use Rattle.tree_step.specs.Node.{data_of};
-ghost use Rattle.tree_step.specs.Meant.{core_meant, doing_meant, holding, home_meant, meant_with, out_in, parts_meant, tree_meant, votes_meant};
+ghost use Rattle.tree_step.specs.CoreChanges.{MayDoCore, epoch_with, numbers_of_nodes};
+ghost use Rattle.tree_step.specs.Meant.{core_meant, doing_meant, holding, home_meant, IsDoingDone, IsMeantDone, locks_meant, meant_with, out_in, refusals_meant, tree_meant};
 ghost use Rattle.tree_step.specs.inside.PlanOpening.{opening_by, plan_once_open};
+ghost use Rattle.tree_step.specs.AtNode.{with_asked};
 
 use crate::change::raise_if;
 use crate::core_change::Opening;
@@ -52,8 +49,7 @@ fn do_home(homes: &mut Homes, plan: TreePlan, values: Values)
 fn do_tree(alloc: Global, parts: &mut NodeParts, plan: TreePlan, scratch: &mut Scratch)
     requires may { MayDo (Tree (tree_meant plan scratch.old)) scratch.old.sent parts.old }
     requires none { OpensNoTree (home_meant plan scratch.old.values) }
-    ensures done { IsDone (made (after_tree_change (tree_meant plan scratch.old) scratch.old.sent (data_of parts.old))
-        (out_in scratch.old)) parts.old parts.new (Ok (out_in scratch.old)) }
+    ensures done { IsDoingDone (Doing.Tree plan) scratch.old parts.old parts.new }
     ensures spent { scratch.new ≡ record scratch.old { staged = []; values = [] } }
 {
     let values = mem::replace(&mut scratch.values, Values::new(alloc));
@@ -69,8 +65,7 @@ fn do_tree(alloc: Global, parts: &mut NodeParts, plan: TreePlan, scratch: &mut S
 fn do_parts(alloc: Global, parts: &mut NodeParts, doing: Doing, scratch: &mut Scratch)
     requires may { MayDo (doing_meant doing scratch.old) scratch.old.sent parts.old }
     requires none { OpensNone (doing_meant doing scratch.old) }
-    ensures done { IsDone (prepared_row (parts_meant doing scratch.old) (data_of parts.old)) parts.old parts.new
-        (Ok (out_in scratch.old)) }
+    ensures done { IsDoingDone doing scratch.old parts.old parts.new }
     ensures out { out_in scratch.new ≡ out_in scratch.old }
     ensures calls { scratch.new.calls ≡ scratch.old.calls }
     ensures told { scratch.new.told ≡ scratch.old.told }
@@ -98,10 +93,10 @@ fn change_votes(
     votes: VotePlan,
     scratch: &Scratch,
 ) -> Result<(), NoMemory>
-    ensures locks { MatchResult result (λ _. locks.new ≡ locks_with (votes_meant votes scratch.now) locks.old)
+    ensures locks { MatchResult result (λ _. locks.new ≡ locks_meant votes scratch.now locks.old)
         (λ _. locks.new ≡ locks.old) }
     ensures refusals { MatchResult result
-        (λ _. by_tree refusals.new ≡ refusals_with (votes_meant votes scratch.now) (by_tree refusals.old))
+        (λ _. by_tree refusals.new ≡ refusals_meant votes scratch.now refusals.old)
         (λ _. refusals.new ≡ refusals.old) }
 {
     match votes {
@@ -142,8 +137,7 @@ fn do_still(
 ) -> Result<(), NoMemory>
     requires may { MayDoCore (meant_with plan scratch.old Stay) core.old }
     requires none { OpensNone (doing_meant plan.doing scratch.old) }
-    ensures done { OnOk result (IsCoreDone (core_prepared_row (meant_with plan scratch.old Stay) (core_of core.old))
-        core.old core.new (Ok (out_in scratch.old))) }
+    ensures done { OnOk result (IsMeantDone (meant_with plan scratch.old Stay) scratch.old core.old core.new) }
     ensures err { OnErr result (core.new ≡ core.old) }
     ensures out { out_in scratch.new ≡ out_in scratch.old }
     ensures calls { scratch.new.calls ≡ scratch.old.calls }
@@ -165,8 +159,7 @@ fn do_ack(
 ) -> Result<(), NoMemory>
     requires may { MayDoCore (meant_with plan scratch.old (Ack tree)) core.old }
     requires none { OpensNone (doing_meant plan.doing scratch.old) }
-    ensures done { OnOk result (IsCoreDone (core_prepared_row (meant_with plan scratch.old (Ack tree)) (core_of core.old))
-        core.old core.new (Ok (out_in scratch.old))) }
+    ensures done { OnOk result (IsMeantDone (meant_with plan scratch.old (Ack tree)) scratch.old core.old core.new) }
     ensures err { OnErr result (core.new ≡ core.old) }
     ensures out { out_in scratch.new ≡ out_in scratch.old }
     ensures calls { scratch.new.calls ≡ scratch.old.calls }
@@ -184,9 +177,8 @@ fn ask_each(counters: &mut Counters, v: Version, nodes: &[NodeNo])
     requires up_to { v.0 ≤ (counts_of counters.old).low + 2 }
     requires nodes { All (λ q. q.0 < (counts_of counters.old).nodes) nodes.now }
     requires below { (q : ℕ) → (counts_of counters.old).numbers.asked v.0 q + length nodes.now ≤ 2 ^ 63 }
-    ensures { counts_of counters.new ≡ record (counts_of counters.old) {
-      numbers = asked_all v.0 (numbers_of_nodes nodes.now) (counts_of counters.old).numbers;
-    } }
+    ensures { counts_of counters.new
+        ≡ with_asked v.0 (numbers_of_nodes nodes.now) (counts_of counters.old) }
 {
     for node in nodes {
         counters.asked(v, *node);
@@ -205,8 +197,8 @@ fn do_hold(
 ) -> Result<(), NoMemory>
     requires may { MayDoCore (meant_with plan scratch.old (holding tree version scratch.old)) core.old }
     requires none { OpensNone (doing_meant plan.doing scratch.old) }
-    ensures done { OnOk result (IsCoreDone (core_prepared_row (meant_with plan scratch.old (holding tree version scratch.old))
-        (core_of core.old)) core.old core.new (Ok (out_in scratch.old))) }
+    ensures done { OnOk result
+        (IsMeantDone (meant_with plan scratch.old (holding tree version scratch.old)) scratch.old core.old core.new) }
     ensures err { OnErr result (core.new ≡ core.old) }
     ensures out { out_in scratch.new ≡ out_in scratch.old }
     ensures calls { scratch.new.calls ≡ scratch.old.calls }
@@ -240,8 +232,7 @@ fn do_holds(
 ) -> Result<(), NoMemory>
     requires may { MayDoCore (core_meant plan scratch.old) core.old }
     requires none { OpensNone (doing_meant plan.doing scratch.old) }
-    ensures done { OnOk result (IsCoreDone (core_prepared_row (core_meant plan scratch.old) (core_of core.old)) core.old
-        core.new (Ok (out_in scratch.old))) }
+    ensures done { OnOk result (IsMeantDone (core_meant plan scratch.old) scratch.old core.old core.new) }
     ensures err { OnErr result (core.new ≡ core.old) }
     ensures out { out_in scratch.new ≡ out_in scratch.old }
     ensures calls { scratch.new.calls ≡ scratch.old.calls }
@@ -302,8 +293,7 @@ fn do_open(
 ) -> Result<(), NoMemory>
     requires may { MayDoCore (core_meant plan scratch.old) core.old }
     requires opens { opening_by plan.doing ≡ Some opening }
-    ensures done { OnOk result (IsCoreDone (core_prepared_row (core_meant plan scratch.old) (core_of core.old)) core.old
-        core.new (Ok (out_in scratch.old))) }
+    ensures done { OnOk result (IsMeantDone (core_meant plan scratch.old) scratch.old core.old core.new) }
     ensures err { OnErr result (core.new ≡ core.old) }
     ensures out { out_in scratch.new ≡ out_in scratch.old }
     ensures calls { scratch.new.calls ≡ scratch.old.calls }
@@ -333,8 +323,7 @@ pub fn do_plan(
     scratch: &mut Scratch,
 ) -> Result<(), NoMemory>
     requires { MayDoCore (core_meant plan scratch.old) core.old }
-    ensures done { OnOk result (IsCoreDone (core_prepared_row (core_meant plan scratch.old) (core_of core.old)) core.old
-        core.new (Ok (out_in scratch.old))) }
+    ensures done { OnOk result (IsMeantDone (core_meant plan scratch.old) scratch.old core.old core.new) }
     ensures err { OnErr result (core.new ≡ core.old) }
     ensures out { out_in scratch.new ≡ out_in scratch.old }
     ensures calls { scratch.new.calls ≡ scratch.old.calls }

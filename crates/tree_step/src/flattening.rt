@@ -1,7 +1,6 @@
 // A step that was prepared is taken apart into a plan and a scratch.
 ghost use Rattle.std.specs.Prelude.{◌≡◌};
-ghost use Rattle.tree_home.specs.Homes.{Gets};
-ghost use Rattle.tree_step.specs.Meant.{IsEmpty, core_meant, doing_meant, home_by, home_meant, holds_meant, tree_meant, votes_meant};
+ghost use Rattle.tree_step.specs.Meant.{core_meant, doing_meant, home_meant, holds_meant, votes_meant};
 
 use crate::change::{Change, HomeChange, Prepared, TreeChange};
 use crate::core_change::{CorePrepared, HoldChange, VoteChange};

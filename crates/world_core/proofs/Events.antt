@@ -20,7 +20,7 @@ use Rattle.world_model.specs.Tables.{ActorData}
 use Rattle.world_model.specs.Taking.{CountsBelow, IsAddressed, MOST_COUNTED}
 use Rattle.world_core.specs.Actors.{IsWorldOf, TookLetter, WorldData}
 use Rattle.world_core.specs.Prepared.{IsActorStepOf, ActorMayDo, MayTake, out_of}
-use Rattle.world_core.specs.inside.Actors.{Acted}
+use Rattle.world_core.specs.inside.Actors.{Acted, entry_made}
 use Rattle.world_core.proofs.Doing.{is_row, may_do, out_is}
 use Rattle.world_core.proofs.Worlds.{Took, below, entry_of, next_world}
 
@@ -73,9 +73,6 @@ set_last (y ∷ h) x e = ap (λ (ys : List Entry). y ∷ ys) (set_last h x e)
 
 last_place : (h : List Entry) (x : Entry) → length (h ++ x ∷ []) - 1 ≡ length h
 last_place h x = omega (arith, length-append h (x ∷ []))
-
-abbrev entry_made : Letter → StepOut → Stamp → Entry
-entry_made l out stamp = record { stamp = stamp; actor = l.to; took = l; sent = out.sent; acts = out.acts }
 
 -- what the calls of an event say
 pub record Event (s : ScriptData) (w : WorldData) (k : ℕ) (l : Letter) (p : ActorPlan) (z : Scratch) (out : StepOut) (stamp : Stamp) (x : Entry) (next : WorldData) : Type 0 where

@@ -3,7 +3,7 @@
 use Rattle.std.specs.Prelude.{ℕ, ◌≡◌, ⊤}
 use Rattle.letter_types.specs.declared.entries.Letter.{Letter}
 use Rattle.letter_types.specs.declared.entries.StepOut.{StepOut}
-use Rattle.letter_types.specs.Steps.{made}
+use Rattle.letter_types.specs.Steps.{Out, made}
 use Rattle.pair_counters.specs.Rows.{counts_of}
 use Rattle.tx_trees.specs.ScriptData.{ScriptData}
 use Rattle.advance_coord.specs.Changes.{MayKeep, IsCoordinatorStepOf as IsCoordinatorStep, after_coordinator_change as coordinator_after}
@@ -12,10 +12,12 @@ use Rattle.client_rows.specs.Changes.{IsClientStepOf as IsClientStep, after_clie
 use Rattle.node_keeping.specs.Changes.{MayDoKeeping, keeping_prepared_row}
 use Rattle.node_keeping.specs.Meant.{IsPlanned, node_meant}
 use Rattle.node_keeping.specs.State.{keeping_of}
+use Rattle.node_keeping.specs.declared.node_plan.NodePlan.{NodePlan}
+use Rattle.node_keeping.specs.declared.state.KeepingParts.{KeepingParts}
 use Rattle.tree_step.specs.Meant.{out_in}
 use Rattle.tree_step.specs.declared.plan.Scratch.{Scratch}
 use Rattle.world_model.specs.Keeping.{keeping_row}
-use Rattle.world_model.specs.Tables.{client_table, coordinator_table, restarting_table}
+use Rattle.world_model.specs.Tables.{ActorData, actor_row, client_table, coordinator_table, restarting_table}
 use Rattle.world_model.specs.Taking.{IsAddressed, CountsBelow}
 use Rattle.world_core.specs.Actors.{IsFor, actor_data}
 use Rattle.world_core.specs.declared.actor.ActorState.{ActorState}
@@ -29,6 +31,14 @@ pub record MayTake (s : ScriptData) (l : Letter) (m : ℕ) (st : ActorState) : T
   pub script : IsFor s st
   pub small : CountsBelow m (actor_data st)
 
+-- what a node is to do with a letter is planned: its row of the node's table
+abbrev pub IsLetterPlan : ScriptData → Letter → KeepingParts → NodePlan → Scratch → Type 0
+IsLetterPlan s l n p x = IsPlanned (keeping_row s l.to.0 (keeping_of n) l) n p x
+
+-- what an actor does with a letter: its row of its table
+abbrev pub row_at : ScriptData → Letter → ActorState → Out ActorData
+row_at s l st = actor_row s l.to.0 (actor_data st) l
+
 -- what goes out
 abbrev pub out_of : ActorPlan → Scratch → StepOut
 out_of (NodeStep p) x = out_in x
@@ -38,7 +48,7 @@ out_of (ClientStep p) x = p.out
 
 -- a step that is planned is the row of this letter in the actor's table, and the actor may do it
 abbrev pub IsActorStepOf : ScriptData → Letter → ActorState → ActorPlan → Scratch → Type 0
-IsActorStepOf s l (Node n) (NodeStep p) x = IsPlanned (keeping_row s l.to.0 (keeping_of n) l) n p x
+IsActorStepOf s l (Node n) (NodeStep p) x = IsLetterPlan s l n p x
 IsActorStepOf s l (Coordinator c) (CoordinatorStep p) x = IsCoordinatorStep (coordinator_table c l) c p
 IsActorStepOf s l (Restarting c) (RestartStep p) x = IsRestartStep (restarting_table c l) c p
 IsActorStepOf s l (Client k) (ClientStep p) x = IsClientStep s (client_table s k.client l) k p

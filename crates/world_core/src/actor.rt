@@ -1,13 +1,13 @@
 // The actors as one, and their steps.
 ghost use Rattle.std.specs.Prelude.{◌≡◌, ◌<◌, ◌+◌, [], IfOk, MatchResult, Ok, OnOk, OnErr};
 ghost use Rattle.letter_types.specs.Steps.{made};
-ghost use Rattle.node_keeping.specs.Changes.{IsKeepingDone, MayDoKeeping};
-ghost use Rattle.node_keeping.specs.Meant.{node_meant};
+ghost use Rattle.node_keeping.specs.Changes.{MayDoKeeping};
+ghost use Rattle.node_keeping.specs.Meant.{IsNodeDone, node_meant};
 ghost use Rattle.tree_step.specs.Meant.{IsEmpty, out_in};
-ghost use Rattle.world_model.specs.Tables.{actor_row, start_coordination};
+ghost use Rattle.world_model.specs.Tables.{start_coordination};
 ghost use Rattle.world_model.specs.Taking.{CountsBelow, IsAddressed};
 ghost use Rattle.world_core.specs.Actors.{actor_data, IsFor, IsStateOf};
-ghost use Rattle.world_core.specs.Prepared.{IsActorDone, IsActorStepOf, ActorMayDo, MayTake, out_of};
+ghost use Rattle.world_core.specs.Prepared.{ActorMayDo, IsActorDone, IsActorStepOf, MayTake, out_of, row_at};
 ghost use Rattle.pair_counters.specs.Numbers.{MOST_COUNT};
 
 use crate::node::NodeState;
@@ -157,7 +157,7 @@ fn node_acts(
     scratch: &mut Scratch,
 ) -> Result<StepOut, NoMemory>
     requires { MayDoKeeping (node_meant plan scratch.old) node.old }
-    ensures done { OnOk result (IsKeepingDone (node_meant plan scratch.old) node.old node.new (Ok (out_in scratch.old))) }
+    ensures done { OnOk result (IsNodeDone plan scratch.old node.old node.new) }
     ensures out { IfOk result (λ out. out ≡ out_in scratch.old) }
     ensures empty { OnOk result (IsEmpty scratch.new) }
     ensures err { OnErr result (node.new ≡ node.old) }
@@ -220,8 +220,7 @@ pub fn actor_step(
     requires addressed { IsAddressed script.now letter.now (actor_data state.old) }
     requires script { IsFor script.now state.old }
     requires small { CountsBelow MOST_COUNT (actor_data state.old) }
-    ensures row { IfOk result (λ step. made (actor_data state.new) step.given
-        ≡ actor_row script.now letter.now.to.0 (actor_data state.old) letter.now) }
+    ensures row { IfOk result (λ step. made (actor_data state.new) step.given ≡ row_at script.now letter.now state.old) }
     ensures kept { IfOk result (λ step. step.kept ≡ step.given) }
     ensures script { OnOk result (IsFor script.now state.new) }
     ensures err { OnErr result (state.new ≡ state.old) }

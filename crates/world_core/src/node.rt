@@ -3,17 +3,17 @@ ghost use Rattle.std.specs.Prelude.{◌≡◌, ◌<◌, ◌^◌, length, IfOk, O
 ghost use Rattle.std.specs.List.{AllByRecursion};
 ghost use Rattle.commute_ops.specs.Ops.{value_start};
 ghost use Rattle.item_versions.specs.Window.{IsWindowedTable};
-ghost use Rattle.letter_types.specs.Steps.{made};
-ghost use Rattle.node_keeping.specs.Changes.{IsKeepingDone, MayDoKeeping};
-ghost use Rattle.node_keeping.specs.Meant.{IsPlanned, node_meant};
+ghost use Rattle.node_keeping.specs.Changes.{MayDoKeeping};
+ghost use Rattle.node_keeping.specs.Meant.{IsNodeDone, node_meant};
 ghost use Rattle.node_keeping.specs.State.{keeping_of};
 ghost use Rattle.pair_counters.specs.Numbers.{AllBelow, MOST_COUNT};
 ghost use Rattle.pair_counters.specs.Rows.{counts_of};
 ghost use Rattle.tree_step.specs.Meant.{IsEmpty, out_in};
 ghost use Rattle.tree_step.specs.Node.{IsOf};
 ghost use Rattle.tx_trees.specs.Valid.{IsItem};
-ghost use Rattle.world_model.specs.Keeping.{AreKeptAt, keeping_row, start_keeping};
+ghost use Rattle.world_model.specs.Keeping.{AreKeptAt, start_keeping};
 ghost use Rattle.world_model.specs.Node.{items_at};
+ghost use Rattle.world_core.specs.Prepared.{IsLetterPlan};
 
 use crate::keeping::plan_letter;
 use commute_ops::{Kind, Value};
@@ -162,8 +162,7 @@ impl NodeState {
         requires script { IsOf script.now self.now.core.parts }
         requires below { AllBelow MOST_COUNT (counts_of self.now.core.parts.counters).numbers }
         requires empty { IsEmpty scratch.old }
-        ensures { IfOk result (λ plan. IsPlanned (keeping_row script.now letter.now.to.0 (keeping_of self.now) letter.now)
-            self.now plan scratch.new) }
+        ensures { IfOk result (λ plan. IsLetterPlan script.now letter.now self.now plan scratch.new) }
     {
         plan_letter(alloc, &self.node, letter, script, scratch)
     }
@@ -177,7 +176,7 @@ impl NodeState {
         scratch: &mut Scratch,
     ) -> Result<(), NoMemory>
         requires { MayDoKeeping (node_meant plan scratch.old) self.old }
-        ensures done { OnOk result (IsKeepingDone (node_meant plan scratch.old) self.old self.new (Ok (out_in scratch.old))) }
+        ensures done { OnOk result (IsNodeDone plan scratch.old self.old self.new) }
         ensures err { OnErr result (self.new ≡ self.old) }
         ensures out { out_in scratch.new ≡ out_in scratch.old }
     {

@@ -7,8 +7,8 @@ ghost use Rattle.tx_trees.specs.ScriptData.{ScriptData};
 ghost use Rattle.world_model.specs.Runs.{actor_after};
 ghost use Rattle.world_core.specs.Actors.{AreStatesOf, actor_data, IsWorldOf, TookLetter};
 ghost use Rattle.tree_step.specs.Meant.{IsEmpty};
-ghost use Rattle.world_core.specs.Prepared.{IsActorStepOf, ActorMayDo, MayTake, out_of};
-ghost use Rattle.world_core.specs.inside.Actors.{Acted, world_of};
+ghost use Rattle.world_core.specs.Prepared.{ActorMayDo, MayTake, out_of};
+ghost use Rattle.world_core.specs.inside.Actors.{Acted, entry_made, IsPlanFor, world_of};
 ghost use Rattle.pair_counters.specs.Numbers.{MOST_COUNT};
 
 use crate::actor::{ActorPlan, ActorState, actor_done, actor_plan};
@@ -129,8 +129,7 @@ fn plan(
     requires here { letter.now.to.0 < length actors.now.items }
     requires may { IfSome (slice_get actors.now.items letter.now.to.0) (MayTake script.now letter.now MOST_COUNT) }
     requires empty { IsEmpty scratch.old }
-    ensures { IfOk result (λ plan. IfSome (slice_get actors.now.items letter.now.to.0)
-        (λ state. IsActorStepOf script.now letter.now state plan scratch.new)) }
+    ensures { IfOk result (λ plan. IsPlanFor script.now letter.now actors.now.items plan scratch.new) }
 {
     let state = state_at(actors, letter.to);
     let plan = actor_plan(alloc, state, letter, script, scratch)?;
@@ -162,8 +161,7 @@ fn finish(bag: &mut Bag<Letter>, history: &mut History, stamp: Stamp, k: usize, 
     requires place { 0 < length history.old }
     ensures bag { bag.new.items ≡ remove bag.old.items k }
     ensures history { IfSome (slice_get bag.old.items k) (λ l. history.new
-        ≡ slice_set history.old (length history.old - 1)
-        (record { stamp = stamp; actor = l.to; took = l; sent = out.sent; acts = out.acts })) }
+        ≡ slice_set history.old (length history.old - 1) (entry_made l out stamp)) }
 {
     let StepOut { sent, acts } = out;
     let took = bag.take(k);
