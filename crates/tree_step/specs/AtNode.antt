@@ -13,7 +13,8 @@ use Rattle.tree_home.specs.Homes.{open_trees}
 use Rattle.tx_trees.specs.ScriptData.{ScriptData, subs_at}
 use Rattle.world_model.specs.Asked.{tree_part}
 use Rattle.world_model.specs.Done.{counted_root, counted_sub, note_part, root_part, sub_done, with_open_tree}
-use Rattle.world_model.specs.Strict.{answer_noted, is_near_answer, is_unheld, note_core, read_core, strict_core, update_core}
+use Rattle.world_model.specs.Notices.{answer_noted}
+use Rattle.world_model.specs.Strict.{is_near_answer, is_unheld, note_core, read_core, strict_core, update_core}
 use Rattle.tree_step.specs.Changes.{IsTreePartOf}
 use Rattle.tree_step.specs.Core.{core_of}
 use Rattle.tree_step.specs.CoreChanges.{IsCoreStepOf}
