@@ -16,12 +16,14 @@ use Rattle.world_model.specs.Epochs.{is_core_timely}
 use Rattle.world_model.specs.Named.{is_named, is_near, is_new, is_strict_at, tree_kind_at}
 use Rattle.world_model.specs.Node.{Node}
 use Rattle.world_model.specs.Reads.{can_read}
-use Rattle.world_model.specs.Strict.{can_make_at, decides_near, is_of_strict, is_unheld}
+use Rattle.world_model.specs.Strict.{can_make_at, core_by_kind, decides_near, is_of_strict, is_unheld, kept_by_kind, read_core}
 use Rattle.world_model.specs.Updates.{can_update}
 use Rattle.tree_step.specs.Due.{is_due}
 use Rattle.tree_step.specs.Core.{core_of}
 use Rattle.tree_step.specs.declared.node_core.NodeCore.{NodeCore}
-use Rattle.node_keeping.specs.Plans.{IsPlanWhere}
+use Rattle.tree_step.specs.Node.{data_of}
+use Rattle.nc_commit.specs.declared.decisions.Decision.{Decision}
+use Rattle.node_keeping.specs.Plans.{IsPlanBy, IsPlanWhere}
 use Rattle.node_keeping.specs.declared.plans.CorePlan.{CorePlan}
 
 -- whether a letter of this sender and body is apt at node p, where the script's kind of coordinator allows it
@@ -54,6 +56,25 @@ abbrev pub tree_apt : ScriptData → ℕ → ℕ → Core → TreeNo → Body �
 tree_apt s p from c t body =
     is_due s p c.node from body && (is_unheld body c.holds && makes_by s c.node body (tree_kind_at s t.0))
 
+-- the plan of a subtransaction of tree t, of this kind, that is apt by this test
+abbrev pub IsKindPlan : ScriptData → Letter → TreeNo → Option TreeKind → Bool → NodeCore → CorePlan → Type 0
+IsKindPlan s l t kind test n plan =
+    IsPlanBy test (kept_by_kind s (core_of n) t l.body kind) (core_by_kind s l.to.0 l.from.0 t l.body kind (core_of n)) n plan
+
+-- where it is known to be due: it is apt if it may be made
+abbrev pub IsPlanOfKind : ScriptData → Letter → TreeNo → Option TreeKind → NodeCore → CorePlan → Type 0
+IsPlanOfKind s l t kind n plan = IsKindPlan s l t kind (makes_by s (data_of n.parts) l.body kind) n plan
+
+-- a read tree is never kept
+abbrev pub IsReadPlan : ScriptData → Letter → NodeCore → CorePlan → Type 0
+IsReadPlan s l n plan =
+    IsPlanBy (can_read s (data_of n.parts) l.body) None (read_core s l.to.0 l.from.0 l.body (core_of n)) n plan
+
+-- whatever its kind
+abbrev pub IsPlanOfTree : ScriptData → Letter → TreeNo → NodeCore → CorePlan → Type 0
+IsPlanOfTree s l t n plan =
+    IsKindPlan s l t (tree_kind_at s t.0) (tree_apt s l.to.0 l.from.0 (core_of n) t l.body) n plan
+
 -- a tree is there that may be told a decision at node p by a node
 abbrev pub decides_here : ScriptData → ℕ → ℕ → TreeNo → Bool
 decides_here s p from t = has_strict s && (visits (subs_at s t.0) p && nat_lt from s.nodes)
@@ -63,6 +84,9 @@ abbrev pub decide_apt : ScriptData → ℕ → ℕ → Core → TreeNo → Versi
 decide_apt s p from c t v commit =
     decides_here s p from t
     && (is_near c.node v && (is_strict_at s t.0 && can_decide s p t v commit c.node.items))
+
+abbrev pub decide_apt_at : ScriptData → Letter → Decision → NodeCore → Bool
+decide_apt_at s l d n = decide_apt s l.to.0 l.from.0 (core_of n) d.tree d.version d.commit
 
 -- an acknowledgement of tree t comes from a node to the tree's home
 abbrev pub acks_here : ScriptData → ℕ → ℕ → TreeNo → Bool

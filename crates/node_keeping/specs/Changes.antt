@@ -23,12 +23,6 @@ use Rattle.node_keeping.specs.declared.change.KeepingPrepared.TheVariants.{Still
 use Rattle.node_keeping.specs.declared.state.KeepingParts.{KeepingParts}
 use Rattle.node_keeping.specs.State.{keeping_of}
 
--- what goes out
-abbrev pub keeping_out_of : KeepingPrepared → StepOut
-keeping_out_of (Still out) = out
-keeping_out_of (Keeps keep raises out) = out
-keeping_out_of (Does prepared change) = prepared.prepared.out
-
 -- the kept letters where one is kept
 abbrev pub kept_with : Keep → List KeptLetter → List KeptLetter
 kept_with (New x) kept = kept ++ x ∷ []

@@ -1,5 +1,6 @@
 pub mod State
 pub mod Changes
+pub mod Meant
 pub mod Again
 pub mod inside
 pub mod Plans

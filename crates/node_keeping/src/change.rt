@@ -1,7 +1,4 @@
 // A step that is prepared.
-ghost use Rattle.std.specs.Prelude.{◌≡◌};
-ghost use Rattle.node_keeping.specs.Changes.{keeping_out_of};
-
 use letter_types::{Body, Boxed, KeptLetter, StepOut, Why};
 use tree_step::CorePrepared;
 use tv_base::{SubNo, TreeNo, Version};
@@ -42,17 +39,4 @@ pub enum KeepingPrepared {
         prepared: Boxed<CorePrepared>,
         change: KeptChange,
     },
-}
-
-impl KeepingPrepared {
-    /// What goes out.
-    pub fn out(&self) -> &StepOut
-        ensures { result.now ≡ keeping_out_of self.now }
-    {
-        match self {
-            KeepingPrepared::Still(out) => out,
-            KeepingPrepared::Keeps { out, .. } => out,
-            KeepingPrepared::Does { prepared, .. } => &prepared.get().prepared.out,
-        }
-    }
 }

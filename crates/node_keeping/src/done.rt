@@ -1,30 +1,43 @@
-// How a node changes in a step, once the step is prepared.
-ghost use Rattle.std.specs.Prelude.{◌≡◌, OnErr, OnOk};
+// How a node changes in a step, once the step is planned.
+ghost use Rattle.std.specs.Prelude.{◌≡◌, Ok, OnErr, OnOk};
+ghost use Rattle.tree_step.specs.Meant.{core_meant, out_in};
 ghost use Rattle.tree_step.specs.Raising.{raised_by};
 ghost use Rattle.tree_step.specs.CoreChanges.{MayDoCore};
-ghost use Rattle.node_keeping.specs.Changes.{IsKeepingDone, MayDoKeeping, MayBeKept, MayKeepLetter, kept_after, kept_with};
+ghost use Rattle.node_keeping.specs.Changes.{MayDoKeeping, MayBeKept, MayKeepLetter, kept_after, kept_with};
 ghost use Rattle.node_keeping.specs.declared.change.KeepingPrepared.TheVariants.{Does, Keeps};
+ghost use Rattle.node_keeping.specs.Meant.{IsNodeDone, keep_meant, kept_meant, node_meant};
 
-use crate::change::{Keep, KeepingPrepared, KeptChange};
 use crate::kept::KeptLetters;
+use crate::node_plan::{KeepPlan, KeptPlan, NodePlan};
 use crate::state::KeepingParts;
-use letter_types::{Boxed, StepOut};
+use letter_types::{Body, Boxed, KeptLetter, Letter};
 use node_versions::Turns;
-use tree_step::{CorePrepared, core_done};
+use std::alloc::Global;
+use tree_step::{Plan, Scratch, do_plan};
 use tv_base::{NoMemory, Version};
 
-/// Keeps a letter. Where no memory is found what is kept is as it was.
-fn keep_letter(kept: &mut KeptLetters, keep: Keep) -> Result<(), NoMemory>
-    requires { MayBeKept keep kept.old }
-    ensures ok { OnOk result (kept.new ≡ kept_with keep kept.old) }
+/// Keeps a letter: the one that came, or the called one once more. Where no memory is found what is kept is as it was.
+fn keep_letter(
+    kept: &mut KeptLetters,
+    keep: KeepPlan,
+    letter: Option<Letter>,
+) -> Result<(), NoMemory>
+    requires { MayBeKept (keep_meant keep letter) kept.old }
+    ensures ok { OnOk result (kept.new ≡ kept_with (keep_meant keep letter) kept.old) }
     ensures err { OnErr result (kept.new ≡ kept.old) }
 {
-    match keep {
-        Keep::New(letter) => {
-            kept.keep(letter)?;
+    let KeepPlan { tree, sub, why, .. } = keep;
+    match letter {
+        Some(letter) => {
+            kept.keep(KeptLetter {
+                letter,
+                tree,
+                sub,
+                why,
+            })?;
             Ok(())
         }
-        Keep::Again { tree, sub, why } => kept.keep_again(tree, sub, why),
+        None => kept.keep_again(tree, sub, why),
     }
 }
 
@@ -38,57 +51,68 @@ fn raise_by(turns: &mut Turns, raises: Option<Version>)
 }
 
 /// A letter is kept, and then the update version raised. Where no memory is found the node is as it was.
-fn keep_done(
-    node: &mut KeepingParts,
-    keep: Keep,
-    raises: Option<Version>,
-    out: StepOut,
-) -> Result<StepOut, NoMemory>
-    requires { MayKeepLetter keep raises node.old }
-    ensures { IsKeepingDone (Keeps keep raises out) node.old node.new result }
+fn do_keep(node: &mut KeepingParts, keep: KeepPlan, scratch: &mut Scratch) -> Result<(), NoMemory>
+    requires { MayKeepLetter (keep_meant keep scratch.old.letter) keep.raises node.old }
+    ensures done { OnOk result (IsNodeDone (NodePlan.Keeps keep) scratch.old node.old node.new) }
+    ensures err { OnErr result (node.new ≡ node.old) }
+    ensures out { out_in scratch.new ≡ out_in scratch.old }
 {
-    keep_letter(&mut node.kept, keep)?;
-    raise_by(&mut node.core.parts.turns, raises);
-    Ok(out)
+    let letter = scratch.letter.take();
+    keep_letter(&mut node.kept, keep, letter)?;
+    raise_by(&mut node.core.parts.turns, keep.raises);
+    Ok(())
 }
 
 /// Some letters are called, or one goes. Needs no memory.
-fn change_kept(kept: &mut KeptLetters, change: KeptChange)
-    ensures { kept.new ≡ kept_after change kept.old }
+fn change_kept(kept: &mut KeptLetters, plan: KeptPlan, calls: &Option<Boxed<Body>>)
+    ensures { kept.new ≡ kept_after (kept_meant plan calls.now) kept.old }
 {
-    match change {
-        KeptChange::Stay => {}
-        KeptChange::LetGo { tree, sub } => kept.let_called_go(tree, sub),
-        KeptChange::Call(body) => kept.call(body.get()),
+    match plan {
+        KeptPlan::Stay => {}
+        KeptPlan::LetGo { tree, sub } => kept.let_called_go(tree, sub),
+        KeptPlan::Call => {
+            if let Some(body) = calls {
+                kept.call(body.get());
+            }
+        }
     }
 }
 
 /// The core does its step, and then the kept letters change. Where no memory is found the node is as it was.
 #[inline(always)]
-fn row_done(
+fn do_row(
+    alloc: Global,
     node: &mut KeepingParts,
-    prepared: Boxed<CorePrepared>,
-    change: KeptChange,
-) -> Result<StepOut, NoMemory>
-    requires { MayDoCore prepared node.old.core }
-    ensures { IsKeepingDone (Does prepared change) node.old node.new result }
+    plan: Plan,
+    kept: KeptPlan,
+    scratch: &mut Scratch,
+) -> Result<(), NoMemory>
+    requires { MayDoCore (core_meant plan scratch.old) node.old.core }
+    ensures done { OnOk result (IsNodeDone (NodePlan.Does plan kept) scratch.old node.old node.new) }
+    ensures err { OnErr result (node.new ≡ node.old) }
+    ensures out { out_in scratch.new ≡ out_in scratch.old }
 {
-    let out = core_done(&mut node.core, prepared.into_inner())?;
-    change_kept(&mut node.kept, change);
-    Ok(out)
+    do_plan(alloc, &mut node.core, plan, scratch)?;
+    change_kept(&mut node.kept, kept, &scratch.calls);
+    Ok(())
 }
 
-/// Does a step that was prepared, and gives what goes out. Where no memory is found the node is as it was.
+/// Does what is planned; what goes out stays in the scratch. Where no memory is found the node is as it was.
 #[inline(always)]
-pub fn keeping_done(node: &mut KeepingParts, prepared: KeepingPrepared) -> Result<StepOut, NoMemory>
-    requires { MayDoKeeping prepared node.old }
-    ensures { IsKeepingDone prepared node.old node.new result }
+pub fn do_node(
+    alloc: Global,
+    node: &mut KeepingParts,
+    plan: NodePlan,
+    scratch: &mut Scratch,
+) -> Result<(), NoMemory>
+    requires { MayDoKeeping (node_meant plan scratch.old) node.old }
+    ensures done { OnOk result (IsNodeDone plan scratch.old node.old node.new) }
+    ensures err { OnErr result (node.new ≡ node.old) }
+    ensures out { out_in scratch.new ≡ out_in scratch.old }
 {
-    match prepared {
-        KeepingPrepared::Still(out) => Ok(out),
-        KeepingPrepared::Keeps { keep, raises, out } => {
-            keep_done(node, keep.into_inner(), raises, out)
-        }
-        KeepingPrepared::Does { prepared, change } => row_done(node, prepared, change),
+    match plan {
+        NodePlan::Still => Ok(()),
+        NodePlan::Keeps(keep) => do_keep(node, keep, scratch),
+        NodePlan::Does { plan, kept } => do_row(alloc, node, plan, kept, scratch),
     }
 }

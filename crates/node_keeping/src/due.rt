@@ -1,16 +1,15 @@
 // Whether a letter is apt, as far as its operations don't decide.
-ghost use Rattle.std.specs.Prelude.{◌≡◌, ◌==◌, ◌&&◌, is_some, nat_lt};
+ghost use Rattle.std.specs.Prelude.{◌≡◌, ◌==◌, ◌&&◌, is_some};
 ghost use Rattle.std.specs.Option.{option_copied};
 ghost use Rattle.tree_home.specs.HeldAnswers.{held_answers, held_in};
-ghost use Rattle.tree_home.specs.Homes.{Gets, open_trees};
+ghost use Rattle.tree_home.specs.Homes.{Gets};
 ghost use Rattle.tx_trees.specs.ScriptData.{node_of, sub_at};
 ghost use Rattle.world_model.specs.Epochs.{suits_coordinator};
-ghost use Rattle.world_model.specs.Notices.{answer_noted};
-ghost use Rattle.world_model.specs.Strict.{is_near_answer, is_unheld};
+ghost use Rattle.world_model.specs.Strict.{is_unheld};
 ghost use Rattle.tree_step.specs.Due.{is_due};
-ghost use Rattle.tree_step.specs.Node.{data_of};
 ghost use Rattle.tree_step.specs.Core.{core_of};
-ghost use Rattle.node_keeping.specs.Apt.{acked_apt, acks_here, decide_apt, decides_here, release_apt, wake_apt};
+ghost use Rattle.node_keeping.specs.Apt.{acked_apt, acks_here, decide_apt, decide_apt_at, decides_here, release_apt, wake_apt};
+ghost use Rattle.tree_step.specs.AtNode.{is_free_at, answers_near};
 
 use letter_types::{Body, Letter};
 use nc_commit::{Decision, may_apply_decision};
@@ -64,8 +63,7 @@ fn is_unheld(homes: &Homes, body: &Body) -> bool
 /// Whether a letter that asks for a subtransaction is one that the node takes, and the answer of a root's tree isn't
 /// held.
 pub fn is_free(core: &NodeCore, letter: &Letter, script: &Script) -> bool
-    ensures { result ≡ is_due script.now letter.now.to.0 (data_of core.now.parts) letter.now.from.0 letter.now.body
-        && is_unheld letter.now.body (held_answers core.now.parts.homes) }
+    ensures { result ≡ is_free_at script.now letter.now core.now.parts }
 {
     is_due(&core.parts, letter, script) && is_unheld(&core.parts.homes, &letter.body)
 }
@@ -73,8 +71,7 @@ pub fn is_free(core: &NodeCore, letter: &Letter, script: &Script) -> bool
 /// Whether the answer that a notice completes, where its tree is strict, is of a version in which the home counts,
 /// whatever values the notice brings. It is so where the tree isn't strict, or the notice completes none.
 pub fn decides_near(core: &NodeCore, script: &Script, request: Request) -> bool
-    ensures { (values : Gets) → result ≡ is_near_answer script.now (data_of core.now.parts)
-        (answer_noted request.tree request.sub values (open_trees core.now.parts.homes)) }
+    ensures { (values : Gets) → result ≡ answers_near script.now request values core.now.parts }
 {
     if !is_strict(script, request.tree) {
         return true;
@@ -98,8 +95,7 @@ fn decides_here(letter: &Letter, script: &Script, tree: TreeNo) -> bool
 /// Whether a decision is apt: its tree is strict and has a subtransaction here, its version is one that the node counts
 /// in, and what it applies can be applied.
 pub fn decide_apt(core: &NodeCore, letter: &Letter, script: &Script, decision: Decision) -> bool
-    ensures { result ≡ decide_apt script.now letter.now.to.0 letter.now.from.0 (core_of core.now) decision.tree
-        decision.version decision.commit }
+    ensures { result ≡ decide_apt_at script.now letter.now decision core.now }
 {
     decides_here(letter, script, decision.tree)
         && is_near(&core.parts.turns, decision.version)

@@ -1,5 +1,5 @@
 // Which letters are kept, and how.
-ghost use Rattle.std.specs.Prelude.{◌≡◌, ◌++◌, ◌∷◌, [], nat_lt, IfOk};
+ghost use Rattle.std.specs.Prelude.{◌≡◌, ◌++◌, ◌∷◌, [], IfOk};
 ghost use Rattle.world_model.specs.Strict.{is_born_now, meets};
 ghost use Rattle.world_model.specs.Asked.{asked_ops};
 ghost use Rattle.nc_locks.specs.Locks.{met_in};

@@ -3,11 +3,12 @@ ghost use Rattle.std.specs.Prelude.{◌≡◌, ◌+◌, ◌<◌, [], IfOk, Match
 ghost use Rattle.letter_types.specs.Steps.{made};
 ghost use Rattle.pair_counters.specs.Numbers.{MOST_COUNT};
 ghost use Rattle.stamp_post.specs.Shown.{seat_data};
-ghost use Rattle.world_model.specs.Tables.{actor_row};
+ghost use Rattle.tree_step.specs.Meant.{IsEmpty};
 ghost use Rattle.world_model.specs.Taking.{CountsBelow, IsAddressed};
 ghost use Rattle.world_core.specs.Actors.{IsFor, actor_data};
 ghost use Rattle.history_merge.specs.OwnLogs.{Delivered, Handled};
 ghost use Rattle.node_threads.specs.Cells.{cell_data};
+ghost use Rattle.world_core.specs.Prepared.{row_at};
 
 use history_merge::{ClusterName, Made, OwnLog};
 use letter_types::{Letter, Letters, StepOut, copy_letters};
@@ -15,20 +16,24 @@ use stamp_post::{ActorSeat, Envelope, Outbox, Post};
 use std::alloc::Global;
 use std::collections::VecDeque;
 use std::marker::Model;
+use tree_step::{Scratch, new_scratch, wipe};
 use tv_base::{ActorNo, NoMemory};
 use tx_trees::Script;
-use world_core::{ActorState, actor_done, actor_prepare};
+use world_core::{ActorState, actor_done, actor_plan};
 
 /// An actor: its own log, of the script and the post that `K` names, and its state, to which the log's entries lead.
 /// Contracts see its number and its entries.
 pub struct ActorCell<K: ClusterName> {
     log: OwnLog<K>,
     state: ActorState,
+    // used again by each step, and empty between steps
+    scratch: Scratch,
 }
 
 impl<K: ClusterName> Model for ActorCell<K> {
     ghost use Rattle.std.specs.Prelude.{◌≡◌, ◌+◌};
     ghost use Rattle.node_threads.specs.Cells.{CellData, LeadsTo, cell_data};
+    ghost use Rattle.tree_step.specs.Meant.{IsEmpty};
 
     ghost Value = { CellData };
 
@@ -36,13 +41,18 @@ impl<K: ClusterName> Model for ActorCell<K> {
 
     ghost invariant = { λ c.
         LeadsTo K.script c.log.number c.log.entries c.state
-        × (K.post.actors ≡ K.script.nodes + 2) };
+        × (K.post.actors ≡ K.script.nodes + 2)
+        × IsEmpty c.scratch };
 }
 
 // A drop of its own is one call wherever a cell goes out of scope.
 impl<K: ClusterName> Drop for ActorCell<K> {
     fn drop(self) {
-        let ActorCell { log: _, state: _ } = self;
+        let ActorCell {
+            log: _,
+            state: _,
+            scratch: _,
+        } = self;
     }
 }
 
@@ -53,19 +63,21 @@ fn step(
     state: &mut ActorState,
     letter: &Letter,
     script: &Script,
+    scratch: &mut Scratch,
 ) -> Result<(StepOut, Letters), NoMemory>
+    requires empty { IsEmpty scratch.old }
     requires addressed { IsAddressed script.now letter.now (actor_data state.old) }
     requires script { IsFor script.now state.old }
     requires small { CountsBelow MOST_COUNT (actor_data state.old) }
-    ensures row { IfOk result (λ r. made (actor_data state.new) r.0
-        ≡ actor_row script.now letter.now.to.0 (actor_data state.old) letter.now) }
+    ensures row { IfOk result (λ r. made (actor_data state.new) r.0 ≡ row_at script.now letter.now state.old) }
     ensures copy { IfOk result (λ r. r.1 ≡ r.0.sent) }
     ensures script { OnOk result (IsFor script.now state.new) }
     ensures err { OnErr result (state.new ≡ state.old) }
+    ensures empty { OnOk result (IsEmpty scratch.new) }
 {
-    let prepared = actor_prepare(alloc, state, letter, script)?;
-    let copy = copy_letters(alloc, &prepared.out().sent)?;
-    let out = actor_done(state, prepared)?;
+    let plan = actor_plan(alloc, state, letter, script, scratch)?;
+    let copy = copy_letters(alloc, plan.sent(scratch))?;
+    let out = actor_done(alloc, state, plan, scratch)?;
     Ok((out, copy))
 }
 
@@ -87,6 +99,7 @@ impl<K: ClusterName> ActorCell<K> {
         Ok(ActorCell {
             log: OwnLog::new(number, seat),
             state,
+            scratch: new_scratch(alloc),
         })
     }
 
@@ -132,7 +145,14 @@ impl<K: ClusterName> ActorCell<K> {
         if made.reserve(1).is_err() {
             return Err((NoMemory, envelope));
         }
-        let Ok((out, copy)) = step(alloc, &mut self.state, envelope.letter(), script) else {
+        let Ok((out, copy)) = step(
+            alloc,
+            &mut self.state,
+            envelope.letter(),
+            script,
+            &mut self.scratch,
+        ) else {
+            wipe(alloc, &mut self.scratch);
             return Err((NoMemory, envelope));
         };
         Ok(self.log.enter(post, envelope, script, out, copy, made))
@@ -142,7 +162,11 @@ impl<K: ClusterName> ActorCell<K> {
     pub(crate) fn into_log(self) -> OwnLog<K>
         ensures { cell_data result.number result.entries ≡ self }
     {
-        let ActorCell { log, state: _ } = self;
+        let ActorCell {
+            log,
+            state: _,
+            scratch: _,
+        } = self;
         log
     }
 }

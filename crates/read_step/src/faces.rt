@@ -3,9 +3,9 @@ ghost use Rattle.item_versions.specs.Table.{pending};
 ghost use Rattle.item_versions.specs.Window.{in_window, IsWindowedTable};
 ghost use Rattle.letter_types.specs.Steps.{made};
 ghost use Rattle.tree_step.specs.Changes.{IsDoneTwice};
-ghost use Rattle.tree_step.specs.Due.{is_due};
-ghost use Rattle.tree_step.specs.Node.{data_of, effect_on, IsInWindow, IsOf, IsReady, state_of};
-ghost use Rattle.read_step.specs.Rows.{read_done, read_if_made};
+ghost use Rattle.tree_step.specs.Node.{data_of, IsInWindow, IsOf, IsReady, state_of};
+ghost use Rattle.tree_step.specs.AtNode.{IsDueAt};
+ghost use Rattle.read_step.specs.Rows.{read_at, read_done_at};
 
 use crate::steps::get_all;
 use item_versions::ItemTable;
@@ -31,11 +31,10 @@ fn step_read(
     effect: Effect,
 ) -> Result<Step, NoMemory>
     requires ready { IsReady script.now letter.now.to.0 node.old }
-    requires due { IsTrue (is_due script.now letter.now.to.0 (data_of node.old) letter.now.from.0 letter.now.body) }
+    requires due { IsDueAt script.now letter.now node.old }
     requires near { IsTrue (in_window node.old.turns.low.0 version.0) }
     requires fits { IsWindowedTable node.old.turns.low.0 (pending effect.staged node.old.items) }
-    ensures { IsDoneTwice (read_done script.now letter.now.to.0 letter.now.from.0 version
-        (effect_on node.old.items effect) letter.now.body (data_of node.old)) node.old node.new result }
+    ensures { IsDoneTwice (read_done_at script.now letter.now version effect node.old) node.old node.new result }
 {
     let within = InVersion {
         version,
@@ -59,12 +58,10 @@ pub fn run_read(
 ) -> Result<Step, NoMemory>
     // What the caller knows.
     requires ready { IsReady script.now letter.now.to.0 (state_of turns.now items.now counters.old homes.old) }
-    requires due { IsTrue (is_due script.now letter.now.to.0
-        (data_of (state_of turns.now items.now counters.old homes.old)) letter.now.from.0 letter.now.body) }
+    requires due { IsDueAt script.now letter.now (state_of turns.now items.now counters.old homes.old) }
     // What is made.
     ensures row { IfOk result (λ step. made (data_of (state_of turns.now items.now counters.new homes.new)) step.given
-        ≡ read_if_made script.now letter.now.to.0 (data_of (state_of turns.now items.now counters.old homes.old))
-        letter.now.from.0 letter.now.body) }
+        ≡ read_at script.now letter.now (state_of turns.now items.now counters.old homes.old)) }
     ensures kept { IfOk result (λ step. step.kept ≡ step.given) }
     // What stays, and what running out of memory leaves.
     ensures held { OnOk result (homes.new.held ≡ homes.old.held) }

@@ -1,9 +1,8 @@
-ghost use Rattle.std.specs.Prelude.{◌≡◌, [], is_some, IfOk, IfSome, IsTrue};
+ghost use Rattle.std.specs.Prelude.{◌≡◌, [], is_some, IfOk, IfSome};
 ghost use Rattle.std.specs.Option.{option_copied};
-ghost use Rattle.tree_step.specs.Changes.{IsTreePartOf};
-ghost use Rattle.tree_step.specs.Due.{is_due};
 ghost use Rattle.tree_step.specs.Node.{data_of, effect_on, IsReady};
-ghost use Rattle.read_step.specs.Rows.{can_get, can_read, getting, got_by_deed, read_part};
+ghost use Rattle.read_step.specs.Rows.{can_get, can_read, getting, got_by_deed, IsReadPart, read_part};
+ghost use Rattle.tree_step.specs.AtNode.{IsDueAt};
 
 use commute_ops::{Value, Values};
 use item_versions::{ItemTable, Staged};
@@ -62,10 +61,9 @@ pub fn read_part(
     script: &Script,
 ) -> Result<Option<TreePrepared>, NoMemory>
     requires ready { IsReady script.now letter.now.to.0 node.now }
-    requires due { IsTrue (is_due script.now letter.now.to.0 (data_of node.now) letter.now.from.0 letter.now.body) }
+    requires due { IsDueAt script.now letter.now node.now }
     ensures can { IfOk result (λ found. is_some found ≡ can_read script.now (data_of node.now) letter.now.body) }
-    ensures part { IfOk result (λ found. IfSome found (IsTreePartOf
-        (read_part script.now letter.now.to.0 (data_of node.now) letter.now.from.0 letter.now.body) node.now)) }
+    ensures part { IfOk result (λ found. IfSome found (IsReadPart script.now letter.now node.now)) }
 {
     let version = asked_version(letter, node.turns.read);
     let Some(effect) = get_all(alloc, &node.items, version, asked_ops(letter, script))? else {

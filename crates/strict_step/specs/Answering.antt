@@ -1,5 +1,6 @@
 -- When a step of a tree's letter may be answered, or decided.
 use Rattle.std.specs.Prelude.{◌≡◌, ◌<◌, ⊤, if◌then◌else◌, List, [], length, IsTrue, Option, Some, None}
+use Rattle.tv_base.specs.declared.numbers.NodeNo.{NodeNo}
 use Rattle.tv_base.specs.declared.numbers.TreeNo.{TreeNo}
 use Rattle.item_versions.specs.Window.{in_window}
 use Rattle.letter_types.specs.declared.bodies.Body.TheVariants.{Release}
@@ -9,11 +10,15 @@ use Rattle.tree_home.specs.Homes.{home_in}
 use Rattle.tree_home.specs.declared.homes.Answered.{Answered}
 use Rattle.tx_trees.specs.ScriptData.{ScriptData, subs_at, visited_by}
 use Rattle.world_model.specs.Node.{Node}
-use Rattle.world_model.specs.Strict.{marks, to_each}
-use Rattle.tree_step.specs.Changes.{after_change}
+use Rattle.world_model.specs.Strict.{answered, decide_core, decided, marks, to_each}
+use Rattle.nc_commit.specs.declared.decisions.Decision.{Decision}
+use Rattle.tree_step.specs.Changes.{after_change, part_row}
 use Rattle.tree_step.specs.Node.{IsOf, data_of}
 use Rattle.tree_step.specs.declared.change.TreePrepared.{TreePrepared}
-use Rattle.tree_step.specs.Core.{AreApart}
+use Rattle.tree_step.specs.Core.{AreApart, core_of}
+use Rattle.tree_step.specs.CoreChanges.{IsCoreStepOf, with_votes}
+use Rattle.tree_step.specs.declared.core_change.CorePrepared.{CorePrepared}
+use Rattle.tree_step.specs.declared.core_change.VoteChange.{VoteChange}
 use Rattle.tree_step.specs.declared.node_core.NodeCore.{NodeCore}
 
 -- the node that commuting trees see, after the step
@@ -40,3 +45,16 @@ MayDecide s p n (Some a) = IsDecidable s p n a
 -- what lets the marks of a tree go
 abbrev pub tree_releases : ScriptData → TreeNo → List Outgoing
 tree_releases s t = if marks s t.0 then to_each (Release t) (visited_by s t.0) else []
+
+-- a step with this part whose tree is answered, and one whose tree is decided
+abbrev pub IsAnsweredStep : ScriptData → VoteChange → TreePrepared → NodeCore → CorePrepared → Type 0
+IsAnsweredStep s votes p n step =
+    IsCoreStepOf (answered s (with_votes votes (core_of n)) (part_row p (data_of n.parts))) n step
+
+abbrev pub IsDecidedStep : ScriptData → VoteChange → TreePrepared → NodeCore → CorePrepared → Type 0
+IsDecidedStep s votes p n step =
+    IsCoreStepOf (decided s (with_votes votes (core_of n)) (part_row p (data_of n.parts)) p.answered) n step
+
+-- a decision at node p
+abbrev pub IsDecideStep : ScriptData → NodeNo → NodeNo → Decision → NodeCore → CorePrepared → Type 0
+IsDecideStep s p from d n step = IsCoreStepOf (decide_core s p.0 from.0 d.tree d.version d.commit (core_of n)) n step

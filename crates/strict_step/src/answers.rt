@@ -5,12 +5,10 @@ ghost use Rattle.letter_types.specs.declared.acts.Act.TheVariants as acts;
 ghost use Rattle.letter_types.specs.declared.bodies.Body.TheVariants.{Decide};
 ghost use Rattle.tree_home.specs.Maps.{by_tree};
 ghost use Rattle.tx_trees.specs.ScriptData.{subs_at, updates, visited_by};
-ghost use Rattle.world_model.specs.Strict.{answered, decided, marks, none_refuses, release_letters, to_each};
-ghost use Rattle.tree_step.specs.Changes.{MayDo, SendsRequests, part_row};
-ghost use Rattle.tree_step.specs.Node.{data_of};
-ghost use Rattle.tree_step.specs.CoreChanges.{IsCoreStepOf, numbers_of_nodes, refusals_with, with_votes};
-ghost use Rattle.tree_step.specs.Core.{core_of};
-ghost use Rattle.strict_step.specs.Answering.{IsApartAfter, MayDecide, tree_releases};
+ghost use Rattle.world_model.specs.Strict.{answered, marks, none_refuses, release_letters, to_each};
+ghost use Rattle.tree_step.specs.Changes.{MayDo, SendsRequests};
+ghost use Rattle.tree_step.specs.CoreChanges.{numbers_of_nodes, refusals_with};
+ghost use Rattle.strict_step.specs.Answering.{IsAnsweredStep, IsApartAfter, IsDecidedStep, MayDecide, tree_releases};
 
 use crate::decisions::client_of;
 use letter_types::{Act, Body, Boxed, Letters, Outgoing, StepOut};
@@ -115,8 +113,7 @@ pub fn answered_step(
     requires may { MayDo part.prepared.change part.prepared.out.sent core.now.parts }
     requires counted { SendsRequests part.prepared.change part.prepared.out.sent }
     requires apart { IsApartAfter part core.now }
-    ensures { IfOk result (IsCoreStepOf (answered script.now (with_votes votes (core_of core.now))
-        (part_row part (data_of core.now.parts))) core.now) }
+    ensures { IfOk result (IsAnsweredStep script.now votes part core.now) }
 {
     let TreePrepared { prepared, answered } = part;
     let mut prepared = CorePrepared {
@@ -183,8 +180,7 @@ pub(crate) fn decided_step(
     requires counted { SendsRequests part.prepared.change part.prepared.out.sent }
     requires apart { IsApartAfter part core.now }
     requires decide { MayDecide script.now part core.now part.answered }
-    ensures { IfOk result (IsCoreStepOf (decided script.now (with_votes votes (core_of core.now))
-        (part_row part (data_of core.now.parts)) part.answered) core.now) }
+    ensures { IfOk result (IsDecidedStep script.now votes part core.now) }
 {
     let TreePrepared { prepared, answered } = part;
     let Some(answered) = answered else {

@@ -8,10 +8,11 @@ ghost use Rattle.tree_home.specs.Maps.{by_tree};
 ghost use Rattle.tx_trees.specs.ScriptData.{client_of, subs_at};
 ghost use Rattle.world_model.specs.Decisions.{can_decide};
 ghost use Rattle.world_model.specs.Named.{is_strict_at};
-ghost use Rattle.world_model.specs.Strict.{acked_core, answer_by, answer_letters, decide_core, release_core};
+ghost use Rattle.world_model.specs.Strict.{acked_core, answer_by, answer_letters, release_core};
 ghost use Rattle.tree_step.specs.CoreChanges.{IsCoreStepOf};
 ghost use Rattle.tree_step.specs.Core.{CanCoreStep, IsCoreReady, core_of};
 ghost use Rattle.strict_step.specs.inside.Decided.{ack_of, completing, dropped};
+ghost use Rattle.strict_step.specs.Answering.{IsDecideStep};
 
 use commute_ops::copy_values;
 use item_versions::Staged;
@@ -96,8 +97,7 @@ pub fn prepare_decide(
     requires near { IsTrue (in_window core.now.parts.turns.low.0 decision.version.0) }
     requires can { IsTrue (can_decide script.now node.0 decision.tree decision.version decision.commit core.now.parts.items) }
     // What is made.
-    ensures { IfOk result (IsCoreStepOf (decide_core script.now node.0 from.0 decision.tree decision.version decision.commit
-        (core_of core.now)) core.now) }
+    ensures { IfOk result (IsDecideStep script.now node from decision core.now) }
 {
     // The readers say that the versions of each item ascend, and that a tree's nodes are the script's.
     let _count = core.parts.items.count();

@@ -3,20 +3,17 @@ ghost use Rattle.std.specs.Prelude.{◌≡◌, ◌<◌, length, IfOk, IsTrue};
 ghost use Rattle.item_versions.specs.Window.{in_window};
 ghost use Rattle.pair_counters.specs.Numbers.{AllBelow, MOST_COUNT};
 ghost use Rattle.pair_counters.specs.Rows.{counts_of};
-ghost use Rattle.tree_home.specs.HeldAnswers.{held_answers};
-ghost use Rattle.tree_home.specs.Homes.{misses, open_trees};
+ghost use Rattle.tree_home.specs.Homes.{misses};
 ghost use Rattle.tree_home.specs.Maps.{by_tree};
 ghost use Rattle.tx_trees.specs.ScriptData.{subs_at};
 ghost use Rattle.world_model.specs.Core.{lesser};
 ghost use Rattle.world_model.specs.Done.{note_part};
-ghost use Rattle.world_model.specs.Notices.{answer_noted, values_of};
-ghost use Rattle.world_model.specs.Strict.{is_near_answer, is_unheld, note_core, notice_by, strict_core};
-ghost use Rattle.tree_step.specs.Changes.{IsTreePartOf};
-ghost use Rattle.tree_step.specs.Due.{is_due};
-ghost use Rattle.tree_step.specs.Node.{IsInWindow, data_of};
-ghost use Rattle.tree_step.specs.CoreChanges.{IsCoreStepOf};
-ghost use Rattle.tree_step.specs.Core.{IsCoreReady, core_of};
-ghost use Rattle.strict_step.specs.inside.Voting.{change_by, no_by, noted_no, no_in_notice, refusal_there};
+ghost use Rattle.world_model.specs.Notices.{values_of};
+ghost use Rattle.world_model.specs.Strict.{notice_by};
+ghost use Rattle.tree_step.specs.Node.{IsInWindow};
+ghost use Rattle.tree_step.specs.Core.{IsCoreReady};
+ghost use Rattle.strict_step.specs.inside.Voting.{change_by, no_by, no_in_notice, noted_no, refusal_at};
+ghost use Rattle.tree_step.specs.AtNode.{answers_near, IsDueAt, IsNotedPart, IsNoteStep, IsUnheldAt, IsVoteStep};
 
 use crate::answers::{answered_step, decided_step};
 use commute_ops::Values;
@@ -71,8 +68,7 @@ fn note_part(
     requires small { AllBelow MOST_COUNT (counts_of parts.now.counters).numbers }
     requires window { IsInWindow parts.now }
     requires near { IsTrue (in_window parts.now.turns.low.0 request.version.0) }
-    ensures { IfOk result (IsTreePartOf (note_part request.from.0 request.tree.0 request.sub.0 request.version.0
-        (values_of notice.now) (data_of parts.now)) parts.now) }
+    ensures { IfOk result (IsNotedPart request (values_of notice.now) parts.now) }
 {
     match notice {
         Notice::Did(values) => prepare_notice(alloc, parts, request, values),
@@ -83,8 +79,7 @@ fn note_part(
 
 /// What becomes of the noes at a notice: nothing where it isn't missing at its home.
 fn refused_there(core: &NodeCore, request: Request, notice: &Notice) -> VoteChange
-    ensures { result ≡ refusal_there (misses request.tree request.sub (open_trees core.now.parts.homes)) request.tree
-        request.sub notice.now (by_tree core.now.refusals) }
+    ensures { result ≡ refusal_at request notice.now core.now }
 {
     let Request { tree, sub, .. } = request;
     if !core.parts.homes.misses(tree, sub) {
@@ -106,11 +101,9 @@ pub fn prepare_note(
     requires ready { IsCoreReady script.now request.from.0 core.now }
     requires there { 0 < length (subs_at script.now request.tree.0) }
     requires near { IsTrue (in_window core.now.parts.turns.low.0 request.version.0) }
-    requires decides { IsTrue (is_near_answer script.now (data_of core.now.parts)
-        (answer_noted request.tree request.sub (values_of notice.now) (open_trees core.now.parts.homes))) }
+    requires decides { IsTrue (answers_near script.now request (values_of notice.now) core.now.parts) }
     // What is made.
-    ensures { IfOk result (IsCoreStepOf (note_core script.now request.from.0 request.tree request.sub request.version
-        notice.now (core_of core.now)) core.now) }
+    ensures { IfOk result (IsNoteStep script.now request notice.now core.now) }
 {
     let part = note_part(alloc, &core.parts, request, notice)?;
     if !is_strict(script, request.tree) {
@@ -173,11 +166,10 @@ pub fn prepare_vote(
 ) -> Result<Boxed<CorePrepared>, NoMemory>
     // What the caller knows.
     requires ready { IsCoreReady script.now letter.now.to.0 core.now }
-    requires due { IsTrue (is_due script.now letter.now.to.0 (data_of core.now.parts) letter.now.from.0 letter.now.body) }
-    requires unheld { IsTrue (is_unheld letter.now.body (held_answers core.now.parts.homes)) }
+    requires due { IsDueAt script.now letter.now core.now.parts }
+    requires unheld { IsUnheldAt letter.now core.now.parts }
     // What is made.
-    ensures { IfOk result (IsCoreStepOf (strict_core script.now letter.now.to.0 letter.now.from.0 tree letter.now.body
-        (core_of core.now)) core.now) }
+    ensures { IfOk result (IsVoteStep script.now letter.now tree core.now) }
 {
     let version = asked_version(letter, core.parts.turns.update);
     let ops = asked_ops(letter, script);

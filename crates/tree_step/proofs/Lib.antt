@@ -11,3 +11,5 @@ pub mod Opened
 pub mod Asking
 pub mod Stepped
 pub mod Undone
+pub mod HeldAside
+pub mod PlanOpened

@@ -23,12 +23,11 @@ use Rattle.tree_step.specs.declared.change.Change.TheVariants.{Still, Tree, Turn
 use Rattle.tree_step.specs.declared.change.Prepared.{Prepared}
 use Rattle.letter_types.specs.declared.entries.Outgoing.{Outgoing}
 use Rattle.tree_step.specs.declared.node.NodeParts.{NodeParts}
-use Rattle.tree_step.specs.CoreChanges.{MayDoCore, asked_with, core_prepared_row, epoch_with, holds_with, locks_with, numbers_of_nodes, refusals_with}
+use Rattle.tree_step.specs.CoreChanges.{asked_with, core_prepared_row, epoch_with, holds_with, locks_with, numbers_of_nodes, refusals_with}
 use Rattle.tree_step.proofs.Asking.{with_asked}
 use Rattle.tree_step.specs.Core.{IsApart, core_of, core_with}
 use Rattle.tree_step.specs.declared.core_change.CorePrepared.{CorePrepared}
 use Rattle.tree_step.specs.declared.node_core.NodeCore.{NodeCore}
-use Rattle.tree_step.specs.inside.OnceOpen.{unheard}
 
 module _ {A E : Type 0} where
   -- what is so after an answer, and after a failure
@@ -81,10 +80,6 @@ stepped p n mid parts locks refusals out row asked locked noes held =
       sent = (row i).sent;
       acts = (row i).acts;
     }
-
--- a node that may do a step may do it without the epoch of which it hears
-pub may_unheard : (p : CorePrepared) (n : NodeCore) → MayDoCore p n → MayDoCore (unheard p) n
-may_unheard p n may = record { parts = may.parts; holds = may.holds; asks = may.asks; apart = may.apart }
 
 -- then of no tree that is open an answer is held, if so says the row
 pub apart : (now : Core) (out : StepOut) (o : Out Core) → made now out ≡ o → IsApart o.state → IsApart now

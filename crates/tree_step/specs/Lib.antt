@@ -5,3 +5,5 @@ pub mod inside
 pub mod Core
 pub mod CoreChanges
 pub mod Raising
+pub mod Meant
+pub mod AtNode

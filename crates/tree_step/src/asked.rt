@@ -2,10 +2,9 @@
 ghost use Rattle.std.specs.Prelude.{◌≡◌, IfOk, IsTrue};
 ghost use Rattle.item_versions.specs.Table.{pending};
 ghost use Rattle.item_versions.specs.Window.{in_window, IsWindowedTable};
-ghost use Rattle.world_model.specs.Asked.{asked_ops, asked_version, tree_part};
-ghost use Rattle.tree_step.specs.Changes.{IsTreePartOf};
-ghost use Rattle.tree_step.specs.Due.{is_due};
-ghost use Rattle.tree_step.specs.Node.{data_of, effect_on, IsReady};
+ghost use Rattle.world_model.specs.Asked.{asked_ops, asked_version};
+ghost use Rattle.tree_step.specs.Node.{IsReady};
+ghost use Rattle.tree_step.specs.AtNode.{IsDueAt, IsTreePartAt};
 
 use crate::change::{Prepared, TreePrepared};
 use crate::lookups::ops_of;
@@ -68,11 +67,10 @@ pub fn prepare_tree(
     effect: Effect,
 ) -> Result<TreePrepared, NoMemory>
     requires ready { IsReady script.now letter.now.to.0 node.now }
-    requires due { IsTrue (is_due script.now letter.now.to.0 (data_of node.now) letter.now.from.0 letter.now.body) }
+    requires due { IsDueAt script.now letter.now node.now }
     requires near { IsTrue (in_window node.now.turns.low.0 within.version.0) }
     requires fits { IsWindowedTable node.now.turns.low.0 (pending effect.staged node.now.items) }
-    ensures { IfOk result (IsTreePartOf (tree_part script.now letter.now.to.0 letter.now.from.0 within.version within.raises
-        (effect_on node.now.items effect) letter.now.body (data_of node.now)) node.now) }
+    ensures { IfOk result (IsTreePartAt script.now letter.now within effect node.now) }
 {
     match &letter.body {
         Body::Root { tree } => {

@@ -130,7 +130,7 @@ fn change_home(homes: &mut Homes, home: HomeChange) -> Result<(), NoMemory>
 }
 
 /// Raises the update version where it is to be raised.
-fn raise_if(turns: &mut Turns, raises: bool, v: Version)
+pub(crate) fn raise_if(turns: &mut Turns, raises: bool, v: Version)
     ensures { turns.new ≡ raised_if raises v.0 turns.old }
 {
     if raises {

@@ -1,12 +1,9 @@
 // A step of a node with strict trees that is prepared.
-ghost use Rattle.std.specs.Prelude.{◌≡◌};
-ghost use Rattle.tree_step.specs.inside.OnceOpen.{changed_once_open, once_open, opening_in, opening_of, home_once_open};
-
-use crate::change::{Change, HomeChange, Prepared, TreeChange};
+use crate::change::Prepared;
 use letter_types::Boxed;
 use nc_locks::WantedLocks;
 use tree_home::Answered;
-use tv_base::{NodeNo, Seq, SubNo, TreeNo, Version};
+use tv_base::{NodeNo, Seq, TreeNo, Version};
 use world_model::Refusal;
 
 /// Nodes that a tree visits.
@@ -61,91 +58,4 @@ pub(crate) struct Opening {
     pub(crate) tree: TreeNo,
     pub(crate) subs: u32,
     pub(crate) version: Version,
-}
-
-/// The tree that is to be opened, if one is.
-pub(crate) fn opening_in(change: &Change) -> Option<Opening>
-    ensures { result ≡ opening_in change.now }
-{
-    match change {
-        Change::Tree(change) => opening_of(&change.home),
-        _ => None,
-    }
-}
-
-fn opening_of(home: &HomeChange) -> Option<Opening>
-    ensures { result ≡ opening_of home.now }
-{
-    match home {
-        HomeChange::Open {
-            tree,
-            subs,
-            version,
-            ..
-        } => Some(Opening {
-            tree: *tree,
-            subs: *subs,
-            version: *version,
-        }),
-        _ => None,
-    }
-}
-
-/// The step once its tree is open.
-pub(crate) fn once_open(prepared: CorePrepared) -> CorePrepared
-    ensures { result ≡ once_open prepared }
-{
-    let CorePrepared {
-        prepared: Prepared { change, out },
-        votes,
-        holds,
-        epoch,
-    } = prepared;
-    let prepared = Prepared {
-        change: changed_once_open(change),
-        out,
-    };
-    CorePrepared {
-        prepared,
-        votes,
-        holds,
-        epoch,
-    }
-}
-
-/// What is left of a change once its tree is open: its root's notice is taken down.
-fn changed_once_open(change: Change) -> Change
-    ensures { result ≡ changed_once_open change }
-{
-    match change {
-        Change::Tree(change) => {
-            let TreeChange {
-                raises,
-                staged,
-                counting,
-                home,
-            } = change;
-            let home = home_once_open(home);
-            Change::Tree(TreeChange {
-                raises,
-                staged,
-                counting,
-                home,
-            })
-        }
-        other => other,
-    }
-}
-
-fn home_once_open(home: HomeChange) -> HomeChange
-    ensures { result ≡ home_once_open home }
-{
-    match home {
-        HomeChange::Open { tree, values, .. } => HomeChange::Note {
-            tree,
-            sub: SubNo(0),
-            values,
-        },
-        other => other,
-    }
 }

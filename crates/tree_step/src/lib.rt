@@ -7,14 +7,16 @@
 mod asked;
 mod change;
 mod core_change;
-mod core_steps;
 mod counting;
+mod doing;
 mod due;
+mod flattening;
 mod letters;
 mod lookups;
 mod node;
 mod node_core;
 mod notices;
+mod plan;
 mod refusals;
 mod replies;
 mod steps;
@@ -22,12 +24,16 @@ mod steps;
 pub use asked::{InVersion, Request, asked_ops, asked_version, prepare_tree};
 pub use change::{Change, HomeChange, Prepared, TreeChange, TreePrepared, done, done_twice};
 pub use core_change::{CorePrepared, HoldChange, Visited, VoteChange};
-pub use core_steps::core_done;
 pub use counting::Counting;
+pub use doing::do_plan;
 pub use due::{can_obey, is_above, is_due, is_near};
+pub use flattening::flatten;
 pub use lookups::{is_strict, kind_of};
 pub use node::{Effect, NodeParts};
 pub use node_core::NodeCore;
 pub use notices::prepare_notice;
+pub use plan::{
+    Doing, HoldPlan, HomePlan, Plan, Scratch, TreePlan, VotePlan, new_scratch, take_out, wipe,
+};
 pub use refusals::Refusals;
 pub use replies::{push_reply, reply};

@@ -4,11 +4,11 @@ ghost use Rattle.item_versions.specs.Window.{in_window};
 ghost use Rattle.pair_counters.specs.Numbers.{AllBelow, MOST_COUNT};
 ghost use Rattle.pair_counters.specs.Rows.{counts_of};
 ghost use Rattle.tree_home.specs.Homes.{open_trees};
-ghost use Rattle.tree_step.specs.Changes.{home_after, IsTreePartOf, MayHome};
-ghost use Rattle.world_model.specs.Done.{note_part};
+ghost use Rattle.tree_step.specs.Changes.{home_after, MayHome};
 ghost use Rattle.world_model.specs.Notices.{answer_noted, homes_noted};
-ghost use Rattle.tree_step.specs.Node.{data_of, IsInWindow};
+ghost use Rattle.tree_step.specs.Node.{IsInWindow};
 ghost use Rattle.tree_step.specs.inside.Noting.{noting};
+ghost use Rattle.tree_step.specs.AtNode.{IsNotedPart};
 
 use crate::asked::Request;
 use crate::change::{Change, HomeChange, Prepared, TreeChange, TreePrepared};
@@ -86,8 +86,7 @@ pub fn prepare_notice(
     requires small { AllBelow MOST_COUNT (counts_of node.now.counters).numbers }
     requires window { IsInWindow node.now }
     requires near { IsTrue (in_window node.now.turns.low.0 request.version.0) }
-    ensures { IfOk result (IsTreePartOf (note_part request.from.0 request.tree.0 request.sub.0 request.version.0 values.now
-        (data_of node.now)) node.now) }
+    ensures { IfOk result (IsNotedPart request values.now node.now) }
 {
     let Request { tree, sub, .. } = request;
     let (home, answered) = notice_home(alloc, &node.homes, tree, sub, values)?;

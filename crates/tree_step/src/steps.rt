@@ -4,11 +4,11 @@ ghost use Rattle.item_versions.specs.Table.{pending};
 ghost use Rattle.item_versions.specs.Window.{in_window, IsWindowedTable};
 ghost use Rattle.tree_home.specs.Homes.{begun, home_in, open_trees};
 ghost use Rattle.tx_trees.specs.ScriptData.{subs_at};
-ghost use Rattle.tree_step.specs.Changes.{home_after, IsTreePartOf, MayHome};
-ghost use Rattle.world_model.specs.Done.{root_part, sub_done, with_open_tree};
-ghost use Rattle.tree_step.specs.Node.{data_of, effect_on, IsReady};
+ghost use Rattle.tree_step.specs.Changes.{home_after, MayHome};
+ghost use Rattle.tree_step.specs.Node.{IsReady};
 ghost use Rattle.world_model.specs.Notices.{homes_noted, values_of};
 ghost use Rattle.tree_step.specs.inside.Opening.{root_answer};
+ghost use Rattle.tree_step.specs.AtNode.{IsRootPart, IsSubPart};
 
 use crate::asked::Request;
 use crate::change::{Change, HomeChange, Prepared, TreeChange, TreePrepared};
@@ -88,9 +88,7 @@ pub(crate) fn prepare_root(
     requires absent { home_in request.tree (open_trees node.now.homes) ≡ None }
     requires near { IsTrue (in_window node.now.turns.low.0 request.version.0) }
     requires fits { IsWindowedTable node.now.turns.low.0 (pending effect.staged node.now.items) }
-    ensures { IfOk result (IsTreePartOf (root_part script.now request.from.0 request.tree.0 request.version.0
-        (effect_on node.now.items effect) (with_open_tree request.tree.0 (length (subs_at script.now request.tree.0))
-        request.version.0 (data_of node.now))) node.now) }
+    ensures { IfOk result (IsRootPart script.now request effect node.now) }
 {
     let Request {
         tree,
@@ -143,11 +141,7 @@ pub(crate) fn prepare_sub(
     requires there { 0 < length (subs_at script.now request.tree.0) }
     requires near { IsTrue (in_window node.now.turns.low.0 request.version.0) }
     requires fits { IsWindowedTable node.now.turns.low.0 (pending effect.staged node.now.items) }
-    ensures { IfOk result (IsTreePartOf (record {
-      out = sub_done script.now request.from.0 request.tree.0 request.sub.0 request.version.0 raises
-          (effect_on node.now.items effect) (data_of node.now);
-      answered = None;
-    }) node.now) }
+    ensures { IfOk result (IsSubPart script.now request raises effect node.now) }
 {
     let subs = script.subs_of(request.tree);
     let home = NodeNo(script.home_of(request.tree));

@@ -1,9 +1,9 @@
-ghost use Rattle.std.specs.Prelude.{◌≡◌, IfOk, IsTrue, OnErr, OnOk};
+ghost use Rattle.std.specs.Prelude.{◌≡◌, IfOk, OnErr, OnOk};
 ghost use Rattle.letter_types.specs.Steps.{made};
 ghost use Rattle.tree_step.specs.Changes.{IsDoneTwice};
-ghost use Rattle.tree_step.specs.Due.{is_due};
 ghost use Rattle.tree_step.specs.Node.{data_of, IsInWindow, IsOf, IsReady, state_of};
-ghost use Rattle.update_step.specs.Rows.{update_if_made};
+ghost use Rattle.tree_step.specs.AtNode.{IsDueAt};
+ghost use Rattle.update_step.specs.Rows.{update_at};
 
 use crate::steps::prepare_update;
 use item_versions::ItemTable;
@@ -25,9 +25,8 @@ fn step_update(
     script: &Script,
 ) -> Result<Step, NoMemory>
     requires ready { IsReady script.now letter.now.to.0 node.old }
-    requires due { IsTrue (is_due script.now letter.now.to.0 (data_of node.old) letter.now.from.0 letter.now.body) }
-    ensures { IsDoneTwice (update_if_made script.now letter.now.to.0 (data_of node.old) letter.now.from.0 letter.now.body)
-        node.old node.new result }
+    requires due { IsDueAt script.now letter.now node.old }
+    ensures { IsDoneTwice (update_at script.now letter.now node.old) node.old node.new result }
 {
     let prepared = prepare_update(alloc, node, letter, script)?;
     let step = done_twice(alloc, node, prepared)?;
@@ -46,12 +45,10 @@ pub fn run_update(
 ) -> Result<Step, NoMemory>
     // What the caller knows.
     requires ready { IsReady script.now letter.now.to.0 (state_of turns.old items.old counters.old homes.old) }
-    requires due { IsTrue (is_due script.now letter.now.to.0
-        (data_of (state_of turns.old items.old counters.old homes.old)) letter.now.from.0 letter.now.body) }
+    requires due { IsDueAt script.now letter.now (state_of turns.old items.old counters.old homes.old) }
     // What is made.
     ensures row { IfOk result (λ step. made (data_of (state_of turns.new items.new counters.new homes.new)) step.given
-        ≡ update_if_made script.now letter.now.to.0 (data_of (state_of turns.old items.old counters.old homes.old))
-        letter.now.from.0 letter.now.body) }
+        ≡ update_at script.now letter.now (state_of turns.old items.old counters.old homes.old)) }
     ensures kept { IfOk result (λ step. step.kept ≡ step.given) }
     // What stays, and what running out of memory leaves.
     ensures held { OnOk result (homes.new.held ≡ homes.old.held) }

@@ -1,10 +1,10 @@
 ghost use Rattle.std.specs.Prelude.{◌≡◌, is_some, IfOk, IfSome, IsTrue};
 ghost use Rattle.item_versions.specs.Table.{pending};
 ghost use Rattle.item_versions.specs.Window.{in_window, IsWindowedTable};
-ghost use Rattle.tree_step.specs.Changes.{IsNodeStepOf, IsTreePartOf};
-ghost use Rattle.tree_step.specs.Due.{is_due};
+ghost use Rattle.tree_step.specs.Changes.{IsNodeStepOf};
 ghost use Rattle.tree_step.specs.Node.{data_of, effect_on, IsReady};
-ghost use Rattle.update_step.specs.Rows.{can_touch, can_update, touching, update_if_made, update_part};
+ghost use Rattle.update_step.specs.Rows.{can_touch, can_update, IsUpdatePart, touching, update_at, update_part};
+ghost use Rattle.tree_step.specs.AtNode.{IsDueAt};
 
 use commute_ops::Values;
 use item_versions::Staged;
@@ -58,7 +58,7 @@ pub fn can_update(
     script: &Script,
 ) -> Result<bool, NoMemory>
     requires ready { IsReady script.now letter.now.to.0 node.now }
-    requires due { IsTrue (is_due script.now letter.now.to.0 (data_of node.now) letter.now.from.0 letter.now.body) }
+    requires due { IsDueAt script.now letter.now node.now }
     ensures { IfOk result (λ can. can ≡ can_update script.now (data_of node.now) letter.now.body) }
 {
     let asked = asked_version(letter, node.turns.update);
@@ -75,10 +75,9 @@ pub fn update_part(
     script: &Script,
 ) -> Result<Option<TreePrepared>, NoMemory>
     requires ready { IsReady script.now letter.now.to.0 node.now }
-    requires due { IsTrue (is_due script.now letter.now.to.0 (data_of node.now) letter.now.from.0 letter.now.body) }
+    requires due { IsDueAt script.now letter.now node.now }
     ensures can { IfOk result (λ found. is_some found ≡ can_update script.now (data_of node.now) letter.now.body) }
-    ensures part { IfOk result (λ found. IfSome found (IsTreePartOf
-        (update_part script.now letter.now.to.0 (data_of node.now) letter.now.from.0 letter.now.body) node.now)) }
+    ensures part { IfOk result (λ found. IfSome found (IsUpdatePart script.now letter.now node.now)) }
 {
     let version = asked_version(letter, node.turns.update);
     let Some(effect) = touch_all(alloc, node, version, asked_ops(letter, script))? else {
@@ -99,9 +98,8 @@ pub(crate) fn prepare_update(
     script: &Script,
 ) -> Result<Prepared, NoMemory>
     requires ready { IsReady script.now letter.now.to.0 node.now }
-    requires due { IsTrue (is_due script.now letter.now.to.0 (data_of node.now) letter.now.from.0 letter.now.body) }
-    ensures { IfOk result (IsNodeStepOf
-        (update_if_made script.now letter.now.to.0 (data_of node.now) letter.now.from.0 letter.now.body) node.now) }
+    requires due { IsDueAt script.now letter.now node.now }
+    ensures { IfOk result (IsNodeStepOf (update_at script.now letter.now node.now) node.now) }
 {
     let Some(part) = update_part(alloc, node, letter, script)? else {
         return Ok(Prepared::still(alloc));

@@ -14,12 +14,13 @@ use Rattle.tx_trees.specs.Valid.{IsValid}
 use Rattle.world_model.proofs.Addressees.{may_reach}
 use Rattle.world_model.proofs.SmallCounts.{small_counts}
 use Rattle.world_core.specs.declared.actor.ActorState.{ActorState}
-use Rattle.world_core.specs.declared.actor.ActorPrepared.{ActorPrepared}
+use Rattle.tree_step.specs.declared.plan.Scratch.{Scratch}
+use Rattle.world_core.specs.declared.actor.ActorPlan.{ActorPlan}
 use Rattle.world_model.specs.Tables.{ActorData}
 use Rattle.world_model.specs.Taking.{CountsBelow, IsAddressed, MOST_COUNTED}
 use Rattle.world_core.specs.Actors.{IsWorldOf, TookLetter, WorldData}
 use Rattle.world_core.specs.Prepared.{IsActorStepOf, ActorMayDo, MayTake, out_of}
-use Rattle.world_core.specs.inside.Actors.{Acted}
+use Rattle.world_core.specs.inside.Actors.{Acted, entry_made}
 use Rattle.world_core.proofs.Doing.{is_row, may_do, out_is}
 use Rattle.world_core.proofs.Worlds.{Took, below, entry_of, next_world}
 
@@ -56,15 +57,15 @@ may_take s w k m l world valid le at =
     let found = get_some w.actors l.to.0 (is_here s w k l world valid at) in
     if_some_of (MayTake s l m) (slice_get w.actors l.to.0) found.0 found.1 (state_may s w m l found.0 world valid le lt found.1)
 
--- a step that is prepared for it may be done
-may_of : (s : ScriptData) (l : Letter) (p : ActorPrepared) (o : Option ActorState) → IfSome o (λ st. IsActorStepOf s l st p)
-    → IfSome o (ActorMayDo p)
-may_of s l p None is = is
-may_of s l p (Some st) is = may_do s l st p is
+-- a step that is planned for it may be done
+may_of : (s : ScriptData) (l : Letter) (p : ActorPlan) (z : Scratch) (o : Option ActorState)
+    → IfSome o (λ st. IsActorStepOf s l st p z) → IfSome o (ActorMayDo p z)
+may_of s l p z None is = is
+may_of s l p z (Some st) is = may_do s l st p z is
 
-pub may_act : (s : ScriptData) (l : Letter) (p : ActorPrepared) (actors : List ActorState)
-    → IfSome (slice_get actors l.to.0) (λ st. IsActorStepOf s l st p) → IfSome (slice_get actors l.to.0) (ActorMayDo p)
-may_act s l p actors is = may_of s l p (slice_get actors l.to.0) is
+pub may_act : (s : ScriptData) (l : Letter) (p : ActorPlan) (z : Scratch) (actors : List ActorState)
+    → IfSome (slice_get actors l.to.0) (λ st. IsActorStepOf s l st p z) → IfSome (slice_get actors l.to.0) (ActorMayDo p z)
+may_act s l p z actors is = may_of s l p z (slice_get actors l.to.0) is
 
 set_last : (h : List Entry) (x e : Entry) → slice_set (h ++ x ∷ []) (length h) e ≡ h ++ e ∷ []
 set_last [] x e = refl
@@ -73,58 +74,55 @@ set_last (y ∷ h) x e = ap (λ (ys : List Entry). y ∷ ys) (set_last h x e)
 last_place : (h : List Entry) (x : Entry) → length (h ++ x ∷ []) - 1 ≡ length h
 last_place h x = omega (arith, length-append h (x ∷ []))
 
-abbrev entry_made : Letter → StepOut → Stamp → Entry
-entry_made l out stamp = record { stamp = stamp; actor = l.to; took = l; sent = out.sent; acts = out.acts }
-
 -- what the calls of an event say
-pub record Event (s : ScriptData) (w : WorldData) (k : ℕ) (l : Letter) (p : ActorPrepared) (out : StepOut) (stamp : Stamp) (x : Entry) (next : WorldData) : Type 0 where
+pub record Event (s : ScriptData) (w : WorldData) (k : ℕ) (l : Letter) (p : ActorPlan) (z : Scratch) (out : StepOut) (stamp : Stamp) (x : Entry) (next : WorldData) : Type 0 where
   pub letter : slice_get w.bag k ≡ Some l
-  pub step : IfSome (slice_get w.actors l.to.0) (λ st. IsActorStepOf s l st p)
-  pub acted : Acted l.to.0 p w.actors next.actors out
+  pub step : IfSome (slice_get w.actors l.to.0) (λ st. IsActorStepOf s l st p z)
+  pub acted : Acted l.to.0 p z w.actors next.actors out
   pub stamp_is : stamp.0 ≡ length w.history + 1
-  pub bag : next.bag ≡ remove w.bag k ++ sealed stamp.0 l.to.0 0 (out_of p).sent
+  pub bag : next.bag ≡ remove w.bag k ++ sealed stamp.0 l.to.0 0 (out_of p z).sent
   pub history : next.history ≡ slice_set (w.history ++ x ∷ []) (length (w.history ++ x ∷ []) - 1) (entry_made l out stamp)
 
 -- the actor made its row
-took_by : (s : ScriptData) (w : WorldData) (k : ℕ) (l : Letter) (p : ActorPrepared) (out : StepOut) (stamp : Stamp) (x : Entry) (next : WorldData)
-    → IsWorldOf s w → Event s w k l p out stamp x next → Took s l w.actors next.actors out
-took_by s w k l p out stamp x next world e =
+took_by : (s : ScriptData) (w : WorldData) (k : ℕ) (l : Letter) (p : ActorPlan) (z : Scratch) (out : StepOut) (stamp : Stamp) (x : Entry) (next : WorldData)
+    → IsWorldOf s w → Event s w k l p z out stamp x next → Took s l w.actors next.actors out
+took_by s w k l p z out stamp x next world e =
     let a = e.acted in
     record {
       before = a.before;
       after = a.after;
       there = a.there;
       set = a.set;
-      is = is_row s l a.before a.after p out (world.actors l.to.0 a.before a.there).script
-          (if_some (λ st. IsActorStepOf s l st p) (slice_get w.actors l.to.0) a.before a.there e.step) a.done;
+      is = is_row s l a.before a.after p z out (world.actors l.to.0 a.before a.there).script
+          (if_some (λ st. IsActorStepOf s l st p z) (slice_get w.actors l.to.0) a.before a.there e.step) a.done;
     }
 
-pub history_is : (s : ScriptData) (w : WorldData) (k : ℕ) (l : Letter) (p : ActorPrepared) (out : StepOut) (stamp : Stamp) (x : Entry) (next : WorldData) → Event s w k l p out stamp x next
+pub history_is : (s : ScriptData) (w : WorldData) (k : ℕ) (l : Letter) (p : ActorPlan) (z : Scratch) (out : StepOut) (stamp : Stamp) (x : Entry) (next : WorldData) → Event s w k l p z out stamp x next
     → next.history ≡ w.history ++ entry_of (length w.history + 1) l out.sent out.acts ∷ []
-history_is s w k l p out stamp x next e =
+history_is s w k l p z out stamp x next e =
     e.history
     ∙ ap (λ (n : ℕ). slice_set (w.history ++ x ∷ []) n (entry_made l out stamp)) (last_place w.history x)
     ∙ set_last w.history x (entry_made l out stamp)
     ∙ ap (λ (n : ℕ). w.history ++ entry_of n l out.sent out.acts ∷ []) e.stamp_is
 
-pub event_world : (s : ScriptData) (w : WorldData) (k : ℕ) (l : Letter) (p : ActorPrepared) (out : StepOut) (stamp : Stamp) (x : Entry) (next : WorldData)
-    → IsWorldOf s w → IsValid s → Event s w k l p out stamp x next → IsWorldOf s next
-event_world s w k l p out stamp x next world valid e =
-    let sent : (out_of p).sent ≡ out.sent = ap (λ (o : StepOut). o.sent) (sym (out_is p e.acted.before e.acted.after out e.acted.done)) in
+pub event_world : (s : ScriptData) (w : WorldData) (k : ℕ) (l : Letter) (p : ActorPlan) (z : Scratch) (out : StepOut) (stamp : Stamp) (x : Entry) (next : WorldData)
+    → IsWorldOf s w → IsValid s → Event s w k l p z out stamp x next → IsWorldOf s next
+event_world s w k l p z out stamp x next world valid e =
+    let sent : (out_of p z).sent ≡ out.sent = ap (λ (o : StepOut). o.sent) (sym (out_is p z e.acted.before e.acted.after out e.acted.done)) in
     let made : IsWorldOf s (record { actors = next.actors; bag = next.bag; history = w.history ++ entry_of (length w.history + 1) l out.sent out.acts ∷ [] }) =
     next_world s w k l out next.actors next.bag world valid (record {
       letter = e.letter;
-      took = took_by s w k l p out stamp x next world e;
+      took = took_by s w k l p z out stamp x next world e;
       bag = e.bag ∙ (λ i. remove w.bag k ++ sealed (e.stamp_is i) l.to.0 0 (sent i));
     }) in
-    subst (λ (h : List Entry). IsWorldOf s (record { actors = next.actors; bag = next.bag; history = h })) (sym (history_is s w k l p out stamp x next e)) made
+    subst (λ (h : List Entry). IsWorldOf s (record { actors = next.actors; bag = next.bag; history = h })) (sym (history_is s w k l p z out stamp x next e)) made
 
-pub event_took : (s : ScriptData) (w : WorldData) (k : ℕ) (l : Letter) (p : ActorPrepared) (out : StepOut) (stamp : Stamp) (x : Entry) (next : WorldData)
-    → Event s w k l p out stamp x next → TookLetter k w next
-event_took s w k l p out stamp x next e = (entry_of (length w.history + 1) l out.sent out.acts, history_is s w k l p out stamp x next e, e.letter)
+pub event_took : (s : ScriptData) (w : WorldData) (k : ℕ) (l : Letter) (p : ActorPlan) (z : Scratch) (out : StepOut) (stamp : Stamp) (x : Entry) (next : WorldData)
+    → Event s w k l p z out stamp x next → TookLetter k w next
+event_took s w k l p z out stamp x next e = (entry_of (length w.history + 1) l out.sent out.acts, history_is s w k l p z out stamp x next e, e.letter)
 
-pub event_count : (s : ScriptData) (w : WorldData) (k : ℕ) (l : Letter) (p : ActorPrepared) (out : StepOut) (stamp : Stamp) (x : Entry) (next : WorldData)
-    → Event s w k l p out stamp x next → length next.history ≡ length w.history + 1
-event_count s w k l p out stamp x next e =
-    ap (length {A = Entry}) (history_is s w k l p out stamp x next e)
+pub event_count : (s : ScriptData) (w : WorldData) (k : ℕ) (l : Letter) (p : ActorPlan) (z : Scratch) (out : StepOut) (stamp : Stamp) (x : Entry) (next : WorldData)
+    → Event s w k l p z out stamp x next → length next.history ≡ length w.history + 1
+event_count s w k l p z out stamp x next e =
+    ap (length {A = Entry}) (history_is s w k l p z out stamp x next e)
     ∙ omega (arith, length-append w.history (entry_of (length w.history + 1) l out.sent out.acts ∷ []))

@@ -1,19 +1,23 @@
 // The actors as one, and their steps.
-ghost use Rattle.std.specs.Prelude.{◌≡◌, ◌<◌, ◌+◌, [], IfOk, MatchResult, OnOk, OnErr};
+ghost use Rattle.std.specs.Prelude.{◌≡◌, ◌<◌, ◌+◌, [], IfOk, MatchResult, Ok, OnOk, OnErr};
 ghost use Rattle.letter_types.specs.Steps.{made};
-ghost use Rattle.world_model.specs.Tables.{actor_row, start_coordination};
+ghost use Rattle.node_keeping.specs.Changes.{MayDoKeeping};
+ghost use Rattle.node_keeping.specs.Meant.{IsNodeDone, node_meant};
+ghost use Rattle.tree_step.specs.Meant.{IsEmpty, out_in};
+ghost use Rattle.world_model.specs.Tables.{start_coordination};
 ghost use Rattle.world_model.specs.Taking.{CountsBelow, IsAddressed};
 ghost use Rattle.world_core.specs.Actors.{actor_data, IsFor, IsStateOf};
-ghost use Rattle.world_core.specs.Prepared.{IsActorDone, IsActorStepOf, ActorMayDo, MayTake, out_of};
+ghost use Rattle.world_core.specs.Prepared.{ActorMayDo, IsActorDone, IsActorStepOf, MayTake, out_of, row_at};
 ghost use Rattle.pair_counters.specs.Numbers.{MOST_COUNT};
 
 use crate::node::NodeState;
 use advance_coord::{Coordinator, CoordinatorPrepared};
 use client_rows::{Client, ClientPrepared};
 use coord_restart::{RestartPrepared, Restarting};
-use letter_types::{Boxed, Letter, Step, StepOut};
-use node_keeping::KeepingPrepared;
+use letter_types::{Acts, Boxed, Letter, Letters, Step, StepOut, copy_acts, copy_letters};
+use node_keeping::NodePlan;
 use std::alloc::Global;
+use tree_step::{Scratch, new_scratch, take_out, wipe};
 use tv_base::{ActorNo, NoMemory, NodeNo};
 use tx_trees::Script;
 
@@ -41,11 +45,11 @@ impl Drop for ActorState {
     }
 }
 
-/// A step of an actor that is prepared: what it does, and what goes out.
+/// A step of an actor that is planned: what it does. What goes out of a node lies in the scratch.
 #[derive(Drop)]
-pub enum ActorPrepared {
+pub enum ActorPlan {
     /// A node's step.
-    Node(KeepingPrepared),
+    Node(NodePlan),
     /// The coordinator's step, which is rare, and large.
     Coordinator(Boxed<CoordinatorPrepared>),
     /// The same of one that may forget.
@@ -54,16 +58,28 @@ pub enum ActorPrepared {
     Client(ClientPrepared),
 }
 
-impl ActorPrepared {
-    /// What goes out.
-    pub fn out(&self) -> &StepOut
-        ensures { result.now ≡ out_of self.now }
+impl ActorPlan {
+    /// The letters that go out.
+    pub fn sent<'a>(&'a self, scratch: &'a Scratch) -> &'a Letters
+        ensures { result.now ≡ (out_of self.now scratch.now).sent }
     {
         match self {
-            ActorPrepared::Node(prepared) => prepared.out(),
-            ActorPrepared::Coordinator(prepared) => prepared.get().out(),
-            ActorPrepared::Restarting(prepared) => prepared.get().out(),
-            ActorPrepared::Client(prepared) => prepared.out(),
+            ActorPlan::Node(_) => &scratch.sent,
+            ActorPlan::Coordinator(prepared) => &prepared.get().out().sent,
+            ActorPlan::Restarting(prepared) => &prepared.get().out().sent,
+            ActorPlan::Client(prepared) => &prepared.out().sent,
+        }
+    }
+
+    /// What is done, act by act.
+    fn acts<'a>(&'a self, scratch: &'a Scratch) -> &'a Acts
+        ensures { result.now ≡ (out_of self.now scratch.now).acts }
+    {
+        match self {
+            ActorPlan::Node(_) => &scratch.acts,
+            ActorPlan::Coordinator(prepared) => &prepared.get().out().acts,
+            ActorPlan::Restarting(prepared) => &prepared.get().out().acts,
+            ActorPlan::Client(prepared) => &prepared.out().acts,
         }
     }
 }
@@ -98,68 +114,103 @@ impl ActorState {
     }
 }
 
-/// Prepares what an actor does with a letter that is addressed to it: its row of its table. A letter that isn't apt
-/// changes and sends nothing. It changes nothing, and takes all memory that the step needs, but for what a node takes
-/// to open a tree at its home, for locks, held answers and noes, and to keep a letter.
-pub fn actor_prepare(
+/// Plans what an actor does with a letter that is addressed to it: its row of its table. A letter that isn't apt changes
+/// and sends nothing. It changes nothing but the scratch, and takes all memory that the step needs, but for what a node
+/// takes to open a tree at its home, for locks, held answers and noes, and to keep a letter.
+pub fn actor_plan(
     alloc: Global,
     state: &ActorState,
     letter: &Letter,
     script: &Script,
-) -> Result<ActorPrepared, NoMemory>
-    requires { MayTake script.now letter.now MOST_COUNT state.now }
-    ensures { IfOk result (IsActorStepOf script.now letter.now state.now) }
+    scratch: &mut Scratch,
+) -> Result<ActorPlan, NoMemory>
+    requires may { MayTake script.now letter.now MOST_COUNT state.now }
+    requires empty { IsEmpty scratch.old }
+    ensures { IfOk result (λ plan. IsActorStepOf script.now letter.now state.now plan scratch.new) }
 {
     match state {
         ActorState::Node(node) => {
-            let prepared = node.prepare(alloc, letter, script)?;
-            Ok(ActorPrepared::Node(prepared))
+            let plan = node.plan(alloc, letter, script, scratch)?;
+            Ok(ActorPlan::Node(plan))
         }
         ActorState::Coordinator(coordinator) => {
             let prepared = Boxed::new(alloc, coordinator.prepare(alloc, letter)?)?;
-            Ok(ActorPrepared::Coordinator(prepared))
+            Ok(ActorPlan::Coordinator(prepared))
         }
         ActorState::Restarting(coordinator) => {
             let prepared = Boxed::new(alloc, coordinator.prepare(alloc, letter)?)?;
-            Ok(ActorPrepared::Restarting(prepared))
+            Ok(ActorPlan::Restarting(prepared))
         }
         ActorState::Client(client) => {
             let prepared = client.prepare(alloc, letter, script)?;
-            Ok(ActorPrepared::Client(prepared))
+            Ok(ActorPlan::Client(prepared))
         }
     }
 }
 
-/// Does a step that was prepared for this actor, and gives what goes out. Where a node finds no memory, it is as it
-/// was; the coordinator and the client need none.
+/// A node does what was planned, and gives what goes out.
 #[inline(always)]
-pub fn actor_done(state: &mut ActorState, prepared: ActorPrepared) -> Result<StepOut, NoMemory>
-    requires { ActorMayDo prepared state.old }
-    ensures { MatchResult result (IsActorDone prepared state.old state.new) (λ _. state.new ≡ state.old) }
+fn node_acts(
+    alloc: Global,
+    node: &mut NodeState,
+    plan: NodePlan,
+    scratch: &mut Scratch,
+) -> Result<StepOut, NoMemory>
+    requires { MayDoKeeping (node_meant plan scratch.old) node.old }
+    ensures done { OnOk result (IsNodeDone plan scratch.old node.old node.new) }
+    ensures out { IfOk result (λ out. out ≡ out_in scratch.old) }
+    ensures empty { OnOk result (IsEmpty scratch.new) }
+    ensures err { OnErr result (node.new ≡ node.old) }
 {
-    match prepared {
-        ActorPrepared::Node(prepared) => match state {
-            ActorState::Node(node) => node.done(prepared),
+    node.act(alloc, plan, scratch)?;
+    Ok(take_out(alloc, scratch))
+}
+
+/// Does a step that was planned for this actor, and gives what goes out; then the scratch is empty. Where a node finds no
+/// memory, it is as it was; the coordinator and the client need none.
+#[inline(always)]
+pub fn actor_done(
+    alloc: Global,
+    state: &mut ActorState,
+    plan: ActorPlan,
+    scratch: &mut Scratch,
+) -> Result<StepOut, NoMemory>
+    requires { ActorMayDo plan scratch.old state.old }
+    ensures done { MatchResult result (IsActorDone plan scratch.old state.old state.new) (λ _. state.new ≡ state.old) }
+    ensures empty { OnOk result (IsEmpty scratch.new) }
+{
+    match plan {
+        ActorPlan::Node(plan) => match state {
+            ActorState::Node(node) => node_acts(alloc, node, plan, scratch),
             _ => unreachable!(),
         },
-        ActorPrepared::Coordinator(prepared) => match state {
-            ActorState::Coordinator(coordinator) => Ok(coordinator.done(prepared.into_inner())),
+        ActorPlan::Coordinator(prepared) => match state {
+            ActorState::Coordinator(coordinator) => {
+                wipe(alloc, scratch);
+                Ok(coordinator.done(prepared.into_inner()))
+            }
             _ => unreachable!(),
         },
-        ActorPrepared::Restarting(prepared) => match state {
-            ActorState::Restarting(coordinator) => Ok(coordinator.done(prepared.into_inner())),
+        ActorPlan::Restarting(prepared) => match state {
+            ActorState::Restarting(restarting) => {
+                wipe(alloc, scratch);
+                Ok(restarting.done(prepared.into_inner()))
+            }
             _ => unreachable!(),
         },
-        ActorPrepared::Client(prepared) => match state {
-            ActorState::Client(client) => Ok(client.done(prepared)),
+        ActorPlan::Client(prepared) => match state {
+            ActorState::Client(client) => {
+                wipe(alloc, scratch);
+                Ok(client.done(prepared))
+            }
             _ => unreachable!(),
         },
     }
 }
 
-/// What an actor does with a letter that is addressed to it, prepared and done: its row of its table. A letter that
-/// isn't apt changes and sends nothing. What goes out is given, and an equal copy kept. If memory runs out, the actor is as
-/// it was.
+/// What an actor does with a letter that is addressed to it, planned and done: its row of its table. A letter that isn't
+/// apt changes and sends nothing. What goes out is given, and an equal copy kept. If memory runs out, the actor is as it
+/// was.
 pub fn actor_step(
     alloc: Global,
     state: &mut ActorState,
@@ -169,14 +220,17 @@ pub fn actor_step(
     requires addressed { IsAddressed script.now letter.now (actor_data state.old) }
     requires script { IsFor script.now state.old }
     requires small { CountsBelow MOST_COUNT (actor_data state.old) }
-    ensures row { IfOk result (λ step. made (actor_data state.new) step.given
-        ≡ actor_row script.now letter.now.to.0 (actor_data state.old) letter.now) }
+    ensures row { IfOk result (λ step. made (actor_data state.new) step.given ≡ row_at script.now letter.now state.old) }
     ensures kept { IfOk result (λ step. step.kept ≡ step.given) }
     ensures script { OnOk result (IsFor script.now state.new) }
     ensures err { OnErr result (state.new ≡ state.old) }
 {
-    let prepared = actor_prepare(alloc, state, letter, script)?;
-    let kept = prepared.out().copy(alloc)?;
-    let given = actor_done(state, prepared)?;
+    let mut scratch = new_scratch(alloc);
+    let plan = actor_plan(alloc, state, letter, script, &mut scratch)?;
+    let kept = StepOut {
+        sent: copy_letters(alloc, plan.sent(&scratch))?,
+        acts: copy_acts(alloc, plan.acts(&scratch))?,
+    };
+    let given = actor_done(alloc, state, plan, &mut scratch)?;
     Ok(Step { given, kept })
 }

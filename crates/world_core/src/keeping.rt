@@ -1,22 +1,25 @@
 // What a node does with a letter, prepared.
 ghost use Rattle.std.specs.Prelude.{◌≡◌, ◌++◌, IfOk, OnOk};
 ghost use Rattle.letter_types.specs.Steps.{still};
-ghost use Rattle.world_model.specs.Keeping.{AsksFor, keeping_row};
-ghost use Rattle.tree_step.specs.CoreChanges.{MayDoCore, core_prepared_row};
+ghost use Rattle.world_model.specs.Keeping.{AsksFor};
+ghost use Rattle.tree_step.specs.CoreChanges.{MayDoCore};
 ghost use Rattle.tree_step.specs.Core.{core_of};
-ghost use Rattle.node_keeping.specs.Plans.{kept_core};
 ghost use Rattle.tree_step.specs.Raising.{RaisesNear};
 ghost use Rattle.node_keeping.specs.Changes.{IsKeepingStepOf, IsSettled};
 ghost use Rattle.node_keeping.specs.State.{IsKeepingReady, keeping_of};
+ghost use Rattle.tree_step.specs.Meant.{IsEmpty};
 ghost use Rattle.world_model.specs.Epochs.{plain_order};
-ghost use Rattle.world_core.specs.inside.Bringing.{IsBroughtBy, done_out, keep_by, kept_out, sent_behind, waking_order, waking_out};
+ghost use Rattle.world_core.specs.inside.Bringing.{IsBroughtBy, IsDoneStep, IsKeptStep, IsLetterStep, IsWakingStep, keep_by, sent_behind, waking_order};
+ghost use Rattle.world_core.specs.Prepared.{IsLetterPlan};
 
 use crate::orders::is_obeyed_now;
 use crate::plan::plan_core;
 use letter_types::{Body, Boxed, KeptLetter, Letter, Letters, StepOut, What, Why};
-use node_keeping::{CoreKept, CorePlan, Keep, KeepingParts, KeepingPrepared, KeptChange};
+use node_keeping::{
+    CoreKept, CorePlan, Keep, KeepingParts, KeepingPrepared, KeptChange, NodePlan, flatten_node,
+};
 use std::alloc::Global;
-use tree_step::{CorePrepared, NodeCore, Prepared};
+use tree_step::{CorePrepared, NodeCore, Prepared, Scratch};
 use tv_base::{NoMemory, SubNo, TreeNo, Version};
 use tx_trees::Script;
 
@@ -69,8 +72,7 @@ fn prepare_keep(
     requires asks { AsksFor kept.tree kept.sub brought.now.body }
     requires near { RaisesNear kept.raises node.now.core.parts.turns }
     // What is made.
-    ensures { IfOk result (IsKeepingStepOf (kept_out letter.now brought.now (keeping_of node.now)
-        (kept_core kept (core_of node.now.core))) node.now) }
+    ensures { IfOk result (IsKeptStep letter.now brought.now kept node.now) }
 {
     let _ = node;
     let _ = brought;
@@ -150,8 +152,7 @@ fn prepare_waking(
     prepared: Boxed<CorePrepared>,
 ) -> Result<KeepingPrepared, NoMemory>
     requires { MayDoCore prepared node.now.core }
-    ensures { IfOk result (IsKeepingStepOf (waking_out body.now (keeping_of node.now)
-        (core_prepared_row prepared (core_of node.now.core))) node.now) }
+    ensures { IfOk result (IsWakingStep body.now prepared node.now) }
 {
     if node.kept.count() == 0 {
         return Ok(KeepingPrepared::Does {
@@ -212,8 +213,7 @@ fn prepare_does(
     requires may { MayDoCore prepared node.now.core }
     requires brought { IsBroughtBy letter.now brought.now node.now }
     // What is made.
-    ensures { IfOk result (IsKeepingStepOf (done_out letter.now brought.now (keeping_of node.now)
-        (core_prepared_row prepared (core_of node.now.core))) node.now) }
+    ensures { IfOk result (IsDoneStep letter.now brought.now prepared node.now) }
 {
     let _ = brought;
     match &letter.body {
@@ -246,16 +246,15 @@ fn nothing(alloc: Global, node: &KeepingParts) -> KeepingPrepared
 }
 
 /// Prepares what a node does with a letter: nothing where what it brings isn't apt, or where it is a Wake that calls
-/// none; else what it brought is kept, or is done (docs/ALGORITHM.md, "Nodes with strict trees").
-pub fn prepare_letter(
+/// none; else what it brought is kept, or is done.
+fn prepare_letter(
     alloc: Global,
     node: &KeepingParts,
     letter: &Letter,
     script: &Script,
 ) -> Result<KeepingPrepared, NoMemory>
     requires { IsKeepingReady script.now letter.now.to.0 node.now }
-    ensures { IfOk result (IsKeepingStepOf
-        (keeping_row script.now letter.now.to.0 (keeping_of node.now) letter.now) node.now) }
+    ensures { IfOk result (IsLetterStep script.now letter.now node.now) }
 {
     let Some(brought) = node.kept.brought(letter) else {
         return Ok(nothing(alloc, node));
@@ -265,4 +264,21 @@ pub fn prepare_letter(
         CorePlan::Keeps(kept) => prepare_keep(alloc, node, letter, brought, kept),
         CorePlan::Does(prepared) => prepare_does(alloc, node, letter, brought, prepared),
     }
+}
+
+/// Plans what a node does with a letter, its row of the node's table (docs/ALGORITHM.md, "Nodes with strict trees"). It
+/// changes nothing but the scratch, which gets all that takes memory.
+pub fn plan_letter(
+    alloc: Global,
+    node: &KeepingParts,
+    letter: &Letter,
+    script: &Script,
+    scratch: &mut Scratch,
+) -> Result<NodePlan, NoMemory>
+    requires ready { IsKeepingReady script.now letter.now.to.0 node.now }
+    requires empty { IsEmpty scratch.old }
+    ensures { IfOk result (λ plan. IsLetterPlan script.now letter.now node.now plan scratch.new) }
+{
+    let prepared = prepare_letter(alloc, node, letter, script)?;
+    Ok(flatten_node(prepared, scratch))
 }

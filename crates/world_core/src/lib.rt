@@ -10,8 +10,8 @@ mod plan;
 mod trees;
 mod world;
 
-pub use actor::{ActorPrepared, ActorState, actor_done, actor_prepare, actor_step};
-pub use keeping::prepare_letter;
+pub use actor::{ActorPlan, ActorState, actor_done, actor_plan, actor_step};
+pub use keeping::plan_letter;
 pub use node::NodeState;
 pub use plan::plan_core;
 pub use world::World;

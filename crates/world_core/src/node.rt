@@ -1,30 +1,32 @@
 // A node's state: its core and the letters that it keeps, and what its type always has of them.
-ghost use Rattle.std.specs.Prelude.{◌≡◌, ◌<◌, ◌^◌, length, IfOk, unsigned_abs};
+ghost use Rattle.std.specs.Prelude.{◌≡◌, ◌<◌, ◌^◌, length, IfOk, Ok, OnErr, OnOk, unsigned_abs};
 ghost use Rattle.std.specs.List.{AllByRecursion};
 ghost use Rattle.commute_ops.specs.Ops.{value_start};
 ghost use Rattle.item_versions.specs.Window.{IsWindowedTable};
-ghost use Rattle.letter_types.specs.Steps.{made};
-ghost use Rattle.node_keeping.specs.Changes.{IsKeepingDone, IsKeepingStepOf, MayDoKeeping};
+ghost use Rattle.node_keeping.specs.Changes.{MayDoKeeping};
+ghost use Rattle.node_keeping.specs.Meant.{IsNodeDone, node_meant};
 ghost use Rattle.node_keeping.specs.State.{keeping_of};
 ghost use Rattle.pair_counters.specs.Numbers.{AllBelow, MOST_COUNT};
 ghost use Rattle.pair_counters.specs.Rows.{counts_of};
+ghost use Rattle.tree_step.specs.Meant.{IsEmpty, out_in};
 ghost use Rattle.tree_step.specs.Node.{IsOf};
 ghost use Rattle.tx_trees.specs.Valid.{IsItem};
-ghost use Rattle.world_model.specs.Keeping.{AreKeptAt, keeping_row, start_keeping};
+ghost use Rattle.world_model.specs.Keeping.{AreKeptAt, start_keeping};
 ghost use Rattle.world_model.specs.Node.{items_at};
+ghost use Rattle.world_core.specs.Prepared.{IsLetterPlan};
 
-use crate::keeping::prepare_letter;
+use crate::keeping::plan_letter;
 use commute_ops::{Kind, Value};
 use item_versions::ItemTable;
-use letter_types::{Letter, StepOut};
+use letter_types::Letter;
 use nc_locks::Locks;
-use node_keeping::{KeepingParts, KeepingPrepared, KeptLetters, keeping_done};
+use node_keeping::{KeepingParts, KeptLetters, NodePlan, do_node};
 use node_versions::Turns;
 use pair_counters::Counters;
 use std::alloc::Global;
 use std::marker::Model;
 use tree_home::Homes;
-use tree_step::{NodeCore, NodeParts, Refusals};
+use tree_step::{NodeCore, NodeParts, Refusals, Scratch};
 use tv_base::{ItemNo, NoMemory, NodeNo};
 use tx_trees::{ItemRow, Script};
 
@@ -147,29 +149,37 @@ impl NodeState {
         &self.node.kept
     }
 
-    /// Prepares what the node does with a letter: its row of the node's table. It changes nothing.
-    pub(crate) fn prepare(
+    /// Plans what the node does with a letter: its row of the node's table. It changes nothing but the scratch.
+    pub(crate) fn plan(
         &self,
         alloc: Global,
         letter: &Letter,
         script: &Script,
-    ) -> Result<KeepingPrepared, NoMemory>
+        scratch: &mut Scratch,
+    ) -> Result<NodePlan, NoMemory>
         requires node { letter.now.to.0 < script.now.nodes }
         requires kept { AreKeptAt letter.now.to.0 self.now.kept }
         requires script { IsOf script.now self.now.core.parts }
         requires below { AllBelow MOST_COUNT (counts_of self.now.core.parts.counters).numbers }
-        ensures { IfOk result (IsKeepingStepOf (keeping_row script.now letter.now.to.0 (keeping_of self.now) letter.now)
-            self.now) }
+        requires empty { IsEmpty scratch.old }
+        ensures { IfOk result (λ plan. IsLetterPlan script.now letter.now self.now plan scratch.new) }
     {
-        prepare_letter(alloc, &self.node, letter, script)
+        plan_letter(alloc, &self.node, letter, script, scratch)
     }
 
-    /// Does a step that was prepared, and gives what goes out. It may need memory to open a tree at its home, for locks,
+    /// Does what was planned; what goes out stays in the scratch. It may need memory to open a tree at its home, for locks,
     /// for held answers and noes, and to keep a letter; where it finds none, the node is as it was.
-    pub(crate) fn done(&mut self, prepared: KeepingPrepared) -> Result<StepOut, NoMemory>
-        requires { MayDoKeeping prepared self.old }
-        ensures { IsKeepingDone prepared self.old self.new result }
+    pub(crate) fn act(
+        &mut self,
+        alloc: Global,
+        plan: NodePlan,
+        scratch: &mut Scratch,
+    ) -> Result<(), NoMemory>
+        requires { MayDoKeeping (node_meant plan scratch.old) self.old }
+        ensures done { OnOk result (IsNodeDone plan scratch.old self.old self.new) }
+        ensures err { OnErr result (self.new ≡ self.old) }
+        ensures out { out_in scratch.new ≡ out_in scratch.old }
     {
-        keeping_done(&mut self.node, prepared)
+        do_node(alloc, &mut self.node, plan, scratch)
     }
 }

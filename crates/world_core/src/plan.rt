@@ -1,20 +1,17 @@
 // Which letter goes to which step of a core.
-ghost use Rattle.std.specs.Prelude.{◌≡◌, true, IfOk, IsTrue, None, Some};
+ghost use Rattle.std.specs.Prelude.{◌≡◌, IfOk, IsTrue, Some};
 ghost use Rattle.letter_types.specs.declared.bodies.Body.TheVariants.{Decide, Decided, Done, Release, Wake};
-ghost use Rattle.tree_home.specs.HeldAnswers.{held_answers};
 ghost use Rattle.tx_trees.specs.declared.parts.TreeKind.TheVariants.{Strict, Update};
 ghost use Rattle.world_model.specs.Asked.{asked_ops};
 ghost use Rattle.world_model.specs.Epochs.{suits_coordinator};
-ghost use Rattle.world_model.specs.Named.{tree_kind_at};
-ghost use Rattle.world_model.specs.Reads.{can_read};
-ghost use Rattle.world_model.specs.Strict.{core_by_kind, is_unheld, kept_by_kind, meets, read_core, strict_core, update_core};
+ghost use Rattle.world_model.specs.Strict.{meets};
 ghost use Rattle.world_model.specs.Updates.{can_update};
 ghost use Rattle.tree_step.specs.Due.{is_due};
-ghost use Rattle.tree_step.specs.Node.{data_of};
 ghost use Rattle.tree_step.specs.Core.{IsCoreReady, core_of};
-ghost use Rattle.node_keeping.specs.Plans.{IsPlanBy, IsPlanOf};
+ghost use Rattle.node_keeping.specs.Plans.{IsPlanOf};
 ghost use Rattle.node_keeping.specs.declared.plans.CorePlan.TheVariants.{Does};
-ghost use Rattle.node_keeping.specs.Apt.{IsOwnPlan, asks_a_sub, makes_by, tree_apt};
+ghost use Rattle.node_keeping.specs.Apt.{asks_a_sub, IsOwnPlan, IsPlanOfKind, IsPlanOfTree, IsReadPlan};
+ghost use Rattle.tree_step.specs.AtNode.{IsDueAt, IsUnheldAt};
 
 use crate::orders::{plan_advancing, still_step};
 use crate::trees::{prepare_read_tree, prepare_update_tree};
@@ -44,12 +41,10 @@ fn plan_parked(
     // What the caller knows.
     requires ready { IsCoreReady script.now letter.now.to.0 core.now }
     requires asks { IsTrue (asks_a_sub letter.now.body) }
-    requires due { IsTrue (is_due script.now letter.now.to.0 (data_of core.now.parts) letter.now.from.0 letter.now.body) }
+    requires due { IsDueAt script.now letter.now core.now.parts }
     requires met { meets script.now tree (asked_ops script.now letter.now.body) (core_of core.now) ≡ Some met }
     // What is planned.
-    ensures { IfOk result (IsPlanBy (can_update script.now (data_of core.now.parts) letter.now.body)
-        (kept_by_kind script.now (core_of core.now) tree letter.now.body (Some Update))
-        (update_core script.now letter.now.to.0 letter.now.from.0 tree letter.now.body (core_of core.now)) core.now) }
+    ensures { IfOk result (IsPlanOfKind script.now letter.now tree (Some Update) core.now) }
 {
     if !can_update(alloc, &core.parts, letter, script)? {
         return Ok(CorePlan::Still);
@@ -69,12 +64,10 @@ fn plan_update(
     // What the caller knows.
     requires ready { IsCoreReady script.now letter.now.to.0 core.now }
     requires asks { IsTrue (asks_a_sub letter.now.body) }
-    requires due { IsTrue (is_due script.now letter.now.to.0 (data_of core.now.parts) letter.now.from.0 letter.now.body) }
-    requires unheld { IsTrue (is_unheld letter.now.body (held_answers core.now.parts.homes)) }
+    requires due { IsDueAt script.now letter.now core.now.parts }
+    requires unheld { IsUnheldAt letter.now core.now.parts }
     // What is planned.
-    ensures { IfOk result (IsPlanBy (can_update script.now (data_of core.now.parts) letter.now.body)
-        (kept_by_kind script.now (core_of core.now) tree letter.now.body (Some Update))
-        (update_core script.now letter.now.to.0 letter.now.from.0 tree letter.now.body (core_of core.now)) core.now) }
+    ensures { IfOk result (IsPlanOfKind script.now letter.now tree (Some Update) core.now) }
 {
     if let Some(met) = meets(core, letter, script, tree) {
         return plan_parked(alloc, core, letter, script, tree, met);
@@ -94,11 +87,10 @@ fn plan_read(
 ) -> Result<CorePlan, NoMemory>
     // What the caller knows.
     requires ready { IsCoreReady script.now letter.now.to.0 core.now }
-    requires due { IsTrue (is_due script.now letter.now.to.0 (data_of core.now.parts) letter.now.from.0 letter.now.body) }
-    requires unheld { IsTrue (is_unheld letter.now.body (held_answers core.now.parts.homes)) }
+    requires due { IsDueAt script.now letter.now core.now.parts }
+    requires unheld { IsUnheldAt letter.now core.now.parts }
     // What is planned.
-    ensures { IfOk result (IsPlanBy (can_read script.now (data_of core.now.parts) letter.now.body) None
-        (read_core script.now letter.now.to.0 letter.now.from.0 letter.now.body (core_of core.now)) core.now) }
+    ensures { IfOk result (IsReadPlan script.now letter.now core.now) }
 {
     let Some(prepared) = prepare_read_tree(alloc, core, letter, script)? else {
         return Ok(CorePlan::Still);
@@ -116,12 +108,10 @@ fn plan_strict(
 ) -> Result<CorePlan, NoMemory>
     // What the caller knows.
     requires ready { IsCoreReady script.now letter.now.to.0 core.now }
-    requires due { IsTrue (is_due script.now letter.now.to.0 (data_of core.now.parts) letter.now.from.0 letter.now.body) }
-    requires unheld { IsTrue (is_unheld letter.now.body (held_answers core.now.parts.homes)) }
+    requires due { IsDueAt script.now letter.now core.now.parts }
+    requires unheld { IsUnheldAt letter.now core.now.parts }
     // What is planned.
-    ensures { IfOk result (IsPlanBy true
-        (kept_by_kind script.now (core_of core.now) tree letter.now.body (Some Strict))
-        (strict_core script.now letter.now.to.0 letter.now.from.0 tree letter.now.body (core_of core.now)) core.now) }
+    ensures { IfOk result (IsPlanOfKind script.now letter.now tree (Some Strict) core.now) }
 {
     if waits_for_show(core, letter) {
         let kept = root_waiting(alloc, &core.parts.turns, tree)?;
@@ -143,12 +133,10 @@ fn plan_kind(
     // What the caller knows.
     requires ready { IsCoreReady script.now letter.now.to.0 core.now }
     requires asks { IsTrue (asks_a_sub letter.now.body) }
-    requires due { IsTrue (is_due script.now letter.now.to.0 (data_of core.now.parts) letter.now.from.0 letter.now.body) }
-    requires unheld { IsTrue (is_unheld letter.now.body (held_answers core.now.parts.homes)) }
+    requires due { IsDueAt script.now letter.now core.now.parts }
+    requires unheld { IsUnheldAt letter.now core.now.parts }
     // What is planned.
-    ensures { IfOk result (IsPlanBy (makes_by script.now (data_of core.now.parts) letter.now.body kind)
-        (kept_by_kind script.now (core_of core.now) tree letter.now.body kind)
-        (core_by_kind script.now letter.now.to.0 letter.now.from.0 tree letter.now.body kind (core_of core.now)) core.now) }
+    ensures { IfOk result (IsPlanOfKind script.now letter.now tree kind core.now) }
 {
     let Some(kind) = kind else {
         return Ok(CorePlan::Still);
@@ -173,11 +161,7 @@ fn plan_tree(
     requires ready { IsCoreReady script.now letter.now.to.0 core.now }
     requires asks { IsTrue (asks_a_sub letter.now.body) }
     // What is planned.
-    ensures { IfOk result (IsPlanBy
-        (tree_apt script.now letter.now.to.0 letter.now.from.0 (core_of core.now) tree letter.now.body)
-        (kept_by_kind script.now (core_of core.now) tree letter.now.body (tree_kind_at script.now tree.0))
-        (core_by_kind script.now letter.now.to.0 letter.now.from.0 tree letter.now.body (tree_kind_at script.now tree.0)
-        (core_of core.now)) core.now) }
+    ensures { IfOk result (IsPlanOfTree script.now letter.now tree core.now) }
 {
     if !is_free(core, letter, script) {
         return Ok(CorePlan::Still);

@@ -1,13 +1,11 @@
 // Subtransactions of update and read trees.
-ghost use Rattle.std.specs.Prelude.{◌≡◌, is_some, IfOk, IfSome, IsTrue};
-ghost use Rattle.tree_home.specs.HeldAnswers.{held_answers};
-ghost use Rattle.world_model.specs.Strict.{is_unheld, marks_of, read_core, update_core};
+ghost use Rattle.std.specs.Prelude.{◌≡◌, is_some, IfOk, IfSome};
+ghost use Rattle.world_model.specs.Strict.{marks_of};
 ghost use Rattle.read_step.specs.Rows.{can_read};
 ghost use Rattle.update_step.specs.Rows.{can_update};
-ghost use Rattle.tree_step.specs.Due.{is_due};
 ghost use Rattle.tree_step.specs.Node.{data_of};
-ghost use Rattle.tree_step.specs.CoreChanges.{IsCoreStepOf};
-ghost use Rattle.tree_step.specs.Core.{IsCoreReady, core_of};
+ghost use Rattle.tree_step.specs.Core.{IsCoreReady};
+ghost use Rattle.tree_step.specs.AtNode.{IsDueAt, IsUnheldAt, IsReadStep, IsUpdateStep};
 
 use letter_types::{Boxed, Letter};
 use nc_locks::{Mode, WantedLocks};
@@ -28,12 +26,11 @@ pub(crate) fn prepare_read_tree(
 ) -> Result<Option<Boxed<CorePrepared>>, NoMemory>
     // What the caller knows.
     requires ready { IsCoreReady script.now letter.now.to.0 core.now }
-    requires due { IsTrue (is_due script.now letter.now.to.0 (data_of core.now.parts) letter.now.from.0 letter.now.body) }
-    requires unheld { IsTrue (is_unheld letter.now.body (held_answers core.now.parts.homes)) }
+    requires due { IsDueAt script.now letter.now core.now.parts }
+    requires unheld { IsUnheldAt letter.now core.now.parts }
     // What is made.
     ensures can { IfOk result (λ found. is_some found ≡ can_read script.now (data_of core.now.parts) letter.now.body) }
-    ensures step { IfOk result (λ found. IfSome found (IsCoreStepOf (read_core script.now letter.now.to.0
-        letter.now.from.0 letter.now.body (core_of core.now)) core.now)) }
+    ensures step { IfOk result (λ found. IfSome found (IsReadStep script.now letter.now core.now)) }
 {
     let Some(part) = read_part(alloc, &core.parts, letter, script)? else {
         return Ok(None);
@@ -67,12 +64,11 @@ pub(crate) fn prepare_update_tree(
 ) -> Result<Option<Boxed<CorePrepared>>, NoMemory>
     // What the caller knows.
     requires ready { IsCoreReady script.now letter.now.to.0 core.now }
-    requires due { IsTrue (is_due script.now letter.now.to.0 (data_of core.now.parts) letter.now.from.0 letter.now.body) }
-    requires unheld { IsTrue (is_unheld letter.now.body (held_answers core.now.parts.homes)) }
+    requires due { IsDueAt script.now letter.now core.now.parts }
+    requires unheld { IsUnheldAt letter.now core.now.parts }
     // What is made.
     ensures can { IfOk result (λ found. is_some found ≡ can_update script.now (data_of core.now.parts) letter.now.body) }
-    ensures step { IfOk result (λ found. IfSome found (IsCoreStepOf (update_core script.now letter.now.to.0
-        letter.now.from.0 tree letter.now.body (core_of core.now)) core.now)) }
+    ensures step { IfOk result (λ found. IfSome found (IsUpdateStep script.now letter.now tree core.now)) }
 {
     let Some(part) = update_part(alloc, &core.parts, letter, script)? else {
         return Ok(None);

@@ -6,16 +6,18 @@ ghost use Rattle.tv_base.specs.declared.numbers.TheConstants.{MOST_ENTRIES};
 ghost use Rattle.tx_trees.specs.ScriptData.{ScriptData};
 ghost use Rattle.world_model.specs.Runs.{actor_after};
 ghost use Rattle.world_core.specs.Actors.{AreStatesOf, actor_data, IsWorldOf, TookLetter};
-ghost use Rattle.world_core.specs.Prepared.{IsActorStepOf, ActorMayDo, MayTake, out_of};
-ghost use Rattle.world_core.specs.inside.Actors.{Acted, world_of};
+ghost use Rattle.tree_step.specs.Meant.{IsEmpty};
+ghost use Rattle.world_core.specs.Prepared.{ActorMayDo, MayTake, out_of};
+ghost use Rattle.world_core.specs.inside.Actors.{Acted, entry_made, IsPlanFor, world_of};
 ghost use Rattle.pair_counters.specs.Numbers.{MOST_COUNT};
 
-use crate::actor::{ActorPrepared, ActorState, actor_done, actor_prepare};
+use crate::actor::{ActorPlan, ActorState, actor_done, actor_plan};
 use letter_bag::Bag;
 use letter_types::{Acts, Entry, History, Letter, LetterId, Letters, StepOut, go};
 use std::alloc::Global;
 use std::marker::Model;
 use std::mem;
+use tree_step::{Scratch, new_scratch, wipe};
 use tv_base::{ActorNo, NoMemory, Stamp};
 use tx_trees::Script;
 
@@ -26,14 +28,19 @@ pub struct World {
     actors: Vec<ActorState>,
     bag: Bag<Letter>,
     history: History,
+    // used again by each step, and empty between steps
+    scratch: Scratch,
 }
 
 impl Model for World {
+    ghost use Rattle.tree_step.specs.Meant.{IsEmpty};
     ghost use Rattle.world_core.specs.Actors.{WorldData};
 
     ghost Value = { WorldData };
 
     ghost view = { λ w. record { actors = w.actors.items; bag = w.bag.items; history = w.history } };
+
+    ghost invariant = { λ w. IsEmpty w.scratch };
 }
 
 /// An entry that holds a place in a history until the step is made.
@@ -111,37 +118,41 @@ fn state_at(actors: &Vec<ActorState>, actor: ActorNo) -> &ActorState
     &actors[actor.0 as usize]
 }
 
-/// Prepares what the addressee of a letter does with it.
-fn prepare(
+/// Plans what the addressee of a letter does with it.
+fn plan(
     alloc: Global,
     script: &Script,
     actors: &Vec<ActorState>,
     letter: &Letter,
-) -> Result<ActorPrepared, NoMemory>
+    scratch: &mut Scratch,
+) -> Result<ActorPlan, NoMemory>
     requires here { letter.now.to.0 < length actors.now.items }
     requires may { IfSome (slice_get actors.now.items letter.now.to.0) (MayTake script.now letter.now MOST_COUNT) }
-    ensures { IfOk result (λ prepared. IfSome (slice_get actors.now.items letter.now.to.0)
-        (λ state. IsActorStepOf script.now letter.now state prepared)) }
+    requires empty { IsEmpty scratch.old }
+    ensures { IfOk result (λ plan. IsPlanFor script.now letter.now actors.now.items plan scratch.new) }
 {
     let state = state_at(actors, letter.to);
-    let prepared = actor_prepare(alloc, state, letter, script)?;
-    Ok(prepared)
+    let plan = actor_plan(alloc, state, letter, script, scratch)?;
+    Ok(plan)
 }
 
-/// Lets an actor do a step that was prepared.
+/// Lets an actor do a step that was planned; then the scratch is empty.
 fn act(
+    alloc: Global,
     actors: &mut Vec<ActorState>,
     actor: ActorNo,
-    prepared: ActorPrepared,
+    plan: ActorPlan,
+    scratch: &mut Scratch,
 ) -> Result<StepOut, NoMemory>
     requires here { actor.0 < length actors.old.items }
-    requires may { IfSome (slice_get actors.old.items actor.0) (ActorMayDo prepared) }
-    ensures { MatchResult result (Acted actor.0 prepared actors.old.items actors.new.items)
+    requires may { IfSome (slice_get actors.old.items actor.0) (ActorMayDo plan scratch.old) }
+    ensures acted { MatchResult result (Acted actor.0 plan scratch.old actors.old.items actors.new.items)
         (λ _. actors.new.items ≡ actors.old.items) }
+    ensures empty { OnOk result (IsEmpty scratch.new) }
 {
     let place = actor.0 as usize;
     let state = &mut actors[place];
-    actor_done(state, prepared)
+    actor_done(alloc, state, plan, scratch)
 }
 
 /// Takes letter `k` out of the bag, and puts the entry in the last place of the history.
@@ -150,8 +161,7 @@ fn finish(bag: &mut Bag<Letter>, history: &mut History, stamp: Stamp, k: usize, 
     requires place { 0 < length history.old }
     ensures bag { bag.new.items ≡ remove bag.old.items k }
     ensures history { IfSome (slice_get bag.old.items k) (λ l. history.new
-        ≡ slice_set history.old (length history.old - 1)
-        (record { stamp = stamp; actor = l.to; took = l; sent = out.sent; acts = out.acts })) }
+        ≡ slice_set history.old (length history.old - 1) (entry_made l out stamp)) }
 {
     let StepOut { sent, acts } = out;
     let took = bag.take(k);
@@ -177,20 +187,22 @@ fn pass(
     bag: &mut Bag<Letter>,
     stamp: Stamp,
     actor: ActorNo,
-    prepared: ActorPrepared,
+    plan: ActorPlan,
+    scratch: &mut Scratch,
 ) -> Result<StepOut, NoMemory>
     requires here { actor.0 < length actors.old.items }
-    requires may { IfSome (slice_get actors.old.items actor.0) (ActorMayDo prepared) }
-    requires room { length (out_of prepared).sent ≤ bag.old.room }
-    ensures acted { MatchResult result (Acted actor.0 prepared actors.old.items actors.new.items)
+    requires may { IfSome (slice_get actors.old.items actor.0) (ActorMayDo plan scratch.old) }
+    requires room { length (out_of plan scratch.old).sent ≤ bag.old.room }
+    ensures acted { MatchResult result (Acted actor.0 plan scratch.old actors.old.items actors.new.items)
         (λ _. actors.new.items ≡ actors.old.items) }
     ensures sent { OnOk result (bag.new.items
-        ≡ bag.old.items ++ sealed stamp.0 actor.0 0 (out_of prepared).sent) }
+        ≡ bag.old.items ++ sealed stamp.0 actor.0 0 (out_of plan scratch.old).sent) }
+    ensures empty { OnOk result (IsEmpty scratch.new) }
     ensures same_bag { OnErr result (bag.new.items ≡ bag.old.items) }
 {
     let before = bag.len();
-    send(alloc, bag, stamp, actor, &prepared.out().sent)?;
-    match act(actors, actor, prepared) {
+    send(alloc, bag, stamp, actor, plan.sent(scratch))?;
+    match act(alloc, actors, actor, plan, scratch) {
         Ok(out) => Ok(out),
         Err(refused) => {
             take_back(bag, before);
@@ -218,16 +230,19 @@ fn advance(
     actors: &mut Vec<ActorState>,
     bag: &mut Bag<Letter>,
     history: &mut History,
+    scratch: &mut Scratch,
     k: usize,
 ) -> Result<Stamp, NoMemory>
     // What the caller knows.
     requires waits { k < length bag.old.items }
     requires world { IsWorldOf script.now (world_of actors.old.items bag.old.items history.old) }
+    requires empty { IsEmpty scratch.old }
     // What came.
     ensures world { OnOk result (IsWorldOf script.now (world_of actors.new.items bag.new.items history.new)) }
     ensures took { OnOk result (TookLetter k (world_of actors.old.items bag.old.items history.old)
         (world_of actors.new.items bag.new.items history.new)) }
     ensures stamp { IfOk result (λ stamp. stamp.0 ≡ length history.new) }
+    ensures empty { OnOk result (IsEmpty scratch.new) }
     // What running out of memory leaves.
     ensures same_actors { OnErr result (actors.new.items ≡ actors.old.items) }
     ensures same_bag { OnErr result (bag.new.items ≡ bag.old.items) }
@@ -237,10 +252,10 @@ fn advance(
     let stamp = Stamp(history.items().len() as u64 + 1);
     let letter = bag.at(k);
     let actor = letter.to;
-    let prepared = prepare(alloc, script, actors, letter)?;
-    make_room(bag, prepared.out().sent.items().len())?;
+    let plan = plan(alloc, script, actors, letter, scratch)?;
+    make_room(bag, plan.sent(scratch).items().len())?;
     history.push(placeholder(alloc, stamp))?;
-    match pass(alloc, actors, bag, stamp, actor, prepared) {
+    match pass(alloc, actors, bag, stamp, actor, plan, scratch) {
         Ok(out) => {
             finish(bag, history, stamp, k, out);
             Ok(stamp)
@@ -267,6 +282,7 @@ impl World {
             actors,
             bag,
             history: History::new(alloc),
+            scratch: new_scratch(alloc),
         })
     }
 
@@ -309,15 +325,19 @@ impl World {
         ensures stamp { IfOk result (λ stamp. stamp.0 ≡ length self.new.history) }
         ensures err { OnErr result (self.new ≡ self.old) }
     {
-        let stamp = advance(
+        let result = advance(
             self.alloc,
             script,
             &mut self.actors,
             &mut self.bag,
             &mut self.history,
+            &mut self.scratch,
             k,
-        )?;
-        Ok(stamp)
+        );
+        if result.is_err() {
+            wipe(self.alloc, &mut self.scratch);
+        }
+        result
     }
 
     /// The history so far. It has at most `MOST_ENTRIES` entries: one that would pass that finds no memory.

@@ -9,11 +9,15 @@ use Rattle.letter_types.specs.declared.bodies.Notice.TheVariants as notices
 use Rattle.letter_types.specs.declared.votes.Cause.{Cause}
 use Rattle.letter_types.specs.declared.votes.Vote.{Vote}
 use Rattle.letter_types.specs.declared.votes.Vote.TheVariants as votes
+use Rattle.tree_home.specs.Homes.{misses, open_trees}
+use Rattle.tree_home.specs.Maps.{by_tree}
 use Rattle.tx_trees.specs.declared.parts.SubOp.{SubOp}
 use Rattle.world_model.specs.Core.{Refusals, lesser}
+use Rattle.script_parts.specs.Wants.{wanted_by}
+use Rattle.tree_step.specs.declared.asked.Request.{Request}
 use Rattle.tree_step.specs.declared.core_change.VoteChange.{VoteChange}
 use Rattle.tree_step.specs.declared.core_change.VoteChange.TheVariants.{Stay, Take, Note}
-use Rattle.script_parts.specs.Wants.{wanted_by}
+use Rattle.tree_step.specs.declared.node_core.NodeCore.{NodeCore}
 
 -- a no of subtransaction k of tree t comes to the tree's home
 abbrev pub noted_no : TreeNo → SubNo → Cause → Refusals → VoteChange
@@ -37,3 +41,7 @@ no_by cause _ rs = Stay
 abbrev pub change_by : TreeNo → Vote → List SubOp → Body → Refusals → VoteChange
 change_by t (votes.Yes values) ops body rs = Take t (wanted_by ops)
 change_by t (votes.No cause) ops body rs = no_by cause body rs
+
+-- the same of a request at its tree's home
+abbrev pub refusal_at : Request → Notice → NodeCore → VoteChange
+refusal_at r notice n = refusal_there (misses r.tree r.sub (open_trees n.parts.homes)) r.tree r.sub notice (by_tree n.refusals)

@@ -1,11 +1,9 @@
--- A tree that is to be opened is opened before all else, and the node hears of an epoch after all else. Private code alone
--- cites these definitions.
+-- A tree that is to be opened is opened before all else. Proofs alone cite these definitions.
 use Rattle.std.specs.Prelude.{Option, Some, None}
 use Rattle.tree_step.specs.declared.change.Change.{Change}
 use Rattle.tree_step.specs.declared.change.Change.TheVariants.{Tree}
 use Rattle.tree_step.specs.declared.change.HomeChange.{HomeChange}
 use Rattle.tree_step.specs.declared.change.HomeChange.TheVariants.{Open, Note}
-use Rattle.tree_step.specs.CoreChanges.{prepared_of}
 use Rattle.tree_step.specs.declared.core_change.CorePrepared.{CorePrepared}
 use Rattle.tree_step.specs.declared.core_change.Opening.{Opening}
 
@@ -29,7 +27,3 @@ changed_once_open change = change
 
 abbrev pub once_open : CorePrepared → CorePrepared
 once_open p = record p { prepared = record { change = changed_once_open p.prepared.change; out = p.prepared.out } }
-
--- the same step, of which the node hears no epoch
-abbrev pub unheard : CorePrepared → CorePrepared
-unheard p = prepared_of p.prepared p.votes p.holds

@@ -12,11 +12,11 @@ use Rattle.world_core.specs.inside.Actors.{world_of}
 use Rattle.world_core.proofs.Events.{if_some, is_here, may_act, may_take, Event, event_world, event_took, event_count}
 use Rattle.world_core.proofs.world.advance.Goals as goal
 
-pub prepare-requires-clause-here : goal.prepare-requires-clause-here
-prepare-requires-clause-here c = is_here _ _ _ _ c.requires.world c.nodes-valid.ensures.valid c.at-letter.ensures
+pub plan-requires-clause-here : goal.plan-requires-clause-here
+plan-requires-clause-here c = is_here _ _ _ _ c.requires.world c.nodes-valid.ensures.valid c.at-letter.ensures
 
-pub prepare-requires-clause-may : goal.prepare-requires-clause-may
-prepare-requires-clause-may c =
+pub plan-requires-clause-may : goal.plan-requires-clause-may
+plan-requires-clause-may c =
     let few : length c.args.history.now ≤ 2 ^ 40 = c.items.ensures.limit in
     may_take _ _ _ _ _ c.requires.world c.nodes-valid.ensures.valid (omega (arith, few)) c.at-letter.ensures
 
@@ -24,21 +24,21 @@ pub pass-requires-clause-here : goal.pass-requires-clause-here
 pass-requires-clause-here c = is_here _ _ _ _ c.requires.world c.nodes-valid.ensures.valid c.at-letter.ensures
 
 pub pass-requires-clause-may : goal.pass-requires-clause-may
-pass-requires-clause-may c = may_act c.args.script.now c.at-letter.result.now _ c.args.actors.now.items c.in_ok-prepared.ensures
+pass-requires-clause-may c = may_act c.args.script.now c.at-letter.result.now _ _ c.args.actors.now.items c.in_ok-plan.ensures
 
 event : (c : goal.After-finish) → Event c.args.script.now (world_of c.args.actors.now.items c.args.bag.now.items c.args.history.now) c.args.k c.at-letter.result.now
-    c.in_ok-prepared.prepared c.in-Ok.out (record { 0 = length c.items.result.now + 1 }) c.placeholder.result (world_of c.pass.new.actors.items c.finish.new.bag.items c.finish.new.history)
+    c.in_ok-plan.plan c.plan.new.scratch c.in-Ok.out (record { 0 = length c.items.result.now + 1 }) c.placeholder.result (world_of c.pass.new.actors.items c.finish.new.bag.items c.finish.new.history)
 event c =
     let w = world_of c.args.actors.now.items c.args.bag.now.items c.args.history.now in
     let l = c.at-letter.result.now in
     let stamp : Stamp = record { 0 = length c.items.result.now + 1 } in
     let out = c.in-Ok.out in
-    let more = sealed stamp.0 l.to.0 0 (out_of c.in_ok-prepared.prepared).sent in
+    let more = sealed stamp.0 l.to.0 0 (out_of c.in_ok-plan.plan c.plan.new.scratch).sent in
     let sent : c.pass.new.bag.items ≡ w.bag ++ more = c.in-Ok.ensures.sent ∙ ap (λ (ls : List Letter). ls ++ more) c.in_ok-make_room.ensures.items in
     let found : slice_get c.pass.new.bag.items c.args.k ≡ Some l = ap (λ (ls : List Letter). slice_get ls c.args.k) sent ∙ slice_get-old w.bag more c.args.k c.requires.waits ∙ c.at-letter.ensures in
     record {
       letter = c.at-letter.ensures;
-      step = c.in_ok-prepared.ensures;
+      step = c.in_ok-plan.ensures;
       acted = c.in-Ok.ensures.acted;
       stamp_is = omega (arith, ap (length {A = Entry}) c.items.ensures.items);
       bag = c.finish.ensures.bag ∙ ap (λ (ls : List Letter). remove ls c.args.k) sent ∙ remove-append_left w.bag more c.args.k c.requires.waits;
@@ -48,10 +48,10 @@ event c =
     }
 
 pub returns-in-Ok-clause-world : goal.returns-in-Ok-clause-world
-returns-in-Ok-clause-world c = event_world _ _ _ _ _ _ _ _ _ c.requires.world c.nodes-valid.ensures.valid (event c)
+returns-in-Ok-clause-world c = event_world _ _ _ _ _ _ _ _ _ _ c.requires.world c.nodes-valid.ensures.valid (event c)
 
 pub returns-in-Ok-clause-took : goal.returns-in-Ok-clause-took
-returns-in-Ok-clause-took c = event_took _ _ _ _ _ _ _ _ _ (event c)
+returns-in-Ok-clause-took c = event_took _ _ _ _ _ _ _ _ _ _ (event c)
 
 pub returns-in-Ok-clause-stamp : goal.returns-in-Ok-clause-stamp
-returns-in-Ok-clause-stamp c = omega (arith, event_count _ _ _ _ _ _ _ _ _ (event c), ap (length {A = Entry}) c.items.ensures.items)
+returns-in-Ok-clause-stamp c = omega (arith, event_count _ _ _ _ _ _ _ _ _ _ (event c), ap (length {A = Entry}) c.items.ensures.items)

@@ -66,4 +66,5 @@ invariant_of-self-2 g c =
     is c.enter.ensures.handled in (
       subst (λ (n : ℕ). LeadsTo s n new now) (sym c.enter.ensures.number) leads,
       c.self.invariant.1,
+      c.in-Ok.ensures.empty,
     )

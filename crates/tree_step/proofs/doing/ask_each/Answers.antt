@@ -3,7 +3,7 @@ use Rattle.std.specs.Prelude.{slice_index_or}
 use Rattle.pair_counters.specs.Rows.{counts_of}
 use Rattle.tv_base.specs.declared.numbers.NodeNo.{NodeNo}
 use Rattle.tree_step.proofs.Asking.{all_nodes, asked_next, asked_under, few_nodes, take_node, with_asked}
-use Rattle.tree_step.proofs.core_steps.ask_each.Goals as goal
+use Rattle.tree_step.proofs.doing.ask_each.Goals as goal
 
 pub asked-requires-clause-below : goal.asked-requires-clause-below
 asked-requires-clause-below c =

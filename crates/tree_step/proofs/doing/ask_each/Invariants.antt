@@ -1,7 +1,7 @@
 use Rattle.std.proofs.Common.{◌≡◌, take}
 use Rattle.pair_counters.specs.Rows.{counts_of}
 use Rattle.tree_step.proofs.Asking.{with_asked}
-use Rattle.tree_step.proofs.core_steps.ask_each.Given as goal
+use Rattle.tree_step.proofs.doing.ask_each.Given as goal
 
 -- the nodes so far are counted, and nothing else
 abbrev pub invariant-loop-node : goal.invariant-loop-node

@@ -1,0 +1,29 @@
+-- What a step sends and does. These are the definitions that private code alone cites.
+use Rattle.std.specs.Prelude.{if◌then◌else◌, ◌++◌, ◌∷◌, [], Bool, List}
+use Rattle.tv_base.specs.declared.numbers.NodeNo.{NodeNo}
+use Rattle.letter_types.specs.declared.acts.Act.{Act}
+use Rattle.letter_types.specs.declared.acts.Act.TheVariants.{Turned}
+use Rattle.letter_types.specs.declared.bodies.Notice.{Notice}
+use Rattle.letter_types.specs.declared.entries.Outgoing.{Outgoing}
+use Rattle.pair_counters.specs.Counts.{Counts}
+use Rattle.tx_trees.specs.declared.parts.Sub.{Sub}
+use Rattle.world_model.specs.Children.{done_letter, sub_letters}
+use Rattle.world_model.specs.Notices.{act_of}
+use Rattle.tree_step.specs.Changes.{counted}
+use Rattle.tree_step.specs.declared.asked.Request.{Request}
+use Rattle.tree_step.specs.declared.counting.Counting.{Counting}
+
+-- the Subs to a subtransaction's children, and the Done to its tree's home
+abbrev pub children_of : Request → List Sub → List Outgoing
+children_of r subs = sub_letters r.tree.0 r.version.0 r.sub.0 0 subs
+
+abbrev pub done_of : NodeNo → Request → Notice → Outgoing
+done_of home r notice = done_letter home.0 r.tree.0 r.sub.0 r.version.0 notice
+
+-- its acts: it raises the node's update version, if it does, and has its turn
+abbrev pub sub_acts : Request → Bool → Notice → List Act
+sub_acts r raises notice = (if raises then Turned r.version ∷ [] else []) ++ act_of r.tree r.sub notice ∷ []
+
+-- what is counted once a step that counts so sends these letters
+abbrev pub with_counted : Counting → List Outgoing → Counts → Counts
+with_counted c sent k = record k { numbers = counted c sent k.numbers }

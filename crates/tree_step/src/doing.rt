@@ -1,0 +1,335 @@
+// What is planned is done.
+ghost use Rattle.std.specs.Prelude.{ℕ, ◌≡◌, ◌<◌, ◌≤◌, ◌+◌, ◌^◌, [], length, All, None, Some, Ok, MatchResult, OnErr, OnOk};
+ghost use Rattle.pair_counters.specs.Rows.{counts_of};
+ghost use Rattle.tree_home.specs.Homes.{open_trees};
+ghost use Rattle.tree_home.specs.Maps.{by_tree};
+ghost use Rattle.tree_step.specs.Changes.{home_after, MayDo, MayHome, OpensNone, OpensNoTree};
+ghost use Rattle.tree_step.specs.declared.change.Change.TheVariants.{Tree};
+ghost use Rattle.tree_step.specs.declared.core_change.HoldChange.TheVariants.{Stay, Ack};
+ghost use Rattle.tree_step.specs.CoreChanges.{MayDoCore, epoch_with, numbers_of_nodes};
+ghost use Rattle.tree_step.specs.Meant.{core_meant, doing_meant, holding, home_meant, IsDoingDone, IsMeantDone, locks_meant, meant_with, out_in, refusals_meant, tree_meant};
+ghost use Rattle.tree_step.specs.inside.PlanOpening.{opening_by, plan_once_open};
+ghost use Rattle.tree_step.specs.AtNode.{with_asked};
+
+use crate::change::raise_if;
+use crate::core_change::Opening;
+use crate::counting::count;
+use crate::node::NodeParts;
+use crate::node_core::NodeCore;
+use crate::plan::{Doing, HoldPlan, HomePlan, Plan, Scratch, TreePlan, VotePlan};
+use crate::refusals::Refusals;
+use commute_ops::Values;
+use item_versions::Staged;
+use nc_locks::Locks;
+use pair_counters::Counters;
+use std::alloc::Global;
+use std::mem;
+use tree_home::{Answered, Homes};
+use tv_base::{NoMemory, NodeNo, SubNo, TreeNo, Version};
+use version_collect::collect_table;
+
+/// The home of a tree does what is planned, where no tree is to be opened. Needs no memory.
+#[inline(always)]
+fn do_home(homes: &mut Homes, plan: TreePlan, values: Values)
+    requires may { MayHome (home_meant plan values) (open_trees homes.old) }
+    requires none { OpensNoTree (home_meant plan values) }
+    ensures trees { open_trees homes.new ≡ home_after (home_meant plan values) (open_trees homes.old) }
+    ensures held { homes.new.held ≡ homes.old.held }
+{
+    match plan.home {
+        HomePlan::Stay => {}
+        HomePlan::Open { .. } => {}
+        HomePlan::Note => homes.put_notice(plan.tree, plan.sub, values),
+        HomePlan::Forget => homes.forget(plan.tree),
+    }
+}
+
+/// A subtransaction is done, or a notice is brought, where no tree is to be opened. Needs no memory.
+#[inline(always)]
+fn do_tree(alloc: Global, parts: &mut NodeParts, plan: TreePlan, scratch: &mut Scratch)
+    requires may { MayDo (Tree (tree_meant plan scratch.old)) scratch.old.sent parts.old }
+    requires none { OpensNoTree (home_meant plan scratch.old.values) }
+    ensures done { IsDoingDone (Doing.Tree plan) scratch.old parts.old parts.new }
+    ensures spent { scratch.new ≡ record scratch.old { staged = []; values = [] } }
+{
+    let values = mem::replace(&mut scratch.values, Values::new(alloc));
+    do_home(&mut parts.homes, plan, values);
+    raise_if(&mut parts.turns, plan.raises, plan.counting.version);
+    count(&mut parts.counters, &plan.counting, scratch.sent.items());
+    let staged = mem::replace(&mut scratch.staged, Staged::new(alloc));
+    parts.items.put_staged(staged);
+}
+
+/// The parts do what is planned, where no tree is to be opened. Needs no memory.
+#[inline(always)]
+fn do_parts(alloc: Global, parts: &mut NodeParts, doing: Doing, scratch: &mut Scratch)
+    requires may { MayDo (doing_meant doing scratch.old) scratch.old.sent parts.old }
+    requires none { OpensNone (doing_meant doing scratch.old) }
+    ensures done { IsDoingDone doing scratch.old parts.old parts.new }
+    ensures out { out_in scratch.new ≡ out_in scratch.old }
+    ensures calls { scratch.new.calls ≡ scratch.old.calls }
+    ensures told { scratch.new.told ≡ scratch.old.told }
+{
+    match doing {
+        Doing::Still => {}
+        Doing::Tree(plan) => do_tree(alloc, parts, plan, scratch),
+        Doing::Turn(version) => {
+            parts.turns.raise(version);
+        }
+        Doing::Show(version) => parts.turns.show(version),
+        Doing::Sweep(version) => {
+            collect_table(&mut parts.items, version);
+            parts.counters.drop_below(version);
+            parts.turns.sweep(version);
+        }
+    }
+}
+
+/// Locks are taken or go, or a no is put in or out: the last that may need memory. Where none is found all is as it was.
+#[inline(always)]
+fn change_votes(
+    locks: &mut Locks,
+    refusals: &mut Refusals,
+    votes: VotePlan,
+    scratch: &Scratch,
+) -> Result<(), NoMemory>
+    ensures locks { MatchResult result (λ _. locks.new ≡ locks_meant votes scratch.now locks.old)
+        (λ _. locks.new ≡ locks.old) }
+    ensures refusals { MatchResult result
+        (λ _. by_tree refusals.new ≡ refusals_meant votes scratch.now refusals.old)
+        (λ _. refusals.new ≡ refusals.old) }
+{
+    match votes {
+        VotePlan::Stay => Ok(()),
+        VotePlan::Take(tree) => locks.take(tree, scratch.wanted.items()),
+        VotePlan::Free(tree) => {
+            locks.free(tree);
+            Ok(())
+        }
+        VotePlan::Note(tree) => match scratch.refusal {
+            Some(refusal) => refusals.put(tree, refusal),
+            None => Ok(()),
+        },
+        VotePlan::Drop(tree) => {
+            refusals.take_out(tree);
+            Ok(())
+        }
+    }
+}
+
+/// The node hears of an epoch, if it hears of one.
+fn hear_of(epoch: &mut u64, heard: Option<u64>)
+    ensures { epoch.new ≡ epoch_with heard epoch.old }
+{
+    if let Some(heard) = heard {
+        *epoch = heard;
+    }
+}
+
+/// Does what is planned, where no tree is to be opened and the held answers stay. Where no memory is found the node is as
+/// it was.
+#[inline(always)]
+fn do_still(
+    alloc: Global,
+    core: &mut NodeCore,
+    plan: Plan,
+    scratch: &mut Scratch,
+) -> Result<(), NoMemory>
+    requires may { MayDoCore (meant_with plan scratch.old Stay) core.old }
+    requires none { OpensNone (doing_meant plan.doing scratch.old) }
+    ensures done { OnOk result (IsMeantDone (meant_with plan scratch.old Stay) scratch.old core.old core.new) }
+    ensures err { OnErr result (core.new ≡ core.old) }
+    ensures out { out_in scratch.new ≡ out_in scratch.old }
+    ensures calls { scratch.new.calls ≡ scratch.old.calls }
+{
+    change_votes(&mut core.locks, &mut core.refusals, plan.votes, scratch)?;
+    do_parts(alloc, &mut core.parts, plan.doing, scratch);
+    hear_of(&mut core.epoch, plan.epoch);
+    Ok(())
+}
+
+/// Does what is planned, where no tree is to be opened, and takes an acknowledgement of a tree down. Where no memory is
+/// found the node is as it was.
+fn do_ack(
+    alloc: Global,
+    core: &mut NodeCore,
+    plan: Plan,
+    tree: TreeNo,
+    scratch: &mut Scratch,
+) -> Result<(), NoMemory>
+    requires may { MayDoCore (meant_with plan scratch.old (Ack tree)) core.old }
+    requires none { OpensNone (doing_meant plan.doing scratch.old) }
+    ensures done { OnOk result (IsMeantDone (meant_with plan scratch.old (Ack tree)) scratch.old core.old core.new) }
+    ensures err { OnErr result (core.new ≡ core.old) }
+    ensures out { out_in scratch.new ≡ out_in scratch.old }
+    ensures calls { scratch.new.calls ≡ scratch.old.calls }
+{
+    change_votes(&mut core.locks, &mut core.refusals, plan.votes, scratch)?;
+    do_parts(alloc, &mut core.parts, plan.doing, scratch);
+    core.parts.homes.acked(tree);
+    hear_of(&mut core.epoch, plan.epoch);
+    Ok(())
+}
+
+/// Counts a request of version `v` to each of these nodes.
+fn ask_each(counters: &mut Counters, v: Version, nodes: &[NodeNo])
+    requires from { (counts_of counters.old).low ≤ v.0 }
+    requires up_to { v.0 ≤ (counts_of counters.old).low + 2 }
+    requires nodes { All (λ q. q.0 < (counts_of counters.old).nodes) nodes.now }
+    requires below { (q : ℕ) → (counts_of counters.old).numbers.asked v.0 q + length nodes.now ≤ 2 ^ 63 }
+    ensures { counts_of counters.new
+        ≡ with_asked v.0 (numbers_of_nodes nodes.now) (counts_of counters.old) }
+{
+    for node in nodes {
+        counters.asked(v, *node);
+    }
+}
+
+/// An answer is held, and then the rest is done that is planned, where no tree is to be opened. Where no memory is found
+/// the node is as it was.
+fn do_hold(
+    alloc: Global,
+    core: &mut NodeCore,
+    plan: Plan,
+    tree: TreeNo,
+    version: Version,
+    scratch: &mut Scratch,
+) -> Result<(), NoMemory>
+    requires may { MayDoCore (meant_with plan scratch.old (holding tree version scratch.old)) core.old }
+    requires none { OpensNone (doing_meant plan.doing scratch.old) }
+    ensures done { OnOk result
+        (IsMeantDone (meant_with plan scratch.old (holding tree version scratch.old)) scratch.old core.old core.new) }
+    ensures err { OnErr result (core.new ≡ core.old) }
+    ensures out { out_in scratch.new ≡ out_in scratch.old }
+    ensures calls { scratch.new.calls ≡ scratch.old.calls }
+{
+    let values = mem::replace(&mut scratch.held, Values::new(alloc));
+    let answered = Answered {
+        tree,
+        version,
+        values,
+    };
+    core.parts
+        .homes
+        .hold(answered, scratch.told.items().len() as u32)?;
+    if let Err(refused) = change_votes(&mut core.locks, &mut core.refusals, plan.votes, scratch) {
+        core.parts.homes.take_back(tree);
+        return Err(refused);
+    }
+    do_parts(alloc, &mut core.parts, plan.doing, scratch);
+    ask_each(&mut core.parts.counters, version, scratch.told.items());
+    hear_of(&mut core.epoch, plan.epoch);
+    Ok(())
+}
+
+/// Does what is planned, where no tree is to be opened. Where no memory is found the node is as it was.
+#[inline(always)]
+fn do_holds(
+    alloc: Global,
+    core: &mut NodeCore,
+    plan: Plan,
+    scratch: &mut Scratch,
+) -> Result<(), NoMemory>
+    requires may { MayDoCore (core_meant plan scratch.old) core.old }
+    requires none { OpensNone (doing_meant plan.doing scratch.old) }
+    ensures done { OnOk result (IsMeantDone (core_meant plan scratch.old) scratch.old core.old core.new) }
+    ensures err { OnErr result (core.new ≡ core.old) }
+    ensures out { out_in scratch.new ≡ out_in scratch.old }
+    ensures calls { scratch.new.calls ≡ scratch.old.calls }
+{
+    match plan.holds {
+        HoldPlan::Stay => do_still(alloc, core, plan, scratch),
+        HoldPlan::Hold { tree, version } => do_hold(alloc, core, plan, tree, version, scratch),
+        HoldPlan::Ack(tree) => do_ack(alloc, core, plan, tree, scratch),
+    }
+}
+
+/// The tree that is to be opened, if one is.
+#[inline(always)]
+fn opening_by(doing: Doing) -> Option<Opening>
+    ensures { result ≡ opening_by doing }
+{
+    match doing {
+        Doing::Tree(plan) => match plan.home {
+            HomePlan::Open { subs, version } => Some(Opening {
+                tree: plan.tree,
+                subs,
+                version,
+            }),
+            _ => None,
+        },
+        _ => None,
+    }
+}
+
+/// What is left to do once the tree is open: its root's notice is taken down.
+#[inline(always)]
+fn once_open(plan: Plan) -> Plan
+    ensures { result ≡ plan_once_open plan }
+{
+    match plan.doing {
+        Doing::Tree(tree) => match tree.home {
+            HomePlan::Open { .. } => Plan {
+                doing: Doing::Tree(TreePlan {
+                    sub: SubNo(0),
+                    home: HomePlan::Note,
+                    ..tree
+                }),
+                ..plan
+            },
+            _ => plan,
+        },
+        _ => plan,
+    }
+}
+
+/// Opens a tree, and then does the rest that is planned. Where no memory is found the node is as it was.
+fn do_open(
+    alloc: Global,
+    core: &mut NodeCore,
+    opening: Opening,
+    plan: Plan,
+    scratch: &mut Scratch,
+) -> Result<(), NoMemory>
+    requires may { MayDoCore (core_meant plan scratch.old) core.old }
+    requires opens { opening_by plan.doing ≡ Some opening }
+    ensures done { OnOk result (IsMeantDone (core_meant plan scratch.old) scratch.old core.old core.new) }
+    ensures err { OnErr result (core.new ≡ core.old) }
+    ensures out { out_in scratch.new ≡ out_in scratch.old }
+    ensures calls { scratch.new.calls ≡ scratch.old.calls }
+{
+    let Opening {
+        tree,
+        subs,
+        version,
+    } = opening;
+    core.parts.homes.begin(tree, subs, version)?;
+    match do_holds(alloc, core, once_open(plan), scratch) {
+        Ok(()) => Ok(()),
+        Err(refused) => {
+            core.parts.homes.forget(tree);
+            Err(refused)
+        }
+    }
+}
+
+/// Does what is planned; what goes out stays in the scratch. The first calls alone may need memory: to open a tree, to
+/// hold an answer, for locks and noes. Where they find none the node is as it was.
+#[inline(always)]
+pub fn do_plan(
+    alloc: Global,
+    core: &mut NodeCore,
+    plan: Plan,
+    scratch: &mut Scratch,
+) -> Result<(), NoMemory>
+    requires { MayDoCore (core_meant plan scratch.old) core.old }
+    ensures done { OnOk result (IsMeantDone (core_meant plan scratch.old) scratch.old core.old core.new) }
+    ensures err { OnErr result (core.new ≡ core.old) }
+    ensures out { out_in scratch.new ≡ out_in scratch.old }
+    ensures calls { scratch.new.calls ≡ scratch.old.calls }
+{
+    match opening_by(plan.doing) {
+        None => do_holds(alloc, core, plan, scratch),
+        Some(opening) => do_open(alloc, core, opening, plan, scratch),
+    }
+}

@@ -1,0 +1,143 @@
+// What a step is to do: a plan, and a scratch with all that takes memory.
+ghost use Rattle.std.specs.Prelude.{◌≡◌};
+ghost use Rattle.tree_step.specs.Meant.{IsEmpty, out_in};
+
+use crate::core_change::Visited;
+use crate::counting::Counting;
+use commute_ops::Values;
+use item_versions::Staged;
+use letter_types::{Acts, Body, Boxed, Letter, Letters, StepOut};
+use nc_locks::WantedLocks;
+use std::alloc::Global;
+use std::mem;
+use tv_base::{SubNo, TreeNo, Version};
+use world_model::Refusal;
+
+/// What the home of a tree does. The values of a notice are in the scratch.
+#[derive(Clone, Copy)]
+pub enum HomePlan {
+    /// The open trees stay.
+    Stay,
+    /// A tree of so many subtransactions, more than one, is opened, and its root's notice taken down.
+    Open { subs: u32, version: Version },
+    /// A notice that is missing is taken down, where another is missing too.
+    Note,
+    /// The tree is answered, and goes.
+    Forget,
+}
+
+/// What a node does for a subtransaction, or for a notice of one. What is staged is in the scratch.
+#[derive(Clone, Copy)]
+pub struct TreePlan {
+    pub tree: TreeNo,
+    pub sub: SubNo,
+    /// Whether the update version is raised to the version that is counted in.
+    pub raises: bool,
+    pub counting: Counting,
+    pub home: HomePlan,
+}
+
+/// What a node's parts do.
+#[derive(Clone, Copy)]
+pub enum Doing {
+    /// Nothing.
+    Still,
+    /// A subtransaction is done, or a notice is brought.
+    Tree(TreePlan),
+    /// The update version is raised, where it is less.
+    Turn(Version),
+    /// A version is shown to reads.
+    Show(Version),
+    /// Every item is collected to a version, which is the low version then.
+    Sweep(Version),
+}
+
+/// What becomes of locks, or of the noes.
+#[derive(Clone, Copy)]
+pub enum VotePlan {
+    /// All stay.
+    Stay,
+    /// A tree takes the locks that the scratch wants.
+    Take(TreeNo),
+    /// The locks of a tree go.
+    Free(TreeNo),
+    /// A tree has the no in the scratch, in place of the one before.
+    Note(TreeNo),
+    /// A tree has no no any more.
+    Drop(TreeNo),
+}
+
+/// What becomes of the answers that are held.
+#[derive(Clone, Copy)]
+pub enum HoldPlan {
+    /// All stay.
+    Stay,
+    /// The answer of a tree, of the values in the scratch, is held until each node that the scratch tells has
+    /// acknowledged the decision. A request of this version to each is counted.
+    Hold { tree: TreeNo, version: Version },
+    /// An acknowledgement of a tree is taken down whose answer is held.
+    Ack(TreeNo),
+}
+
+/// What a node is to do.
+#[derive(Clone, Copy)]
+pub struct Plan {
+    pub doing: Doing,
+    pub votes: VotePlan,
+    pub holds: HoldPlan,
+    /// The epoch of which it hears, if it hears of one.
+    pub epoch: Option<u64>,
+}
+
+/// What a step makes, in places that are used again.
+#[derive(Drop)]
+pub struct Scratch {
+    pub staged: Staged,
+    /// Of a notice.
+    pub values: Values,
+    /// Of an answer that is to be held.
+    pub held: Values,
+    pub told: Visited,
+    pub wanted: WantedLocks,
+    pub refusal: Option<Refusal>,
+    /// That came, and is to be kept.
+    pub letter: Option<Letter>,
+    /// What it wakes is to be called.
+    pub calls: Option<Boxed<Body>>,
+    pub sent: Letters,
+    pub acts: Acts,
+}
+
+/// A scratch with nothing in it.
+pub fn new_scratch(alloc: Global) -> Scratch
+    ensures { IsEmpty result }
+{
+    Scratch {
+        staged: Staged::new(alloc),
+        values: Values::new(alloc),
+        held: Values::new(alloc),
+        told: Visited::new(alloc),
+        wanted: WantedLocks::new(alloc),
+        refusal: None,
+        letter: None,
+        calls: None,
+        sent: Letters::new(alloc),
+        acts: Acts::new(alloc),
+    }
+}
+
+/// Takes what goes out out of a scratch, in which nothing is left.
+pub fn take_out(alloc: Global, scratch: &mut Scratch) -> StepOut
+    ensures out { result ≡ out_in scratch.old }
+    ensures empty { IsEmpty scratch.new }
+{
+    let Scratch { sent, acts, .. } = mem::replace(scratch, new_scratch(alloc));
+    StepOut { sent, acts }
+}
+
+/// Leaves nothing in a scratch.
+pub fn wipe(alloc: Global, scratch: &mut Scratch)
+    ensures { IsEmpty scratch.new }
+{
+    *scratch = new_scratch(alloc);
+}
