@@ -74,14 +74,14 @@ IsNoteStep s r notice n p = IsCoreStepOf (note_core s r.from.0 r.tree r.sub r.ve
 
 -- what is counted once requests of version v are to go to these nodes, once the root of a tree is done, and once another
 -- subtransaction is
-abbrev pub with_asked : ℕ → List ℕ → Counts → Counts
-with_asked v qs k = record k { numbers = asked_all v qs k.numbers }
+abbrev pub asked_counts : ℕ → List ℕ → Counts → Counts
+asked_counts v qs k = record k { numbers = asked_all v qs k.numbers }
 
-abbrev pub with_root : ℕ → ℕ → List Outgoing → Counts → Counts
-with_root v p children k = record k { numbers = counted_root v p children k.numbers }
+abbrev pub asked_by_root : ℕ → ℕ → List Outgoing → Counts → Counts
+asked_by_root v p children k = record k { numbers = counted_root v p children k.numbers }
 
-abbrev pub with_sub : ℕ → ℕ → List Outgoing → Counts → Counts
-with_sub v from sent k = record k { numbers = counted_sub v from sent k.numbers }
+abbrev pub asked_by_sub : ℕ → ℕ → List Outgoing → Counts → Counts
+asked_by_sub v from sent k = record k { numbers = counted_sub v from sent k.numbers }
 
 -- a letter is free: it is due, and of its tree no answer is held
 abbrev pub is_free_at : ScriptData → Letter → NodeParts → Bool

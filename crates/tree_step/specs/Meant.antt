@@ -41,14 +41,14 @@ use Rattle.tree_step.specs.declared.plan.Plan.{Plan}
 use Rattle.tree_step.specs.declared.plan.Scratch.{Scratch}
 
 -- what the home does
-abbrev pub home_by : TreePlan → Gets → HomePlan → HomeChange
-home_by p values home_plans.Stay = homes.Stay
-home_by p values (home_plans.Open n v) = homes.Open p.tree n v values
-home_by p values home_plans.Note = homes.Note p.tree p.sub values
-home_by p values home_plans.Forget = homes.Forget p.tree
+abbrev pub home_planned : TreePlan → Gets → HomePlan → HomeChange
+home_planned p values home_plans.Stay = homes.Stay
+home_planned p values (home_plans.Open n v) = homes.Open p.tree n v values
+home_planned p values home_plans.Note = homes.Note p.tree p.sub values
+home_planned p values home_plans.Forget = homes.Forget p.tree
 
 abbrev pub home_meant : TreePlan → Gets → HomeChange
-home_meant p values = home_by p values p.home
+home_meant p values = home_planned p values p.home
 
 -- what a node does for a subtransaction or a notice
 abbrev pub tree_meant : TreePlan → Scratch → TreeChange
@@ -91,12 +91,12 @@ votes_meant (vote_plans.Note t) x = noted_by t x.refusal
 votes_meant (vote_plans.Drop t) x = votes.Drop t
 
 -- what becomes of held answers
-abbrev pub holding : TreeNo → Version → Scratch → HoldChange
-holding t v x = holds.Hold (record { tree = t; version = v; values = x.held }) x.told
+abbrev pub held_by : TreeNo → Version → Scratch → HoldChange
+held_by t v x = holds.Hold (record { tree = t; version = v; values = x.held }) x.told
 
 abbrev pub holds_meant : HoldPlan → Scratch → HoldChange
 holds_meant hold_plans.Stay x = holds.Stay
-holds_meant (hold_plans.Hold t v) x = holding t v x
+holds_meant (hold_plans.Hold t v) x = held_by t v x
 holds_meant (hold_plans.Ack t) x = holds.Ack t
 
 -- the step, where this becomes of them
@@ -111,10 +111,6 @@ meant_with p x h = record {
 -- the step
 abbrev pub core_meant : Plan → Scratch → CorePrepared
 core_meant p x = meant_with p x (holds_meant p.holds x)
-
--- a plan and a scratch are this row of a node, and the node may do it
-abbrev pub IsPlanned : Out Core → NodeCore → Plan → Scratch → Type 0
-IsPlanned o n p x = IsCoreStepOf o n (core_meant p x)
 
 -- nothing is in the scratch
 abbrev pub IsEmpty : Scratch → Type 0
@@ -132,8 +128,8 @@ IsEmpty x = x ≡ record {
 }
 
 -- a step that a plan and a scratch mean was done: the node before it and after it
-abbrev pub IsMeantDone : CorePrepared → Scratch → NodeCore → NodeCore → Type 0
-IsMeantDone p x old new = IsCoreDone (core_prepared_row p (core_of old)) old new (Ok (out_in x))
+abbrev pub IsStepDone : CorePrepared → Scratch → NodeCore → NodeCore → Type 0
+IsStepDone p x old new = IsCoreDone (core_prepared_row p (core_of old)) old new (Ok (out_in x))
 
 -- the same of a node's parts
 abbrev pub IsDoingDone : Doing → Scratch → NodeParts → NodeParts → Type 0

@@ -7,9 +7,9 @@ ghost use Rattle.tree_step.specs.Changes.{home_after, MayDo, MayHome, OpensNone,
 ghost use Rattle.tree_step.specs.declared.change.Change.TheVariants.{Tree};
 ghost use Rattle.tree_step.specs.declared.core_change.HoldChange.TheVariants.{Stay, Ack};
 ghost use Rattle.tree_step.specs.CoreChanges.{MayDoCore, epoch_with, numbers_of_nodes};
-ghost use Rattle.tree_step.specs.Meant.{core_meant, doing_meant, holding, home_meant, IsDoingDone, IsMeantDone, locks_meant, meant_with, out_in, refusals_meant, tree_meant};
+ghost use Rattle.tree_step.specs.Meant.{core_meant, doing_meant, held_by, home_meant, IsDoingDone, IsStepDone, locks_meant, meant_with, out_in, refusals_meant, tree_meant};
 ghost use Rattle.tree_step.specs.inside.PlanOpening.{opening_by, plan_once_open};
-ghost use Rattle.tree_step.specs.AtNode.{with_asked};
+ghost use Rattle.tree_step.specs.AtNode.{asked_counts};
 
 use crate::change::raise_if;
 use crate::core_change::Opening;
@@ -137,7 +137,7 @@ fn do_still(
 ) -> Result<(), NoMemory>
     requires may { MayDoCore (meant_with plan scratch.old Stay) core.old }
     requires none { OpensNone (doing_meant plan.doing scratch.old) }
-    ensures done { OnOk result (IsMeantDone (meant_with plan scratch.old Stay) scratch.old core.old core.new) }
+    ensures done { OnOk result (IsStepDone (meant_with plan scratch.old Stay) scratch.old core.old core.new) }
     ensures err { OnErr result (core.new ≡ core.old) }
     ensures out { out_in scratch.new ≡ out_in scratch.old }
     ensures calls { scratch.new.calls ≡ scratch.old.calls }
@@ -159,7 +159,7 @@ fn do_ack(
 ) -> Result<(), NoMemory>
     requires may { MayDoCore (meant_with plan scratch.old (Ack tree)) core.old }
     requires none { OpensNone (doing_meant plan.doing scratch.old) }
-    ensures done { OnOk result (IsMeantDone (meant_with plan scratch.old (Ack tree)) scratch.old core.old core.new) }
+    ensures done { OnOk result (IsStepDone (meant_with plan scratch.old (Ack tree)) scratch.old core.old core.new) }
     ensures err { OnErr result (core.new ≡ core.old) }
     ensures out { out_in scratch.new ≡ out_in scratch.old }
     ensures calls { scratch.new.calls ≡ scratch.old.calls }
@@ -178,7 +178,7 @@ fn ask_each(counters: &mut Counters, v: Version, nodes: &[NodeNo])
     requires nodes { All (λ q. q.0 < (counts_of counters.old).nodes) nodes.now }
     requires below { (q : ℕ) → (counts_of counters.old).numbers.asked v.0 q + length nodes.now ≤ 2 ^ 63 }
     ensures { counts_of counters.new
-        ≡ with_asked v.0 (numbers_of_nodes nodes.now) (counts_of counters.old) }
+        ≡ asked_counts v.0 (numbers_of_nodes nodes.now) (counts_of counters.old) }
 {
     for node in nodes {
         counters.asked(v, *node);
@@ -195,10 +195,10 @@ fn do_hold(
     version: Version,
     scratch: &mut Scratch,
 ) -> Result<(), NoMemory>
-    requires may { MayDoCore (meant_with plan scratch.old (holding tree version scratch.old)) core.old }
+    requires may { MayDoCore (meant_with plan scratch.old (held_by tree version scratch.old)) core.old }
     requires none { OpensNone (doing_meant plan.doing scratch.old) }
     ensures done { OnOk result
-        (IsMeantDone (meant_with plan scratch.old (holding tree version scratch.old)) scratch.old core.old core.new) }
+        (IsStepDone (meant_with plan scratch.old (held_by tree version scratch.old)) scratch.old core.old core.new) }
     ensures err { OnErr result (core.new ≡ core.old) }
     ensures out { out_in scratch.new ≡ out_in scratch.old }
     ensures calls { scratch.new.calls ≡ scratch.old.calls }
@@ -232,7 +232,7 @@ fn do_holds(
 ) -> Result<(), NoMemory>
     requires may { MayDoCore (core_meant plan scratch.old) core.old }
     requires none { OpensNone (doing_meant plan.doing scratch.old) }
-    ensures done { OnOk result (IsMeantDone (core_meant plan scratch.old) scratch.old core.old core.new) }
+    ensures done { OnOk result (IsStepDone (core_meant plan scratch.old) scratch.old core.old core.new) }
     ensures err { OnErr result (core.new ≡ core.old) }
     ensures out { out_in scratch.new ≡ out_in scratch.old }
     ensures calls { scratch.new.calls ≡ scratch.old.calls }
@@ -293,7 +293,7 @@ fn do_open(
 ) -> Result<(), NoMemory>
     requires may { MayDoCore (core_meant plan scratch.old) core.old }
     requires opens { opening_by plan.doing ≡ Some opening }
-    ensures done { OnOk result (IsMeantDone (core_meant plan scratch.old) scratch.old core.old core.new) }
+    ensures done { OnOk result (IsStepDone (core_meant plan scratch.old) scratch.old core.old core.new) }
     ensures err { OnErr result (core.new ≡ core.old) }
     ensures out { out_in scratch.new ≡ out_in scratch.old }
     ensures calls { scratch.new.calls ≡ scratch.old.calls }
@@ -323,7 +323,7 @@ pub fn do_plan(
     scratch: &mut Scratch,
 ) -> Result<(), NoMemory>
     requires { MayDoCore (core_meant plan scratch.old) core.old }
-    ensures done { OnOk result (IsMeantDone (core_meant plan scratch.old) scratch.old core.old core.new) }
+    ensures done { OnOk result (IsStepDone (core_meant plan scratch.old) scratch.old core.old core.new) }
     ensures err { OnErr result (core.new ≡ core.old) }
     ensures out { out_in scratch.new ≡ out_in scratch.old }
     ensures calls { scratch.new.calls ≡ scratch.old.calls }

@@ -17,8 +17,8 @@ use Rattle.tree_step.specs.declared.counting.Counting.{Counting}
 abbrev pub children_of : Request → List Sub → List Outgoing
 children_of r subs = sub_letters r.tree.0 r.version.0 r.sub.0 0 subs
 
-abbrev pub done_of : NodeNo → Request → Notice → Outgoing
-done_of home r notice = done_letter home.0 r.tree.0 r.sub.0 r.version.0 notice
+abbrev pub done_to : NodeNo → Request → Notice → Outgoing
+done_to home r notice = done_letter home.0 r.tree.0 r.sub.0 r.version.0 notice
 
 -- its acts: it raises the node's update version, if it does, and has its turn
 abbrev pub sub_acts : Request → Bool → Notice → List Act

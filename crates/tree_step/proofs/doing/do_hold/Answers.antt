@@ -17,7 +17,7 @@ use Rattle.tree_step.specs.declared.core_change.VoteChange.{VoteChange}
 use Rattle.tree_step.proofs.Asking.{room_after}
 use Rattle.tree_step.proofs.Stepped.{apart, asked_node, asked_window, may_same, same_open, stepped, with_counters, with_homes}
 use Rattle.tree_step.proofs.Undone.{unheld}
-use Rattle.tree_step.specs.Meant.{doing_meant, holding, meant_with, out_in, parts_meant}
+use Rattle.tree_step.specs.Meant.{doing_meant, held_by, meant_with, out_in, parts_meant}
 use Rattle.tree_step.proofs.HeldAside.{same_doing, same_votes}
 use Rattle.tree_step.proofs.doing.do_hold.Goals as goal
 
@@ -59,7 +59,7 @@ returns-clause-done c =
     let d = c.args.plan.doing in
     let n = c.args.core.now in
     let out = out_in x in
-    let p = meant_with c.args.plan x (holding c.args.tree c.args.version x) in
+    let p = meant_with c.args.plan x (held_by c.args.tree c.args.version x) in
     let done = c.do_parts.ensures.done in
     let mid = c.do_parts.new.parts in
     let parts = with_counters c.ask_each.new.counters mid in
