@@ -1,17 +1,24 @@
 -- A row that passes its conditions.
-use Rattle.std.proofs.Common.{◌≡◌, ◌<◌, ◌≤◌, ◌^◌, ◌∙◌, ℕ, Bool, true, false, List, [], ◌∷◌, length, Option, Some, None, Result, Ok, Err, refl, sym, ap, arith, inl, inr, to_z, of_z}
-use Rattle.std.specs.Prelude.{nat_le, min, ℤ, is_some, unsigned_abs, IsErrAnd, ◌⊎◌}
+use Rattle.std.proofs.Common.{◌≡◌, ◌<◌, ◌≤◌, ◌^◌, ◌∙◌, ℕ, Bool, true, false, List, [], ◌∷◌, length, Option, Some, None, Result, Ok, Err, refl, sym, subst, ap, arith, inl, inr, to_z, of_z}
+use Rattle.std.specs.Map.{lookup}
+use Rattle.std.specs.Str.{IsAscii, IsUtf8, bytes_eq}
+use Rattle.std.proofs.lemmas.Slice.Eq.{bytes_eq-Decides}
+use Rattle.std.proofs.lemmas.Str.{IsUtf8-from_ascii}
+use Rattle.std.proofs.lemmas.Str.Ascii.{IsAscii-cons, IsAscii-nil}
+use Rattle.tv_base.proofs.Truths.{left_true, right_true}
+use Rattle.std.specs.Prelude.{codes, find, nat_le, nat_lt, min, not, ◌&&◌, ◌==◌, ℤ, unsigned_abs, IsErrAnd, ◌⊎◌}
 use Rattle.std.specs.Int.{w128}
 use Rattle.std.specs.List.{AllByRecursion}
-use Rattle.std.proofs.lemmas.Bool.{cases_lt, le-leb, lt-leb}
+use Rattle.std.proofs.lemmas.Bool.{cases_lt, le-leb, lt-leb, ltb-true}
 use Rattle.std.proofs.lemmas.Int.{fits_signed_from_abs, to_z-of_z}
 use Rattle.std.proofs.lemmas.Option.{cond_some}
 use Rattle.commute_ops.specs.declared.kinds.Kind.{Kind}
+use Rattle.commute_ops.specs.declared.kinds.Kind.TheVariants as kinds
 use Rattle.tv_base.specs.declared.numbers.NodeNo.{NodeNo}
 use Rattle.tx_trees.specs.ScriptData.{ScriptData}
 use Rattle.tx_trees.specs.Valid.{IsTree, IsValid}
-use Rattle.tx_trees.specs.Adding.{last_may_fail, puts_undone, Steps, adds_item, adds_op, adds_sub, adds_tree, last_subs, place_of}
-use Rattle.tx_trees.specs.Names.{has_name_len, is_name}
+use Rattle.tx_trees.specs.Adding.{last_may_fail, puts_undone, Steps, adds_op, adds_sub, adds_tree, last_subs, taken_unless}
+use Rattle.tx_trees.specs.Names.{has_name_len}
 use Rattle.tx_trees.specs.Ranges.{is_in_range}
 use Rattle.tx_trees.specs.declared.parts.Deed.{Deed}
 use Rattle.tx_trees.specs.declared.parts.Deed.TheVariants as deeds
@@ -27,9 +34,9 @@ use Rattle.tx_trees.specs.declared.why.Refusal.TheVariants as refusals
 use Rattle.script_reader.specs.Numbers.{amount_value, is_amount, is_number}
 use Rattle.tv_base.specs.Digits.{decimal_value}
 use Rattle.script_reader.specs.inside.Numbers.{amount_of, number_spelled}
-use Rattle.script_reader.specs.Rows.{adds_item_of, amount_row, by_word, deed_of, fail_row, field, item_of, item_row, later_form, later_row, node_no, op_row, starts, sub_row, tree_row}
-use Rattle.script_reader.specs.inside.Rows.{Leaves}
-use Rattle.script_reader.specs.Words.{if_word, kind_of, later_word, len_fits, may_follow, word_of}
+use Rattle.script_reader.specs.Rows.{amount_row, and_then, deed_of, fail_row, field, item_of, item_row, later_form, later_row, node_no, op_row, row_word_of, sub_row, tree_row}
+use Rattle.script_reader.specs.inside.Rows.{Leaves, row_by}
+use Rattle.script_reader.specs.Words.{RowShape, is_second, kind_of, kind_word, may_follow, row_words}
 use Rattle.script_reader.specs.declared.words.OpWord.{OpWord}
 use Rattle.script_reader.specs.declared.words.RowWord.{RowWord}
 use Rattle.script_reader.specs.declared.words.RowWord.TheVariants as words
@@ -61,15 +68,6 @@ passed_as v h =
     let small : unsigned_abs v < 170141183460469231731687303715884105728 = omega (arith, h) in
     to_z-of_z w128 v (fits_signed_from_abs w128 v small)
 
--- an item that passes its conditions is added
-pub item_of_is : (s : ScriptData) (name m : List ℕ) (n : ℕ) (o : Option Kind) (k : Kind) (a : ℤ) → o ≡ Some k → n < s.nodes → starts s.form o a ≡ true → is_name name ≡ true → m ≡ name → is_some (place_of m s.items) ≡ false
-    → item_of s name n o a ≡ adds_item s (let r : ItemRow = record { name = m; node = node_no n; kind = k; initial = a } in r)
-item_of_is s name m n o k a kind low start named same free =
-    let few : nat_le s.nodes n ≡ false = lt-leb s.nodes n low in
-    let alone : is_some (place_of name s.items) ≡ false = ap (λ (x : List ℕ). is_some (place_of x s.items)) (sym same) ∙ free in
-    let passes : item_of s name n o a ≡ adds_item_of s name n o a = rw (few, start, named, alone) refl in
-    passes ∙ rw (kind, same) refl
-
 -- an item row whose numbers are read
 pub item_row_is : (s : ScriptData) (name node kind initial : List ℕ) (n : ℕ) (k : Option Kind) (a : ℤ) → Some n ≡ number_spelled node → k ≡ kind_of kind → Some a ≡ amount_of initial
     → item_row s name node kind initial ≡ item_of s name n k a
@@ -79,13 +77,11 @@ item_row_is s name node kind initial n k a hn hk ha =
     let passes : item_row s name node kind initial ≡ item_of s name (decimal_value node) (kind_of kind) (amount_value initial) = rw (b.0, d.0) refl in
     passes ∙ rw (b.1, d.1, hk) refl
 
--- a tree row that passes its conditions begins a tree
-pub tree_row_is : (s : ScriptData) (kind : TreeKind) (name node m : List ℕ) (n : ℕ) → Some n ≡ number_spelled node → n < s.nodes → is_name name ≡ true → m ≡ name
-    → tree_row s kind name node ≡ adds_tree s m kind (node_no n)
-tree_row_is s kind name node m n hn low named same =
+-- a tree row whose number is read begins a tree
+pub tree_row_is : (s : ScriptData) (kind : TreeKind) (name node m : List ℕ) (n : ℕ) → Some n ≡ number_spelled node → m ≡ name → tree_row s kind name node ≡ adds_tree s m kind (node_no n)
+tree_row_is s kind name node m n hn same =
     let a = number_is node n (sym hn) in
-    let few : nat_le s.nodes n ≡ false = lt-leb s.nodes n low in
-    rw (same, a.0, named, a.1, few) refl
+    rw (same, a.0, a.1) refl
 
 -- the last tree has few subtransactions
 few_last : (n : ℕ) (items : List ItemRow) (ts : List Tree) → AllByRecursion (IsTree n items) ts → last_subs ts ≤ 64
@@ -108,18 +104,17 @@ clamped p q e = elim (cases_lt p 4294967296) [
   | inr above ↦ inr (omega arith, omega (arith, e))
 ]
 
--- a `sub` row that passes its conditions adds one
-pub sub_row_is : (s : ScriptData) (parent node : List ℕ) (p n q : ℕ) → Some p ≡ number_spelled parent → Some n ≡ number_spelled node → n < s.nodes → IsValid s → (q ≡ p) ⊎ ((64 ≤ p) × (64 ≤ q))
+-- a `sub` row whose numbers are read adds a subtransaction
+pub sub_row_is : (s : ScriptData) (parent node : List ℕ) (p n q : ℕ) → Some p ≡ number_spelled parent → Some n ≡ number_spelled node → IsValid s → (q ≡ p) ⊎ ((64 ≤ p) × (64 ≤ q))
     → sub_row s parent node ≡ adds_sub s q (node_no n)
-sub_row_is s parent node p n q hp hn low valid same =
+sub_row_is s parent node p n q hp hn valid same =
     let a = number_is parent p (sym hp) in
     let b = number_is node n (sym hn) in
-    let few : nat_le s.nodes n ≡ false = lt-leb s.nodes n low in
     let is : adds_sub s p (node_no n) ≡ adds_sub s q (node_no n) = elim same [
       | inl e ↦ ap (λ (x : ℕ). adds_sub s x (node_no n)) (sym e)
       | inr great ↦ too_great s p q (node_no n) valid great.0 great.1
     ] in
-    let passes : sub_row s parent node ≡ adds_sub s p (node_no n) = rw (a.0, b.0, a.1, b.1, few) refl in
+    let passes : sub_row s parent node ≡ adds_sub s p (node_no n) = rw (a.0, b.0, a.1, b.1) refl in
     passes ∙ is
 
 -- an operation that passes its conditions is added
@@ -138,12 +133,21 @@ amount_row_is s word item bytes a deed ha hd =
     passes ∙ ap (op_row s item) (sym hd)
 
 -- what a row is, by what the code read of it
-pub later_is : (s : ScriptData) (fields : List (List ℕ)) (f : Form) (word : List ℕ) (w : RowWord) (n : ℕ) (fits : Bool) → f ≡ s.form → word ≡ field fields 0 → Some w ≡ later_word f word → fits ≡ len_fits w n → n ≡ length fields → fits ≡ true
-    → later_row s fields ≡ later_form s fields w
-later_is s fields f word w n fits same_form is hw hf hn good =
-    let e : later_word s.form (field fields 0) ≡ Some w = ap (later_word s.form) (sym is) ∙ ap (λ (g : Form). later_word g word) (sym same_form) ∙ sym hw in
-    let same : len_fits w (length fields) ≡ true = ap (len_fits w) (sym hn) ∙ sym hf ∙ good in
-    ap (λ (o : Option RowWord). by_word fields o (later_form s fields)) e ∙ rw same refl
+pub row_is : (may : RowWord → Bool) (fields : List (List ℕ)) (word : List ℕ) (n : ℕ) (found : Option RowShape) (r : Result RowWord Why) → word ≡ field fields 0 → n ≡ length fields → found ≡ lookup (bytes_eq word) row_words → r ≡ row_by may n found
+    → r ≡ row_word_of may fields
+row_is may fields word n found r hw hn hf hr =
+    hr ∙ ap (λ (k : ℕ). row_by may k found) hn
+    ∙ ap (row_by may (length fields)) (hf ∙ ap (λ (w : List ℕ). lookup (bytes_eq w) row_words) hw)
+
+pub later_is : (s : ScriptData) (fields : List (List ℕ)) (f : Form) (w : RowWord) → f ≡ s.form → Ok w ≡ row_word_of (may_follow f) fields → later_row s fields ≡ later_form s fields w
+later_is s fields f w same is =
+    ap (λ (g : Form). and_then (row_word_of (may_follow g) fields) (later_form s fields)) (sym same)
+    ∙ ap (λ (r : Result RowWord Why). and_then r (later_form s fields)) (sym is)
+
+pub later_refused : (s : ScriptData) (fields : List (List ℕ)) (f : Form) (w : Why) → f ≡ s.form → Err w ≡ row_word_of (may_follow f) fields → later_row s fields ≡ Err w
+later_refused s fields f w same is =
+    ap (λ (g : Form). and_then (row_word_of (may_follow g) fields) (later_form s fields)) (sym same)
+    ∙ ap (λ (r : Result RowWord Why). and_then r (later_form s fields)) (sym is)
 
 -- an item row, by its fields
 pub item_form_is : (s : ScriptData) (fields : List (List ℕ)) (w : RowWord) (a b c d : List ℕ) → w ≡ words.Item → a ≡ field fields 1 → b ≡ field fields 2 → c ≡ field fields 3 → d ≡ field fields 4
@@ -158,45 +162,32 @@ amount_form_is s fields w word a b is ha hb = rw (is, ha, hb) refl
 pub get_form_is : (s : ScriptData) (fields : List (List ℕ)) (w : RowWord) (a : List ℕ) → w ≡ words.Get → a ≡ field fields 1 → later_form s fields w ≡ op_row s a deeds.Get
 get_form_is s fields w a is ha = rw (is, ha) refl
 
--- a `lose` row is read of a script of the second form alone
-no_lose : (f : Form) (o : Option RowWord) → if_word (may_follow f) o ≡ Some words.Lose → f ≡ forms.Two
-no_lose forms.Two o e = refl
-no_lose forms.One None e = absurd (cc e)
-no_lose forms.One (Some words.Lose) e = absurd (cc e)
-no_lose forms.One (Some words.Form) e = absurd (cc e)
-no_lose forms.One (Some words.Nodes) e = absurd (cc e)
-no_lose forms.One (Some words.Item) e = absurd (cc e)
-no_lose forms.One (Some (words.Tree k)) e = absurd (cc e)
-no_lose forms.One (Some words.Sub) e = absurd (cc e)
-no_lose forms.One (Some (words.Op o)) e = absurd (cc e)
-no_lose forms.One (Some words.Get) e = absurd (cc e)
-no_lose forms.One (Some words.Advance) e = absurd (cc e)
-no_lose forms.One (Some words.Settle) e = absurd (cc e)
-no_lose forms.One (Some words.Pick) e = absurd (cc e)
-no_lose forms.One (Some words.Fail) e = absurd (cc e)
+-- a row word that is read may follow
+passes : (c d : Bool) (w v : RowWord) → taken_unless ((c, why.UnknownRow) ∷ (d, why.WrongFields) ∷ []) w ≡ Ok v → (c ≡ false) × (w ≡ v)
+passes true d w v e = absurd (cc e)
+passes false true w v e = absurd (cc e)
+passes false false w v e = (refl, cc e)
 
-pub second_loses : (s : ScriptData) (fields : List (List ℕ)) (f : Form) (word : List ℕ) (w : RowWord) → f ≡ s.form → word ≡ field fields 0 → Some w ≡ later_word f word → w ≡ words.Lose → s.form ≡ forms.Two
-second_loses s fields f word w same is hw lose = sym same ∙ no_lose f (word_of word) (sym hw ∙ ap (λ (v : RowWord). Some v) lose)
+may_be : (may : RowWord → Bool) (n : ℕ) (o : Option RowShape) (v : RowWord) → row_by may n o ≡ Ok v → not (may v) ≡ false
+may_be may n None v e = absurd (cc e)
+may_be may n (Some (w, k)) v e =
+    let p = passes (not (may w)) (not (n == k)) w v e in
+    subst (λ (u : RowWord). not (may u) ≡ false) p.1 p.0
+
+may_follow_here : (fields : List (List ℕ)) (f : Form) (w : RowWord) → Ok w ≡ row_word_of (may_follow f) fields → not (may_follow f w) ≡ false
+may_follow_here fields f w is = may_be (may_follow f) (length fields) (lookup (bytes_eq (field fields 0)) row_words) w (sym is)
+
+-- a `lose` row is read of a script of the second form alone
+of_second : (f : Form) → not (is_second f) ≡ false → f ≡ forms.Two
+of_second forms.One e = absurd (cc e)
+of_second forms.Two e = refl
+
+pub second_loses : (s : ScriptData) (fields : List (List ℕ)) (f : Form) (w : RowWord) → f ≡ s.form → Ok w ≡ row_word_of (may_follow f) fields → w ≡ words.Lose → s.form ≡ forms.Two
+second_loses s fields f w same is lose = sym same ∙ of_second f (subst (λ (v : RowWord). not (may_follow f v) ≡ false) lose (may_follow_here fields f w is))
 
 -- nor is a `fail` row of one of the first
-no_fail : (f : Form) (o : Option RowWord) → if_word (may_follow f) o ≡ Some words.Fail → f ≡ forms.Two
-no_fail forms.Two o e = refl
-no_fail forms.One None e = absurd (cc e)
-no_fail forms.One (Some words.Lose) e = absurd (cc e)
-no_fail forms.One (Some words.Form) e = absurd (cc e)
-no_fail forms.One (Some words.Nodes) e = absurd (cc e)
-no_fail forms.One (Some words.Item) e = absurd (cc e)
-no_fail forms.One (Some (words.Tree k)) e = absurd (cc e)
-no_fail forms.One (Some words.Sub) e = absurd (cc e)
-no_fail forms.One (Some (words.Op o)) e = absurd (cc e)
-no_fail forms.One (Some words.Get) e = absurd (cc e)
-no_fail forms.One (Some words.Advance) e = absurd (cc e)
-no_fail forms.One (Some words.Settle) e = absurd (cc e)
-no_fail forms.One (Some words.Pick) e = absurd (cc e)
-no_fail forms.One (Some words.Fail) e = absurd (cc e)
-
-pub second_fails : (s : ScriptData) (fields : List (List ℕ)) (f : Form) (word : List ℕ) (w : RowWord) → f ≡ s.form → word ≡ field fields 0 → Some w ≡ later_word f word → w ≡ words.Fail → s.form ≡ forms.Two
-second_fails s fields f word w same is hw fails = sym same ∙ no_fail f (word_of word) (sym hw ∙ ap (λ (v : RowWord). Some v) fails)
+pub second_fails : (s : ScriptData) (fields : List (List ℕ)) (f : Form) (w : RowWord) → f ≡ s.form → Ok w ≡ row_word_of (may_follow f) fields → w ≡ words.Fail → s.form ≡ forms.Two
+second_fails s fields f w same is fails = sym same ∙ of_second f (subst (λ (v : RowWord). not (may_follow f v) ≡ false) fails (may_follow_here fields f w is))
 
 -- a `fail` row, by its field
 pub fail_form_is : (s : ScriptData) (fields : List (List ℕ)) (w : RowWord) (a : List ℕ) → w ≡ words.Fail → a ≡ field fields 1 → later_form s fields w ≡ fail_row s a
@@ -229,14 +220,6 @@ fail_wrong_kind s sub k hk begun earlier adds =
     let low : nat_le (last_subs s.trees) k ≡ false = lt-leb (last_subs s.trees) k earlier in
     rw (a.0, a.1, begun, low, adds) refl
 
--- a row that hasn't its number of fields
-pub later_wrong : (s : ScriptData) (fields : List (List ℕ)) (f : Form) (word : List ℕ) (w : RowWord) (n : ℕ) (fits : Bool) → f ≡ s.form → word ≡ field fields 0 → Some w ≡ later_word f word → fits ≡ len_fits w n → n ≡ length fields → fits ≡ false
-    → later_row s fields ≡ Err why.WrongFields
-later_wrong s fields f word w n fits same_form is hw hf hn bad =
-    let e : later_word s.form (field fields 0) ≡ Some w = ap (later_word s.form) (sym is) ∙ ap (λ (g : Form). later_word g word) (sym same_form) ∙ sym hw in
-    let same : len_fits w (length fields) ≡ false = ap (len_fits w) (sym hn) ∙ sym hf ∙ bad in
-    ap (λ (o : Option RowWord). by_word fields o (later_form s fields)) e ∙ rw same refl
-
 -- a tree row, by its fields
 pub tree_form_is : (s : ScriptData) (fields : List (List ℕ)) (w : RowWord) (kind : TreeKind) (a b : List ℕ) → w ≡ words.Tree kind → a ≡ field fields 1 → b ≡ field fields 2 → later_form s fields w ≡ tree_row s kind a b
 tree_form_is s fields w kind a b is ha hb = rw (is, ha, hb) refl
@@ -244,3 +227,36 @@ tree_form_is s fields w kind a b is ha hb = rw (is, ha, hb) refl
 -- a `sub` row, by its fields
 pub sub_form_is : (s : ScriptData) (fields : List (List ℕ)) (w : RowWord) (a b : List ℕ) → w ≡ words.Sub → a ≡ field fields 1 → b ≡ field fields 2 → later_form s fields w ≡ sub_row s a b
 sub_form_is s fields w a b is ha hb = rw (is, ha, hb) refl
+
+-- a field that is no text is none of the words
+abbrev ascii : List ℕ → Bool
+ascii [] = true
+ascii (b ∷ bs) = nat_lt b 128 && ascii bs
+
+is_ascii_text : (bs : List ℕ) → ascii bs ≡ true → IsAscii bs
+is_ascii_text [] e = IsAscii-nil
+is_ascii_text (b ∷ bs) e = IsAscii-cons b bs (ltb-true b 128 (left_true (nat_lt b 128) (ascii bs) e)) (is_ascii_text bs (right_true (nat_lt b 128) (ascii bs) e))
+
+other_word : (word w : List ℕ) → (IsUtf8 word → ⊥) → ascii w ≡ true → bytes_eq word w ≡ false
+other_word word w never plain = by (bytes_eq word w) refl
+  where
+    by : (b : Bool) → bytes_eq word w ≡ b → b ≡ false
+    by true is = absurd (never (subst IsUtf8 (sym ((bytes_eq-Decides word w).0 is)) (IsUtf8-from_ascii w (is_ascii_text w plain))))
+    by false is = refl
+
+abbrev all_ascii : List (List ℕ × RowShape) → Bool
+all_ascii [] = true
+all_ascii (e ∷ es) = ascii e.0 && all_ascii es
+
+no_text : (word : List ℕ) (es : List (List ℕ × RowShape)) → (IsUtf8 word → ⊥) → all_ascii es ≡ true → lookup (bytes_eq word) es ≡ None
+no_text word [] never all = refl
+no_text word (e ∷ es) never all = rw (other_word word e.0 never (left_true (ascii e.0) (all_ascii es) all)) (no_text word es never (right_true (ascii e.0) (all_ascii es) all))
+
+pub no_row_word : (word : List ℕ) → (IsUtf8 word → ⊥) → lookup (bytes_eq word) row_words ≡ None
+no_row_word word never = no_text word row_words never refl
+
+none_of_three : (p : Kind → Bool) → p kinds.Sum ≡ false → p kinds.Top ≡ false → p kinds.Bag ≡ false → find p (kinds.Sum ∷ kinds.Top ∷ kinds.Bag ∷ []) ≡ None
+none_of_three p a b c = rw (a, b, c) refl
+
+pub no_kind : (word : List ℕ) → (IsUtf8 word → ⊥) → kind_of word ≡ None
+no_kind word never = none_of_three (λ k. bytes_eq word (kind_word k)) (other_word word (codes "sum") never refl) (other_word word (codes "top") never refl) (other_word word (codes "bag") never refl)

@@ -29,7 +29,8 @@ use Rattle.tx_trees.proofs.Undoing.{WrittenTree, written_trees}
 use Rattle.tx_trees.specs.declared.why.Why.{Why}
 use Rattle.script_reader.specs.inside.Numbers.{AreOf32Bits}
 use Rattle.script_reader.specs.ReadBack.{IsReadAs}
-use Rattle.script_reader.specs.Reading.{after_first, read_of, read_rows, rows_from, then_rows}
+use Rattle.script_reader.specs.Reading.{read_of, read_rows, rows_from, second_rows, then_rows}
+use Rattle.std.specs.Option.{option_map_or}
 use Rattle.script_reader.specs.Records.{records_in}
 use Rattle.script_reader.specs.Rows.{later_row}
 use Rattle.script_reader.specs.Written.{fail_fields, fail_rows, form_rows, lines, item_fields, nodes_fields, op_fields, ops_rows, pick_fields, rows_of, rows_of_rows, rows_of_tree, sub_fields, subs_rows, tree_fields, tree_rows, written}
@@ -244,7 +245,7 @@ picks_back (k ∷ ks) u v small h =
 -- from the `nodes` row on, after the row of the second form where it is there
 nodes_then : (f : Form) (n : ℕ) (u : ScriptData) (rs : List (List (List ℕ))) → 1 ≤ n → n ≤ most_nodes f → Reads (fresh f n) rs u → read_rows (form_rows f ++ nodes_fields n ∷ rs) ≡ Ok u
 nodes_then forms.One n u rs some few reads =
-    let start = ap (λ (x : Result (Option ScriptData) Why). after_first x rs) (nodes_back n some few) in
+    let start = ap (λ (x : Result (Option ScriptData) Why). then_rows 1 x (λ begun. option_map_or (λ s. rows_from s 2 rs) begun (second_rows rs))) (nodes_back n some few) in
     let rest = reads 2 [] in
     start ∙ ap (rows_from (fresh forms.One n) 2) (sym (append-nil rs)) ∙ rest.1 ∙ ends u rest.0 [] refl
 nodes_then forms.Two n u rs some few reads =

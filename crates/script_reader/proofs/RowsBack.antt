@@ -1,6 +1,6 @@
 -- Each row that is written of a script is read as the call that adds it.
-use Rattle.std.proofs.Common.{◌≡◌, ◌<◌, ◌≤◌, ◌^◌, ◌∙◌, ℕ, Bool, true, false, not, List, [], ◌∷◌, Some, Ok, refl, ap, arith}
-use Rattle.std.specs.Prelude.{ℤ, IsTrue, ◌||◌, codes, decimal, is_some, length, nat_le, unsigned_abs}
+use Rattle.std.proofs.Common.{◌≡◌, ◌<◌, ◌≤◌, ◌^◌, ◌∙◌, ℕ, true, false, List, [], ◌∷◌, Some, Result, Ok, refl, ap, arith}
+use Rattle.std.specs.Prelude.{ℤ, IsTrue, codes, decimal, nat_le, unsigned_abs}
 use Rattle.std.proofs.lemmas.Bool.{le-leb, lt-leb}
 use Rattle.std.specs.Fmt.{signed_decimal}
 use Rattle.std.specs.List.{list_all}
@@ -9,11 +9,11 @@ use Rattle.commute_ops.specs.declared.kinds.Kind.TheVariants as kinds
 use Rattle.commute_ops.specs.declared.kinds.Op.TheVariants as applied
 use Rattle.tv_base.specs.declared.numbers.NodeNo.{NodeNo}
 use Rattle.tv_base.proofs.Truths.{left_true}
-use Rattle.tx_trees.specs.Adding.{adds_fail, adds_item, adds_lose, adds_op, adds_pick, adds_sub, adds_tree, fresh, has_no_sub_left, has_no_tree_left, taken_unless, last_subs, names_tree, place_of, with_item, with_sub, with_tree}
+use Rattle.tx_trees.specs.Adding.{adds_fail, adds_item, adds_lose, adds_op, adds_pick, adds_sub, adds_tree, fresh}
 use Rattle.tx_trees.specs.Amounts.{magnitude}
 use Rattle.tx_trees.specs.Forms.{most_nodes}
 use Rattle.tx_trees.specs.Names.{has_name_len, is_name, is_name_byte}
-use Rattle.tx_trees.specs.Ranges.{is_in_range, may_start}
+use Rattle.tx_trees.specs.Ranges.{is_in_range}
 use Rattle.tx_trees.specs.ScriptData.{ScriptData}
 use Rattle.tx_trees.specs.Valid.{IsItem}
 use Rattle.tx_trees.specs.declared.parts.Deed.{Deed}
@@ -25,10 +25,9 @@ use Rattle.tx_trees.specs.declared.parts.Sub.{Sub}
 use Rattle.tx_trees.specs.declared.parts.TreeKind.{TreeKind}
 use Rattle.tx_trees.specs.declared.parts.TreeKind.TheVariants as trees
 use Rattle.tx_trees.specs.declared.why.Why.{Why}
-use Rattle.tx_trees.specs.declared.why.Why.TheVariants as why
 use Rattle.script_reader.specs.inside.Numbers.{amount_of, number_spelled}
-use Rattle.script_reader.specs.Rows.{amount_row, begun_script, by_word, deed_of, fail_row, field, later_form, first_row, item_row, later_row, nodes_row, op_row, pick_row, second_row, sub_row, tree_row, unless}
-use Rattle.script_reader.specs.Words.{kind_of, kind_word, later_word}
+use Rattle.script_reader.specs.Rows.{amount_row, and_then, deed_of, fail_row, later_form, first_row, item_row, later_row, nodes_row, op_row, pick_row, row_word_of, second_row, sub_row, tree_row}
+use Rattle.script_reader.specs.Words.{kind_of, kind_word, may_follow}
 use Rattle.script_reader.specs.Written.{deed_fields, fail_fields, item_fields, nodes_fields, pick_fields, sub_fields, tree_fields}
 use Rattle.script_reader.specs.declared.words.OpWord.{OpWord}
 use Rattle.script_reader.specs.declared.words.OpWord.TheVariants as ops
@@ -49,27 +48,6 @@ kind_back kinds.Sum = refl
 kind_back kinds.Top = refl
 kind_back kinds.Bag = refl
 
--- a condition that is tried twice
-tried_item : {A : Type 0} (a b c d : Bool) (w x y z : Why) (new : A)
-    → unless ((a, w) ∷ (b, x) ∷ (c, y) ∷ []) (taken_unless ((a, w) ∷ (b, x) ∷ (c, y) ∷ (d, z) ∷ []) new) ≡ taken_unless ((a, w) ∷ (b, x) ∷ (c, y) ∷ (d, z) ∷ []) new
-tried_item true b c d w x y z new = refl
-tried_item false true c d w x y z new = refl
-tried_item false false true d w x y z new = refl
-tried_item false false false d w x y z new = refl
-
--- the same of a tree
-tried_tree : (a b c d : Bool) (w x y z : Why) (new : ScriptData)
-    → unless ((a, w) ∷ (b, x) ∷ []) (taken_unless ((a, w) ∷ (b, x) ∷ (c, y) ∷ (d, z) ∷ []) new) ≡ taken_unless ((a, w) ∷ (b, x) ∷ (c, y) ∷ (d, z) ∷ []) new
-tried_tree true b c d w x y z new = refl
-tried_tree false true c d w x y z new = refl
-tried_tree false false c d w x y z new = refl
-
--- the same of a subtransaction
-tried_sub : {A : Type 0} (a b c d : Bool) (w x y z : Why) (new : A)
-    → unless ((a, w) ∷ []) (taken_unless ((a, w) ∷ (b, x) ∷ (c, y) ∷ (d, z) ∷ []) new) ≡ taken_unless ((a, w) ∷ (b, x) ∷ (c, y) ∷ (d, z) ∷ []) new
-tried_sub true b c d w x y z new = refl
-tried_sub false b c d w x y z new = refl
-
 -- the `nodes` row of a script of this form
 nodes_row_back : (f : Form) (n : ℕ) → 1 ≤ n → n ≤ most_nodes f → n ≤ 64 → nodes_row f (decimal n) ≡ Ok (fresh f n)
 nodes_row_back f n some few small =
@@ -80,8 +58,8 @@ nodes_row_back f n some few small =
 -- the `nodes` row, as the first record
 pub nodes_back : (n : ℕ) → 1 ≤ n → n ≤ 16 → first_row (nodes_fields n) ≡ Ok (Some (fresh forms.One n))
 nodes_back n some few =
-    let form : first_row (nodes_fields n) ≡ begun_script (nodes_row forms.One (decimal n)) = refl in
-    form ∙ ap begun_script (nodes_row_back forms.One n some few (omega arith))
+    let form : first_row (nodes_fields n) ≡ and_then (nodes_row forms.One (decimal n)) (λ s. Ok (Some s)) = refl in
+    form ∙ ap (λ (r : Result ScriptData Why). and_then r (λ s. Ok (Some s))) (nodes_row_back forms.One n some few (omega arith))
 
 -- and as the second
 pub second_nodes_back : (n : ℕ) → 1 ≤ n → n ≤ 64 → second_row (nodes_fields n) ≡ Ok (fresh forms.Two n)
@@ -95,7 +73,6 @@ item_back s n r few h =
     let form : later_row s (item_fields r) ≡ item_row s r.name (decimal r.node.0) (kind_word r.kind) (signed_decimal r.initial) = refl in
     let typed = item_row_is s r.name (decimal r.node.0) (kind_word r.kind) (signed_decimal r.initial) r.node.0 (Some r.kind) r.initial (number_back r.node.0 (omega (arith, h.node))) (kind_back r.kind) (amount_back r.initial (omega (arith, h.small))) in
     form ∙ typed
-    ∙ tried_item (nat_le s.nodes r.node.0 || not (may_start s.form r.kind r.initial)) (not (is_name r.name)) (is_some (place_of r.name s.items)) (nat_le 10000 (length s.items)) why.OutOfRange why.BadName why.NameTaken why.TooMany (with_item s r)
 
 -- a tree row, by its fields
 tree_form : (s : ScriptData) (kind : TreeKind) (name : List ℕ) (node : NodeNo) → later_row s (tree_fields kind name node.0) ≡ tree_row s kind name (decimal node.0)
@@ -107,27 +84,25 @@ tree_form s trees.Strict name node = refl
 pub tree_back : (s : ScriptData) (kind : TreeKind) (name : List ℕ) (node : NodeNo) → node.0 < 64 → later_row s (tree_fields kind name node.0) ≡ adds_tree s name kind node
 tree_back s kind name node low =
     let form = tree_form s kind name node in
-    form ∙ rw (number_read node.0 (omega (arith, low)), value_read node.0 (omega (arith, low)))
-    (tried_tree (nat_le s.nodes node.0) (not (is_name name)) (names_tree name s.trees) (has_no_tree_left s.nodes kind s.trees) why.OutOfRange why.BadName why.NameTaken why.TooMany (with_tree s name kind node))
+    form ∙ rw (number_read node.0 (omega (arith, low)), value_read node.0 (omega (arith, low))) refl
 
 -- a `sub` row
 pub sub_back : (s : ScriptData) (x : Sub) → x.parent.0 < 64 → x.node.0 < 64 → later_row s (sub_fields x) ≡ adds_sub s x.parent.0 x.node
 sub_back s x early low =
     let form : later_row s (sub_fields x) ≡ sub_row s (decimal x.parent.0) (decimal x.node.0) = refl in
-    form ∙ rw (number_read x.parent.0 (omega (arith, early)), number_read x.node.0 (omega (arith, low)), value_read x.parent.0 (omega (arith, early)), value_read x.node.0 (omega (arith, low)))
-    (tried_sub (nat_le s.nodes x.node.0) (not s.begun) (nat_le (last_subs s.trees) x.parent.0) (has_no_sub_left s.trees) why.OutOfRange why.NoTree why.BadParent why.TooMany (with_sub s x.parent.0 x.node))
+    form ∙ rw (number_read x.parent.0 (omega (arith, early)), number_read x.node.0 (omega (arith, low)), value_read x.parent.0 (omega (arith, early)), value_read x.node.0 (omega (arith, low))) refl
 
 -- a `fail` row of a script of the second form
 pub fail_back : (s : ScriptData) (k : ℕ) → s.form ≡ forms.Two → k < 64 → later_row s (fail_fields k) ≡ adds_fail s k
 fail_back s k second small =
-    let form : later_row s (fail_fields k) ≡ fail_row s (decimal k) = ap (λ (f : Form). by_word (fail_fields k) (later_word f (field (fail_fields k) 0)) (later_form s (fail_fields k))) second in
+    let form : later_row s (fail_fields k) ≡ fail_row s (decimal k) = ap (λ (f : Form). and_then (row_word_of (may_follow f) (fail_fields k)) (later_form s (fail_fields k))) second in
     form ∙ rw (number_read k (omega (arith, small)), value_read k (omega (arith, small))) refl
 
 -- a `lose` row, which a script of the second form alone has
 pub lose_back : (s : ScriptData) → s.form ≡ forms.Two → later_row s (codes "lose" ∷ []) ≡ adds_lose s
 lose_back s second =
     let fields = codes "lose" ∷ [] in
-    ap (λ (f : Form). by_word fields (later_word f (field fields 0)) (later_form s fields)) second
+    ap (λ (f : Form). and_then (row_word_of (may_follow f) fields) (later_form s fields)) second
 
 -- a `pick` row
 pub pick_back : (s : ScriptData) (k : ℕ) → k < 2 ^ 32 → later_row s (pick_fields k) ≡ adds_pick s k

@@ -1,13 +1,15 @@
 // What each row does to a script.
-ghost use Rattle.std.specs.Prelude.{◌≡◌, ◌<◌, ◌^◌, true, unsigned_abs};
+ghost use Rattle.std.specs.Prelude.{◌≡◌, ◌<◌, ◌^◌, Err, None, Ok, Some, true, unsigned_abs};
 ghost use Rattle.csv.specs.Records.{fields_of};
 ghost use Rattle.tx_trees.specs.Adding.{last_may_fail, last_subs, puts_undone};
-ghost use Rattle.script_reader.specs.Rows.{advance_row, amount_row, begun_script, deed_of, fail_row, first_row, form_row, item_of, item_row, later_row, nodes_row, op_row, pick_row, second_row, starts, sub_row, tree_row};
+ghost use Rattle.tx_trees.specs.Ranges.{may_start as may_start_in};
+ghost use Rattle.script_reader.specs.Rows.{amount_row, and_then, deed_of, fail_row, first_form, first_row, form_row, item_of, item_row, later_form, later_row, nodes_row, op_row, pick_row, row_word_of, second_form, second_row, sub_row, tree_row};
+ghost use Rattle.script_reader.specs.Words.{may_be_first, may_follow};
 ghost use Rattle.script_reader.specs.inside.Rows.{HasBegunWith, Leaves, Makes};
 
 use crate::numbers::{amount, number};
 use crate::records::field;
-use crate::words::{OpWord, RowWord, first_word, kind_of, later_word, len_fits, name_of};
+use crate::words::{OpWord, RowWord, first_by, kind_of, later_by, name_of, row_word};
 use commute_ops::{Amount, Kind, Op};
 use csv::ByteRecord;
 use std::alloc::Global;
@@ -40,14 +42,11 @@ fn nodes_row_of(alloc: Global, form: Form, nodes: &[u8]) -> Result<Script, Refus
     Ok(Script::new(alloc, form, nodes as u8))
 }
 
-// Whether an item may have this value at the start. Of an unknown kind only the magnitude is tried.
-fn starts(form: Form, kind: Option<Kind>, initial: &Amount) -> bool
-    ensures { result ≡ starts form kind initial.now }
+// Whether an item of this kind may have this value at the start.
+fn starts(form: Form, kind: Kind, initial: &Amount) -> bool
+    ensures { result ≡ may_start_in form kind initial.now }
 {
-    match kind {
-        Some(kind) => may_start(form, kind, *initial),
-        None => initial.unsigned_abs() <= form.most_amount(),
-    }
+    may_start(form, kind, *initial)
 }
 
 fn item_row_of(
@@ -79,6 +78,23 @@ fn add_item_of(
     requires { unsigned_abs initial.now < 10 ^ 34 }
     ensures { Leaves (item_of script.old name.now node kind initial.now) result script.new }
 {
+    match kind {
+        Some(kind) => add_known(script, name, node, kind, initial),
+        None => Err(Refusal::Why(unknown_kind(script, name, node, initial))),
+    }
+}
+
+// An item of a known kind.
+fn add_known(
+    script: &mut Script,
+    name: &[u8],
+    node: u128,
+    kind: Kind,
+    initial: &Amount,
+) -> Result<(), Refusal>
+    requires { unsigned_abs initial.now < 10 ^ 34 }
+    ensures { Leaves (item_of script.old name.now node (Some kind) initial.now) result script.new }
+{
     if node >= script.nodes() as u128 {
         return Err(Refusal::Why(Why::OutOfRange));
     }
@@ -88,12 +104,6 @@ fn add_item_of(
     let Some(name) = name_of(name) else {
         return Err(Refusal::Why(Why::BadName));
     };
-    if script.names_item(&name) {
-        return Err(Refusal::Why(Why::NameTaken));
-    }
-    let Some(kind) = kind else {
-        return Err(Refusal::Why(Why::WrongKind));
-    };
     let initial = *initial;
     script.add_item(ItemRow {
         name,
@@ -102,6 +112,25 @@ fn add_item_of(
         initial,
     })?;
     Ok(())
+}
+
+// Why an item of an unknown kind is refused.
+fn unknown_kind(script: &Script, name: &[u8], node: u128, initial: &Amount) -> Why
+    ensures { item_of script.now name.now node None initial.now ≡ Err result }
+{
+    if node >= script.nodes() as u128 {
+        return Why::OutOfRange;
+    }
+    if initial.unsigned_abs() > script.form().most_amount() {
+        return Why::OutOfRange;
+    }
+    let Some(name) = name_of(name) else {
+        return Why::BadName;
+    };
+    if script.names_item(&name) {
+        return Why::NameTaken;
+    }
+    Why::WrongKind
 }
 
 fn tree_row_of(script: &mut Script, kind: TreeKind, name: &[u8], node: &[u8]) -> Result<(), Refusal>
@@ -178,12 +207,6 @@ fn amount_row_of(
     op_row_of(script, item, deed_of(word, &amount))
 }
 
-fn advance_row_of(script: &mut Script) -> Result<(), Refusal>
-    ensures { Leaves (advance_row script.old) result script.new }
-{
-    script.add_advance()
-}
-
 fn pick_row_of(script: &mut Script, place: &[u8]) -> Result<(), Refusal>
     ensures { Leaves (pick_row script.old place.now) result script.new }
 {
@@ -229,7 +252,7 @@ fn fail(alloc: Global, script: &mut Script, failed: SubNo) -> Result<(), Refusal
 
 // The script of a `nodes` row in the first record.
 fn begin(alloc: Global, nodes: &[u8]) -> Result<Option<Script>, Refusal>
-    ensures { HasBegunWith (begun_script (nodes_row Form.One nodes.now)) result }
+    ensures { HasBegunWith (and_then (nodes_row Form.One nodes.now) (λ s. Ok (Some s))) result }
 {
     match nodes_row_of(alloc, Form::One, nodes) {
         Ok(script) => Ok(Some(script)),
@@ -237,16 +260,37 @@ fn begin(alloc: Global, nodes: &[u8]) -> Result<Option<Script>, Refusal>
     }
 }
 
+// What the first record is.
+fn first_word(row: &ByteRecord) -> Result<RowWord, Why>
+    ensures { result ≡ row_word_of may_be_first (fields_of row.now) }
+{
+    first_by(row_word(field(row, 0)), row.len())
+}
+
+// What a later record of a script of this form is.
+fn later_word(form: Form, row: &ByteRecord) -> Result<RowWord, Why>
+    ensures { result ≡ row_word_of (may_follow form) (fields_of row.now) }
+{
+    later_by(form, row_word(field(row, 0)), row.len())
+}
+
 // The first record makes a script, or names the second form.
 pub(crate) fn take_first(alloc: Global, row: &ByteRecord) -> Result<Option<Script>, Refusal>
     ensures { HasBegunWith (first_row (fields_of row.now)) result }
 {
-    let Some(word) = first_word(field(row, 0)) else {
-        return Err(Refusal::Why(Why::UnknownRow));
-    };
-    if !len_fits(word, row.len()) {
-        return Err(Refusal::Why(Why::WrongFields));
+    match first_word(row) {
+        Ok(word) => take_first_word(alloc, word, row),
+        Err(why) => Err(Refusal::Why(why)),
     }
+}
+
+fn take_first_word(
+    alloc: Global,
+    word: RowWord,
+    row: &ByteRecord,
+) -> Result<Option<Script>, Refusal>
+    ensures { HasBegunWith (first_form (fields_of row.now) word) result }
+{
     match word {
         RowWord::Form => form_row_of(field(row, 1)),
         RowWord::Nodes => begin(alloc, field(row, 1)),
@@ -258,12 +302,15 @@ pub(crate) fn take_first(alloc: Global, row: &ByteRecord) -> Result<Option<Scrip
 pub(crate) fn take_second(alloc: Global, row: &ByteRecord) -> Result<Script, Refusal>
     ensures { Makes (second_row (fields_of row.now)) result }
 {
-    let Some(word) = later_word(Form::Two, field(row, 0)) else {
-        return Err(Refusal::Why(Why::UnknownRow));
-    };
-    if !len_fits(word, row.len()) {
-        return Err(Refusal::Why(Why::WrongFields));
+    match later_word(Form::Two, row) {
+        Ok(word) => take_second_word(alloc, word, row),
+        Err(why) => Err(Refusal::Why(why)),
     }
+}
+
+fn take_second_word(alloc: Global, word: RowWord, row: &ByteRecord) -> Result<Script, Refusal>
+    ensures { Makes (second_form (fields_of row.now) word) result }
+{
     match word {
         RowWord::Nodes => nodes_row_of(alloc, Form::Two, field(row, 1)),
         _ => Err(Refusal::Why(Why::NodesFirst)),
@@ -278,12 +325,22 @@ pub(crate) fn take_later(
 ) -> Result<(), Refusal>
     ensures { Leaves (later_row script.old (fields_of row.now)) result script.new }
 {
-    let Some(word) = later_word(script.form(), field(row, 0)) else {
-        return Err(Refusal::Why(Why::UnknownRow));
-    };
-    if !len_fits(word, row.len()) {
-        return Err(Refusal::Why(Why::WrongFields));
+    match later_word(script.form(), row) {
+        Ok(word) => take_later_word(alloc, script, word, row),
+        Err(why) => Err(Refusal::Why(why)),
     }
+}
+
+fn take_later_word(
+    alloc: Global,
+    script: &mut Script,
+    word: RowWord,
+    row: &ByteRecord,
+) -> Result<(), Refusal>
+    requires lose { word ≡ RowWord.Lose → script.old.form ≡ Form.Two }
+    requires fail { word ≡ RowWord.Fail → script.old.form ≡ Form.Two }
+    ensures { Leaves (later_form script.old (fields_of row.now) word) result script.new }
+{
     match word {
         RowWord::Form => Err(Refusal::Why(Why::UnknownRow)),
         RowWord::Nodes => Err(Refusal::Why(Why::NodesTwice)),
@@ -298,7 +355,7 @@ pub(crate) fn take_later(
         RowWord::Sub => sub_row_of(script, field(row, 1), field(row, 2)),
         RowWord::Op(word) => amount_row_of(script, word, field(row, 1), field(row, 2)),
         RowWord::Get => op_row_of(script, field(row, 1), Deed::Get),
-        RowWord::Advance => advance_row_of(script),
+        RowWord::Advance => script.add_advance(),
         RowWord::Settle => script.add_settle(),
         RowWord::Pick => pick_row_of(script, field(row, 1)),
         RowWord::Lose => script.add_lose(),

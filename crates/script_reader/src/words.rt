@@ -1,12 +1,14 @@
 // The words that rows begin with, those of kinds, and names.
 ghost use Rattle.std.specs.Prelude.{◌≡◌, MatchOption, true, false};
+ghost use Rattle.std.specs.Map.{lookup};
 ghost use Rattle.std.specs.Str.{bytes_eq};
 ghost use Rattle.tx_trees.specs.Names.{is_name};
-ghost use Rattle.script_reader.specs.Words.{first_word, kind_of, later_word, len_fits, may_be_first, may_follow, op_word_of, rare_word_of, tree_kind_of, word_of};
+ghost use Rattle.script_reader.specs.Words.{kind_of, may_be_first, may_follow, row_words};
+ghost use Rattle.script_reader.specs.inside.Rows.{row_by};
 
 use commute_ops::Kind;
 use tv_base::Name;
-use tx_trees::{Form, TreeKind, is_plain_name};
+use tx_trees::{Form, TreeKind, Why, is_plain_name};
 
 // An operation with an amount.
 #[derive(Clone, Copy, Debug, PartialEq, Eq)]
@@ -35,84 +37,40 @@ pub(crate) enum RowWord {
     Fail,
 }
 
-// Whether a word is this one. A test of it is one call, and its proof half of that of `==` between slices.
-fn is_word(word: &[u8], one: &[u8]) -> bool
-    ensures { result ≡ bytes_eq word.now one.now }
+// What a row is, and how many fields it has, by its first field.
+pub(crate) fn row_word(word: &[u8]) -> Option<(RowWord, usize)>
+    ensures { result ≡ lookup (bytes_eq word.now) row_words }
 {
-    word == one
-}
-
-fn tree_kind_of(word: &[u8]) -> Option<TreeKind>
-    ensures { result ≡ tree_kind_of word.now }
-{
-    if is_word(word, b"update") {
-        Some(TreeKind::Update)
-    } else if is_word(word, b"read") {
-        Some(TreeKind::Read)
-    } else if is_word(word, b"strict") {
-        Some(TreeKind::Strict)
-    } else {
-        None
+    match str::from_utf8(word) {
+        Ok(word) => row_named(word),
+        Err(_) => None,
     }
 }
 
-fn op_word_of(word: &[u8]) -> Option<OpWord>
-    ensures { result ≡ op_word_of word.now }
+// The words that most rows have come first.
+fn row_named(word: &str) -> Option<(RowWord, usize)>
+    ensures { result ≡ lookup (bytes_eq word.now) row_words }
 {
-    if is_word(word, b"add") {
-        Some(OpWord::Add)
-    } else if is_word(word, b"top") {
-        Some(OpWord::Top)
-    } else if is_word(word, b"put") {
-        Some(OpWord::Put)
-    } else if is_word(word, b"set") {
-        Some(OpWord::Set)
-    } else if is_word(word, b"draw") {
-        Some(OpWord::Draw)
-    } else {
-        None
-    }
-}
-
-// What a row is that stands once, or few times, in a script.
-fn rare_word(word: &[u8]) -> Option<RowWord>
-    ensures { result ≡ rare_word_of word.now }
-{
-    if is_word(word, b"threev") {
-        Some(RowWord::Form)
-    } else if is_word(word, b"nodes") {
-        Some(RowWord::Nodes)
-    } else if is_word(word, b"advance") {
-        Some(RowWord::Advance)
-    } else if is_word(word, b"settle") {
-        Some(RowWord::Settle)
-    } else if is_word(word, b"pick") {
-        Some(RowWord::Pick)
-    } else if is_word(word, b"lose") {
-        Some(RowWord::Lose)
-    } else if is_word(word, b"fail") {
-        Some(RowWord::Fail)
-    } else {
-        None
-    }
-}
-
-// What a row is, the words that most rows have first.
-fn row_word(word: &[u8]) -> Option<RowWord>
-    ensures { result ≡ word_of word.now }
-{
-    if is_word(word, b"sub") {
-        Some(RowWord::Sub)
-    } else if is_word(word, b"get") {
-        Some(RowWord::Get)
-    } else if is_word(word, b"item") {
-        Some(RowWord::Item)
-    } else if let Some(op) = op_word_of(word) {
-        Some(RowWord::Op(op))
-    } else if let Some(kind) = tree_kind_of(word) {
-        Some(RowWord::Tree(kind))
-    } else {
-        rare_word(word)
+    match word {
+        "sub" => Some((RowWord::Sub, 3)),
+        "get" => Some((RowWord::Get, 2)),
+        "item" => Some((RowWord::Item, 5)),
+        "add" => Some((RowWord::Op(OpWord::Add), 3)),
+        "top" => Some((RowWord::Op(OpWord::Top), 3)),
+        "put" => Some((RowWord::Op(OpWord::Put), 3)),
+        "set" => Some((RowWord::Op(OpWord::Set), 3)),
+        "draw" => Some((RowWord::Op(OpWord::Draw), 3)),
+        "update" => Some((RowWord::Tree(TreeKind::Update), 3)),
+        "read" => Some((RowWord::Tree(TreeKind::Read), 3)),
+        "strict" => Some((RowWord::Tree(TreeKind::Strict), 3)),
+        "threev" => Some((RowWord::Form, 2)),
+        "nodes" => Some((RowWord::Nodes, 2)),
+        "advance" => Some((RowWord::Advance, 1)),
+        "settle" => Some((RowWord::Settle, 1)),
+        "pick" => Some((RowWord::Pick, 2)),
+        "lose" => Some((RowWord::Lose, 1)),
+        "fail" => Some((RowWord::Fail, 2)),
+        _ => None,
     }
 }
 
@@ -139,57 +97,60 @@ fn may_follow(form: Form, word: RowWord) -> bool
     }
 }
 
-// What the first record is.
-pub(crate) fn first_word(word: &[u8]) -> Option<RowWord>
-    ensures { result ≡ first_word word.now }
+// What the first record is, which has so many fields, by what its word says.
+pub(crate) fn first_by(found: Option<(RowWord, usize)>, len: usize) -> Result<RowWord, Why>
+    ensures { result ≡ row_by may_be_first len found }
 {
-    let word = row_word(word)?;
-    if may_be_first(word) { Some(word) } else { None }
+    let Some((word, fields)) = found else {
+        return Err(Why::UnknownRow);
+    };
+    if !may_be_first(word) {
+        return Err(Why::UnknownRow);
+    }
+    if len != fields {
+        return Err(Why::WrongFields);
+    }
+    Ok(word)
 }
 
 // What a later record of a script of this form is.
-pub(crate) fn later_word(form: Form, word: &[u8]) -> Option<RowWord>
-    ensures { result ≡ later_word form word.now }
+pub(crate) fn later_by(
+    form: Form,
+    found: Option<(RowWord, usize)>,
+    len: usize,
+) -> Result<RowWord, Why>
+    ensures { result ≡ row_by (may_follow form) len found }
 {
-    let word = row_word(word)?;
-    if may_follow(form, word) {
-        Some(word)
-    } else {
-        None
+    let Some((word, fields)) = found else {
+        return Err(Why::UnknownRow);
+    };
+    if !may_follow(form, word) {
+        return Err(Why::UnknownRow);
     }
+    if len != fields {
+        return Err(Why::WrongFields);
+    }
+    Ok(word)
 }
 
-// Whether a row may have so many fields.
-pub(crate) fn len_fits(word: RowWord, len: usize) -> bool
-    ensures { result ≡ len_fits word len }
-{
-    match word {
-        RowWord::Form => len == 2,
-        RowWord::Nodes => len == 2,
-        RowWord::Item => len == 5,
-        RowWord::Tree(_) => len == 3,
-        RowWord::Sub => len == 3,
-        RowWord::Op(_) => len == 3,
-        RowWord::Get => len == 2,
-        RowWord::Advance => len == 1,
-        RowWord::Settle => len == 1,
-        RowWord::Pick => len == 2,
-        RowWord::Lose => len == 1,
-        RowWord::Fail => len == 2,
-    }
-}
-
+// The kind of a word.
 pub(crate) fn kind_of(word: &[u8]) -> Option<Kind>
     ensures { result ≡ kind_of word.now }
 {
-    if is_word(word, b"sum") {
-        Some(Kind::Sum)
-    } else if is_word(word, b"top") {
-        Some(Kind::Top)
-    } else if is_word(word, b"bag") {
-        Some(Kind::Bag)
-    } else {
-        None
+    match str::from_utf8(word) {
+        Ok(word) => kind_named(word),
+        Err(_) => None,
+    }
+}
+
+fn kind_named(word: &str) -> Option<Kind>
+    ensures { result ≡ kind_of word.now }
+{
+    match word {
+        "sum" => Some(Kind::Sum),
+        "top" => Some(Kind::Top),
+        "bag" => Some(Kind::Bag),
+        _ => None,
     }
 }
 

@@ -1,11 +1,15 @@
 -- What each row does to a script, with its conditions in the order of their numbers. These are the definitions that
 -- private code alone cites.
-use Rattle.std.specs.Prelude.{◌≡◌}
-use Rattle.std.specs.Prelude.{Option, Result, Ok, Err, ⊤}
+use Rattle.std.specs.Prelude.{◌≡◌, ◌==◌, ℕ, Bool, not, [], ◌∷◌, Option, Result, Ok, Err, ⊤}
+use Rattle.std.specs.Option.{option_map_or}
+use Rattle.tx_trees.specs.Adding.{taken_unless}
 use Rattle.tx_trees.specs.ScriptData.{ScriptData}
 use Rattle.tx_trees.specs.declared.why.Why.{Why}
+use Rattle.tx_trees.specs.declared.why.Why.TheVariants as why
 use Rattle.tx_trees.specs.declared.why.Refusal.{Refusal}
 use Rattle.tx_trees.specs.declared.why.Refusal.TheVariants as refusals
+use Rattle.script_reader.specs.Words.{RowShape}
+use Rattle.script_reader.specs.declared.words.RowWord.{RowWord}
 
 -- what a call made, or why it did not
 abbrev pub Makes : Result ScriptData Why → Result ScriptData Refusal → Type 0
@@ -24,3 +28,10 @@ abbrev pub Leaves : {T : Type 0} → Result ScriptData Why → Result T Refusal 
 Leaves made (Ok done) new = made ≡ Ok new
 Leaves made (Err (refusals.Why w)) new = made ≡ Err w
 Leaves made (Err refusals.NoMemory) new = ⊤
+
+-- what a record of so many fields is, by what its word says, if such a row may stand here
+abbrev pub row_by : (RowWord → Bool) → ℕ → Option RowShape → Result RowWord Why
+row_by may len found =
+    option_map_or
+    (λ e. taken_unless ((not (may e.0), why.UnknownRow) ∷ (not (len == e.1), why.WrongFields) ∷ []) e.0)
+    found (Err why.UnknownRow)

@@ -1,59 +1,21 @@
-use Rattle.std.proofs.Common.{sym, subst, Result, ◌∙◌}
+use Rattle.std.proofs.Common.{sym, subst, Result}
 use Rattle.csv.specs.Records.{fields_of}
 use Rattle.tx_trees.specs.ScriptData.{ScriptData}
 use Rattle.tx_trees.specs.declared.why.Why.{Why}
 use Rattle.script_reader.specs.inside.Rows.{Leaves}
-use Rattle.script_reader.proofs.Passing.{amount_form_is, fail_form_is, get_form_is, item_form_is, later_is, later_wrong, second_fails, second_loses, sub_form_is, tree_form_is}
+use Rattle.script_reader.proofs.Passing.{later_is, later_refused, second_fails, second_loses}
 use Rattle.script_reader.proofs.rows.take_later.Goals as goal
 
-pub returns-in-Item : goal.returns-in-Item
-returns-in-Item c =
-    let fields = fields_of c.args.row.now in
-    let e = later_is c.args.script.now fields _ _ _ _ _ c.form.ensures c.field.ensures c.in-Some.ensures c.len_fits.ensures c.len.ensures c.if-not-len_fits.false in
-    let f = item_form_is c.args.script.now fields _ _ _ _ _ c.in-Item.is c.field-in-Item.ensures c.field-in-Item-2.ensures c.field-in-Item-3.ensures c.field-in-Item-4.ensures in
-    subst (λ (r : Result ScriptData Why). Leaves r c.item_row_of.result c.item_row_of.new.script) (sym (e ∙ f)) c.item_row_of.ensures
+pub take_later_word-requires-clause-lose : goal.take_later_word-requires-clause-lose
+take_later_word-requires-clause-lose c = λ lose. second_loses c.args.script.now (fields_of c.args.row.now) _ _ c.form.ensures c.in-Ok.ensures lose
 
-pub returns-in-Op : goal.returns-in-Op
-returns-in-Op c =
-    let fields = fields_of c.args.row.now in
-    let e = later_is c.args.script.now fields _ _ _ _ _ c.form.ensures c.field.ensures c.in-Some.ensures c.len_fits.ensures c.len.ensures c.if-not-len_fits.false in
-    let f = amount_form_is c.args.script.now fields _ _ _ _ c.in-Op.is c.field-in-Op.ensures c.field-in-Op-2.ensures in
-    subst (λ (r : Result ScriptData Why). Leaves r c.amount_row_of.result c.amount_row_of.new.script) (sym (e ∙ f)) c.amount_row_of.ensures
+pub take_later_word-requires-clause-fail : goal.take_later_word-requires-clause-fail
+take_later_word-requires-clause-fail c = λ fails. second_fails c.args.script.now (fields_of c.args.row.now) _ _ c.form.ensures c.in-Ok.ensures fails
 
-pub returns-in-Get : goal.returns-in-Get
-returns-in-Get c =
-    let fields = fields_of c.args.row.now in
-    let e = later_is c.args.script.now fields _ _ _ _ _ c.form.ensures c.field.ensures c.in-Some.ensures c.len_fits.ensures c.len.ensures c.if-not-len_fits.false in
-    let f = get_form_is c.args.script.now fields _ _ c.in-Get.is c.field-in-Get.ensures in
-    subst (λ (r : Result ScriptData Why). Leaves r c.op_row_of.result c.op_row_of.new.script) (sym (e ∙ f)) c.op_row_of.ensures
+pub returns-in-Ok : goal.returns-in-Ok
+returns-in-Ok c =
+    let e = later_is c.args.script.now (fields_of c.args.row.now) _ _ c.form.ensures c.in-Ok.ensures in
+    subst (λ (r : Result ScriptData Why). Leaves r c.take_later_word.result c.take_later_word.new.script) (sym e) c.take_later_word.ensures
 
-pub returns-in-Tree : goal.returns-in-Tree
-returns-in-Tree c =
-    let fields = fields_of c.args.row.now in
-    let e = later_is c.args.script.now fields _ _ _ _ _ c.form.ensures c.field.ensures c.in-Some.ensures c.len_fits.ensures c.len.ensures c.if-not-len_fits.false in
-    let f = tree_form_is c.args.script.now fields _ _ _ _ c.in-Tree.is c.field-in-Tree.ensures c.field-in-Tree-2.ensures in
-    subst (λ (r : Result ScriptData Why). Leaves r c.tree_row_of.result c.tree_row_of.new.script) (sym (e ∙ f)) c.tree_row_of.ensures
-
-pub returns-in-Sub : goal.returns-in-Sub
-returns-in-Sub c =
-    let fields = fields_of c.args.row.now in
-    let e = later_is c.args.script.now fields _ _ _ _ _ c.form.ensures c.field.ensures c.in-Some.ensures c.len_fits.ensures c.len.ensures c.if-not-len_fits.false in
-    let f = sub_form_is c.args.script.now fields _ _ _ c.in-Sub.is c.field-in-Sub.ensures c.field-in-Sub-2.ensures in
-    subst (λ (r : Result ScriptData Why). Leaves r c.sub_row_of.result c.sub_row_of.new.script) (sym (e ∙ f)) c.sub_row_of.ensures
-
-pub returns-then-not-len_fits : goal.returns-then-not-len_fits
-returns-then-not-len_fits c =
-    later_wrong c.args.script.now (fields_of c.args.row.now) _ _ _ _ _ c.form.ensures c.field.ensures c.in-Some.ensures c.len_fits.ensures c.len.ensures c.if-not-len_fits.true
-
-pub add_lose-requires : goal.add_lose-requires
-add_lose-requires c = second_loses c.args.script.now (fields_of c.args.row.now) _ _ _ c.form.ensures c.field.ensures c.in-Some.ensures c.in-Lose.is
-
-pub fail_row_of-requires : goal.fail_row_of-requires
-fail_row_of-requires c = second_fails c.args.script.now (fields_of c.args.row.now) _ _ _ c.form.ensures c.field.ensures c.in-Some.ensures c.in-Fail.is
-
-pub returns-in-Fail : goal.returns-in-Fail
-returns-in-Fail c =
-    let fields = fields_of c.args.row.now in
-    let e = later_is c.args.script.now fields _ _ _ _ _ c.form.ensures c.field.ensures c.in-Some.ensures c.len_fits.ensures c.len.ensures c.if-not-len_fits.false in
-    let f = fail_form_is c.args.script.now fields _ _ c.in-Fail.is c.field-in-Fail.ensures in
-    subst (λ (r : Result ScriptData Why). Leaves r c.fail_row_of.result c.fail_row_of.new.script) (sym (e ∙ f)) c.fail_row_of.ensures
+pub returns-in-Err : goal.returns-in-Err
+returns-in-Err c = later_refused c.args.script.now (fields_of c.args.row.now) _ _ c.form.ensures c.in-Err.ensures
