@@ -103,12 +103,10 @@ short_of s before v (o ∷ os) = option_or (short_cause o.item (found_short o.de
 
 -- why a subtransaction of strict tree t with these operations at node p votes no, if it does: a lock that conflicts,
 -- else a newer version, else a value that is short
-abbrev pub cause_at : ScriptData → List Entry → List Place → ℕ → ℕ → ℕ → List SubOp → Option Cause
-cause_at s before xs p t v os =
-    option_or (conflict_of s xs p t os) (option_or (newer_of s xs p v os) (short_of s before v os))
-
 abbrev pub cause_of : ScriptData → List Entry → List Place → ℕ → ℕ → List SubOp → Option Cause
-cause_of s before xs p t os = cause_at s before xs p t (version_or 0 (version_in t xs)) os
+cause_of s before xs p t os =
+    let v = version_or 0 (version_in t xs) in
+    option_or (conflict_of s xs p t os) (option_or (newer_of s xs p v os) (short_of s before v os))
 
 -- the cause that a vote names
 abbrev pub refusal_in : Vote → Option Cause

@@ -14,13 +14,10 @@ use Rattle.board_rules.specs.Right.{IsShown, gets_among}
 use Rattle.board_rules.specs.Serial.{is_in, serial_to}
 use Rattle.board_rules.specs.Worth.{worth_after}
 
--- the members of the serial order of h, up to version v, that come before tree t
-abbrev pub members_before : ScriptData → List Entry → ℕ → ℕ → List ℕ
-members_before s h t v = before_first (λ (u : ℕ). u == t) (serial_to s h v)
-
--- what item x is worth after them: its initial value, folded over what they do
+-- what item x is worth after the members of the serial order of h, up to version v, that come before tree t: its initial
+-- value, folded over what they do
 abbrev pub worth_before : ScriptData → List Entry → ℕ → ℕ → ℕ → Value
-worth_before s h t x v = worth_after s x (members_before s h t v)
+worth_before s h t x v = worth_after s x (before_first (λ (u : ℕ). u == t) (serial_to s h v))
 
 -- where the act is a yes of a tree that was decided to commit in h, its values are what its gets are worth after the
 -- members before the tree, up to the tree's version in h

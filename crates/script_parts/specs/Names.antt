@@ -2,13 +2,11 @@
 use Rattle.std.specs.Prelude.{ℕ, Bool, ◌==◌, ◌&&◌, ◌||◌, nat_le, List, length}
 use Rattle.std.specs.List.{list_all}
 
--- an ASCII letter
-abbrev pub is_letter : ℕ → Bool
-is_letter b = (nat_le 65 b && nat_le b 90) || (nat_le 97 b && nat_le b 122)
-
--- a letter, a digit, `_`, `-` or `.`
+-- an ASCII letter, a digit, `_`, `-` or `.`
 abbrev pub is_name_byte : ℕ → Bool
-is_name_byte b = is_letter b || (nat_le 48 b && nat_le b 57) || (b == 95) || (b == 45) || (b == 46)
+is_name_byte b =
+    ((nat_le 65 b && nat_le b 90) || (nat_le 97 b && nat_le b 122))
+    || (nat_le 48 b && nat_le b 57) || (b == 95) || (b == 45) || (b == 46)
 
 -- whether these bytes are no more and no fewer than a name has
 abbrev pub has_name_len : List ℕ → Bool

@@ -62,13 +62,10 @@ abbrev pub each_from : (ℕ → Sub → List Sub) → ℕ → List Sub → List 
 each_from f k [] = []
 each_from f k (x ∷ xs) = f k x ++ each_from f (k + 1) xs
 
--- those that stay, and then what undoes them
-abbrev pub with_inverses : ℕ → List Bool → List Sub → List Sub
-with_inverses failed goes subs = each_from (stays failed goes) 0 subs ++ each_from (undoes failed goes) 0 subs
-
--- the undone form of a tree of which this subtransaction fails
+-- the undone form of a tree of which this subtransaction fails: those that stay, and then what undoes them
 abbrev pub undone : List Sub → ℕ → List Sub
-undone subs failed = with_inverses failed (goes_from failed [] subs) subs
+undone subs failed =
+    let goes = goes_from failed [] subs in each_from (stays failed goes) 0 subs ++ each_from (undoes failed goes) 0 subs
 
 -- an operation is an `add`
 abbrev pub is_add : Deed → Bool

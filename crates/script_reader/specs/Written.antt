@@ -34,12 +34,9 @@ lines [] = []
 lines (r ∷ rs) = line r ++ lines rs
 
 -- the row that names the second form
-abbrev pub form_fields : List (List ℕ)
-form_fields = codes "threev" ∷ codes "2" ∷ []
-
 abbrev pub form_rows : Form → List (List (List ℕ))
 form_rows forms.One = []
-form_rows forms.Two = form_fields ∷ []
+form_rows forms.Two = (codes "threev" ∷ codes "2" ∷ []) ∷ []
 
 -- the `nodes` row
 abbrev pub nodes_fields : ℕ → List (List ℕ)

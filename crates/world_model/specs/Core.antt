@@ -16,9 +16,6 @@ use Rattle.world_model.specs.Node.{Node, start_node}
 abbrev pub Refusals : Type 0
 Refusals = ℕ → Option Refusal
 
-abbrev pub no_refusals : Refusals
-no_refusals t = None
-
 -- of two noes that of the lesser number
 abbrev pub lesser : Option Refusal → Refusal → Refusal
 lesser None r = r
@@ -38,12 +35,9 @@ pub record Core : Type 0 where
   pub refusals : Refusals
   pub epoch : ℕ
 
--- a node without locks, that holds no answer and knows of no no, and of no epoch but the first
-abbrev pub plain_core : Node → Core
-plain_core st = record { node = st; locks = []; holds = λ t. None; refusals = no_refusals; epoch = 0 }
-
+-- a node as a run begins: without locks, it holds no answer and knows of no no, and of no epoch but the first
 abbrev pub start_core : ScriptData → ℕ → Core
-start_core s p = plain_core (start_node s p)
+start_core s p = record { node = start_node s p; locks = []; holds = λ t. None; refusals = λ t. None; epoch = 0 }
 
 -- what comes of a letter at the node, within its core
 abbrev pub in_core : Core → Out Node → Out Core

@@ -28,14 +28,10 @@ abbrev pub after : {St : Type 0} → (St → Letter → Out St) → St → List 
 after row st [] = st
 after row st (e ∷ es) = after row (row st e.took).state es
 
--- actor a's own entries are a run of its table from its start
-abbrev pub IsActorRun : ScriptData → List Entry → ℕ → Type 0
-IsActorRun s h a = IsRunOf (actor_row s a) (start_actor s a) (own a h)
-
--- a run by tables: letters went as letters do, and each actor's own entries are a run of its table
+-- a run by tables: letters went as letters do, and each actor's own entries are a run of its table from its start
 pub record IsWorldRun (s : ScriptData) (h : List Entry) : Type 0 where
   pub postal : IsMessageRun (client_of s) (map delivery_of h)
-  pub actors : (a : ℕ) → a < s.nodes + 2 → IsActorRun s h a
+  pub actors : (a : ℕ) → a < s.nodes + 2 → IsRunOf (actor_row s a) (start_actor s a) (own a h)
 
 -- the same by the wider aptness
 pub record IsWideRun (s : ScriptData) (h : List Entry) : Type 0 where
