@@ -1,4 +1,2 @@
-pub mod Benches
-pub mod Entries
-pub mod Finishing
 pub mod Seats
+pub mod Entries
