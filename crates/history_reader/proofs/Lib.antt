@@ -21,5 +21,6 @@ pub mod Postings
 pub mod SameEntries
 pub mod SentTaken
 pub mod Spent
+pub mod TakenLater
 pub mod Walked
 pub mod WalkEnds

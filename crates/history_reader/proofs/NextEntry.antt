@@ -1,20 +1,14 @@
 -- What the next entry of a walk comes to, by what was read and found.
-use Rattle.std.proofs.Common.{◌≡◌, ◌==◌, ℕ, true, false, List, [], ◌∷◌, ◌++◌, length, sym, ap, ◌∙◌, subst, Some, None}
+use Rattle.std.proofs.Common.{◌≡◌, ◌==◌, ℕ, ◌∷◌, ◌++◌, List, [], length, ap, ◌∙◌, subst, sym, true, false, Some, None}
 use Rattle.letter_types.specs.declared.entries.Entry.{Entry}
 use Rattle.letter_types.specs.declared.entries.Letter.{Letter}
 use Rattle.tx_trees.specs.ScriptData.{ScriptData, client_of}
 use Rattle.tx_trees.specs.Valid.{IsValid}
 use Rattle.history_text.specs.Printable.{Begins}
 use Rattle.history_reader.specs.Walks.{IsUnpostedAt, IsUnread, LettersLeft, WalkData, ComesBehind}
-use Rattle.history_reader.specs.inside.Finding.{entry_with, left_without, letter_for}
+use Rattle.history_reader.specs.inside.Finding.{entry_with, left_without, letter_for, with_sent}
 use Rattle.history_reader.proofs.OneMore.{found_for_id}
-use Rattle.history_reader.proofs.Walked.{begins_alike, none_goes_on, walked_more, with_sent}
-
--- the letters that are left behind an entry, by what is added to those without the one that it took
-pub letters_added : (e : Entry) (all left without_one : LettersLeft) → left ≡ without_one → all.begun ≡ left.begun
-    → all.senders ≡ left.senders ++ record { from = e.actor; sent = e.sent } ∷ [] → all ≡ with_sent e without_one
-letters_added e all left without_one is begun senders =
-    (λ i. record { begun = begun i; senders = senders i }) ∙ ap (with_sent e) is
+use Rattle.history_reader.proofs.Walked.{begins_alike, none_goes_on, walked_more}
 
 module _ (s : ScriptData) (rest : List ℕ) (n : ℕ) (letters : LettersLeft) where
   abbrev walk : WalkData

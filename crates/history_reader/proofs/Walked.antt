@@ -11,7 +11,7 @@ use Rattle.history_text.specs.History.{entry_lines, history_lines_of}
 use Rattle.history_text.specs.Printable.{Begins, IsHalfWord, IsPrintable, IsWord}
 use Rattle.history_reader.proofs.OneEntry.{one_entry}
 use Rattle.history_reader.specs.Walks.{BeginsWith, IsPostal, IsWalked, LettersLeft, WalkData, letters_left}
-use Rattle.history_reader.specs.inside.Finding.{entry_with, left_without, letter_for}
+use Rattle.history_reader.specs.inside.Finding.{entry_with, left_without, letter_for, with_sent}
 use Rattle.history_reader.proofs.Left.{senders_count}
 use Rattle.history_reader.proofs.OneMore.{finds_next, next_begun, next_postal, next_same, next_senders}
 
@@ -77,10 +77,6 @@ walk_begins s text w rest count letters = record {
   count = count;
   letters = letters;
 }
-
--- the letters that are left, with those of an entry
-abbrev pub with_sent : Entry → LettersLeft → LettersLeft
-with_sent e letters = record { begun = letters.begun; senders = letters.senders ++ record { from = e.actor; sent = e.sent } ∷ [] }
 
 module _ (s : ScriptData) (text : List ℕ) (h : List Entry) (old : WalkData) (walked : IsWalked s text h old) (e : Entry) where
   pub walked_more : (new : WalkData) (l : Letter) → Begins s old.rest e new.rest

@@ -1,6 +1,6 @@
 // The letters that are in flight, by the stamp of the entry that sent them and their place there.
-ghost use Rattle.std.specs.Prelude.{◌≡◌, [], ◌∷◌, ◌++◌, ◌+◌, ◌-◌, ◌<◌, ◌^◌, true, false, length, IsSome, OnOk, OnErr, slice_get};
-ghost use Rattle.history_reader.specs.inside.Finding.{addressee_of, go_left, left_without, letter_by, letter_for, letter_of, spent_at, spent_by};
+ghost use Rattle.std.specs.Prelude.{◌≡◌, [], ◌∷◌, ◌++◌, ◌+◌, ◌-◌, ◌<◌, ◌^◌, true, false, length, is_some, IfOk, IsNone, IsSome, OnOk, OnErr, slice_get};
+ghost use Rattle.history_reader.specs.inside.Finding.{addressee_of, addressee_to, go_left, left_without, letter_by, letter_for, letter_of, spent_at, spent_by, with_sent};
 
 use letter_types::{Body, Entry, Letter, LetterId, Letters, Outgoing, copy_letters, go};
 use std::alloc::Global;
@@ -48,23 +48,64 @@ impl InFlight {
         self.senders.len() as u64
     }
 
-    // Takes the letter of an entry, where the entry may come next: its stamp is the next one, and the letter is in
-    // flight and addressed to its actor. None where it may not.
-    pub(crate) fn letter_for(&mut self, client: ActorNo, entry: &Entry) -> Option<Letter>
+    // Takes the letter of an entry, and what the entry sent is in flight, where the entry may come next: its stamp is
+    // the next one, and the letter is in flight and addressed to its actor. Where it may not, or where no memory is
+    // found, all stays as it was.
+    #[tactic(auto, using(crate::proofs::TakenLater::goes_none))]
+    pub(crate) fn go_on(
+        &mut self,
+        alloc: Global,
+        client: ActorNo,
+        entry: &Entry,
+    ) -> Result<Option<Letter>, NoMemory>
         requires { length self.old.senders + 1 < 2 ^ 64 }
-        ensures letter { result ≡ letter_for client.0 self.old entry.now }
-        ensures left { IsSome result → self.new ≡ left_without entry.now.took.id self.old }
-        ensures count { length self.new.senders ≡ length self.old.senders }
+        ensures letter { IfOk result (λ letter. letter ≡ letter_for client.0 self.old entry.now) }
+        ensures left { IfOk result (λ letter. IsSome letter → self.new ≡ with_sent entry.now (left_without entry.now.took.id self.old)) }
+        ensures none { IfOk result (λ letter. IsNone letter → self.new ≡ self.old) }
+        ensures count { IfOk result (λ letter. IsSome letter → length self.new.senders ≡ length self.old.senders + 1) }
+        ensures err { OnErr result (self.new ≡ self.old) }
+    {
+        if !self.may_come(client, entry) {
+            return Ok(None);
+        }
+        self.add(alloc, entry)?;
+        let letter = self.take(client, entry.took.id);
+        Ok(letter)
+    }
+
+    // Whether the entry may come next.
+    #[tactic(auto, using(crate::proofs::TakenLater::some_addressed, crate::proofs::TakenLater::none_addressed))]
+    fn may_come(&self, client: ActorNo, entry: &Entry) -> bool
+        requires { length self.now.senders + 1 < 2 ^ 64 }
+        ensures { result ≡ is_some (letter_for client.0 self.now entry.now) }
     {
         if entry.stamp.0 != self.count() + 1 {
+            return false;
+        }
+        match self.addressee(client, entry.took.id) {
+            Some(to) => to == entry.actor,
+            None => false,
+        }
+    }
+
+    // To whom the letter of this id is addressed. None where it isn't in flight.
+    fn addressee(&self, client: ActorNo, id: LetterId) -> Option<ActorNo>
+        ensures { result ≡ addressee_to (letter_of client.0 self.now id) }
+    {
+        if id.stamp.0 == 0 {
+            return self.go_to(client, id.place);
+        }
+        sent_to(&self.senders, id)
+    }
+
+    // The client, where Go is in flight, whose place is 0.
+    fn go_to(&self, client: ActorNo, place: u32) -> Option<ActorNo>
+        ensures { result ≡ addressee_to (go_left client.0 self.now.begun place) }
+    {
+        if place != 0 || self.begun {
             return None;
         }
-        let letter = self.take(client, entry.took.id)?;
-        if letter.to == entry.actor {
-            Some(letter)
-        } else {
-            None
-        }
+        Some(client)
     }
 
     // Takes the letter of this id. None where it isn't in flight.
@@ -92,7 +133,7 @@ impl InFlight {
         Some(go(client))
     }
 
-    // What an entry sent is in flight. No memory leaves as many senders as there were.
+    // What an entry sent is in flight. Where no memory is found all stays as it was.
     pub(crate) fn add(&mut self, alloc: Global, entry: &Entry) -> Result<(), NoMemory>
         ensures begun { self.new.begun ≡ self.old.begun }
         ensures ok { OnOk result (self.new.senders ≡ self.old.senders
@@ -106,6 +147,17 @@ impl InFlight {
         })?;
         Ok(())
     }
+}
+
+// To whom the letter of this id is addressed, whose stamp isn't 0. None where it isn't there or was taken.
+#[tactic(auto, using(crate::proofs::TakenLater::to_at))]
+fn sent_to(senders: &[Sender], id: LetterId) -> Option<ActorNo>
+    requires { 0 < id.stamp.0 }
+    ensures { result ≡ addressee_to (letter_by id (slice_get senders.now (id.stamp.0 - 1))) }
+{
+    let number = (id.stamp.0 - 1) as usize;
+    let sender = senders.get(number)?;
+    left_to(sender.sent.items(), id.place as usize)
 }
 
 // Takes the letter of this id, whose stamp isn't 0, from its sender. None where it isn't there or was taken.

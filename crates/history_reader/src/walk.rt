@@ -1,5 +1,5 @@
 // The walk over a text, entry by entry.
-ghost use Rattle.std.specs.Prelude.{[], ◌≡◌, ◌+◌, ◌<◌, ◌^◌, length, IfOk, IfSome, IsNone, Err};
+ghost use Rattle.std.specs.Prelude.{[], ◌≡◌, ◌+◌, ◌<◌, ◌^◌, length, IfOk, IfSome, IsNone, OnErr, Err};
 ghost use Rattle.tx_trees.specs.ScriptData.{client_of};
 ghost use Rattle.tx_trees.specs.Valid.{IsValid};
 ghost use Rattle.history_reader.specs.Walks.{IsUnpostedAt, IsUnread, IsWalked, ComesBehind};
@@ -86,13 +86,14 @@ impl<'a> Walk<'a> {
     }
 
     /// The next entry, with the letter that it took. None at the text's end, where the walk stays as it is. It takes
-    /// time in proportion to the entry's lines. Of a walk that has failed nothing more is promised.
+    /// time in proportion to the entry's lines. An error leaves the walk as it was.
     pub fn next(&mut self) -> Result<Option<Entry>, Fault>
         ensures some { IfOk result (λ next. IfSome next (λ e. ComesBehind self.old e self.new)) }
         ensures none { IfOk result (λ next. IsNone next → (self.old.rest ≡ []) × (self.new ≡ self.old)) }
         ensures text { result ≡ Err Fault.Text → IsUnread self.old.script self.old.rest }
         ensures postal { result ≡ Err Fault.Postal → IsUnpostedAt self.old }
         ensures script { self.new.script ≡ self.old.script }
+        ensures err { OnErr result (self.new ≡ self.old) }
     {
         if self.rest.is_empty() {
             return Ok(None);
@@ -101,10 +102,10 @@ impl<'a> Walk<'a> {
             return Err(Fault::Text);
         };
         let Heard { entry, length } = heard;
-        let Some(letter) = self.letters.letter_for(client(self.script), &entry) else {
+        let client = client(self.script);
+        let Some(letter) = self.letters.go_on(self.alloc, client, &entry)? else {
             return Err(Fault::Postal);
         };
-        self.letters.add(self.alloc, &entry)?;
         self.rest = &self.rest[length..];
         Ok(Some(entry_with(entry, letter)))
     }

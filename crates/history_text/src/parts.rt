@@ -34,6 +34,17 @@ impl<'a> Parts<'a> {
         }
     }
 
+    /// The same parts, to go through while these stay.
+    pub fn again(&self) -> Parts<'a>
+        ensures { result ≡ self.now }
+    {
+        Parts {
+            text: self.text,
+            byte: self.byte,
+            more: self.more,
+        }
+    }
+
     /// The next part. None exactly where none is left.
     #[tactic(auto, using(crate::proofs::Cuts::one_part, crate::proofs::Cuts::first_part))]
     pub fn next(&mut self) -> Option<&'a [u8]>

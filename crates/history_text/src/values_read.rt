@@ -157,17 +157,19 @@ fn kind_of(script: &Script, item: ItemNo) -> Kind
     script.items()[item.0 as usize].kind
 }
 
-/// The values that are left, each behind its item and `=`. Running out of memory is the only error.
+/// The values that are left, each behind its item and `=`. Running out of memory is the only error, and nothing that was
+/// lent changes.
 #[tactic(auto, using(crate::proofs::Each::each_fails, crate::proofs::Each::one_more))]
 pub fn read_values(
     alloc: Global,
     script: &Script,
-    words: &mut Parts,
+    words: &Parts,
 ) -> Result<Option<Values>, NoMemory>
-    ensures { IfOk result (λ read. IsReadBack (got_words script.now) (AreGot script.now) words.old read) }
+    ensures { IfOk result (λ read. IsReadBack (got_words script.now) (AreGot script.now) words.now read) }
 {
     let mut values = Values::new(alloc);
-    while let Some(word) = words.next() {
+    let mut left = words.again();
+    while let Some(word) = left.next() {
         let Some(got) = read_got(alloc, script, word)? else {
             return Ok(None);
         };

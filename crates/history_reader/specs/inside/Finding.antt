@@ -1,5 +1,6 @@
 -- Letters in flight, found by their ids.
-use Rattle.std.specs.Prelude.{if◌then◌else◌, ℕ, zero, suc, ◌+◌, ◌-◌, ◌==◌, Bool, true, false, ◌&&◌, not, List, [], ◌∷◌, length, Option, Some, None, slice_get}
+use Rattle.std.specs.Prelude.{if◌then◌else◌, ℕ, zero, suc, ◌+◌, ◌-◌, ◌==◌, Bool, true, false, ◌&&◌, not, List, [], ◌∷◌, ◌++◌, length, Option, Some, None, slice_get}
+use Rattle.std.specs.Option.{option_map}
 use Rattle.tv_base.specs.declared.numbers.ActorNo.{ActorNo}
 use Rattle.letter_types.specs.declared.bodies.Body.{Body}
 use Rattle.letter_types.specs.declared.bodies.Body.TheVariants.{Go}
@@ -20,6 +21,10 @@ is_spent _ = false
 abbrev pub addressee_of : Option Outgoing → Option ActorNo
 addressee_of None = None
 addressee_of (Some o) = if is_spent o.body then None else Some o.to
+
+-- to whom a letter is addressed, if there is one
+abbrev pub addressee_to : Option Letter → Option ActorNo
+addressee_to letter = option_map (λ (l : Letter). l.to) letter
 
 -- the letter of this id, where what is left at its place isn't Go
 abbrev pub letter_at : LetterId → ActorNo → Option Outgoing → Option Letter
@@ -73,6 +78,14 @@ left_without_if false id letters =
 -- where the one of this id was taken
 abbrev pub left_without : LetterId → LettersLeft → LettersLeft
 left_without id letters = left_without_if (id.stamp.0 == 0) id letters
+
+-- what an entry sent, with who sent it
+abbrev pub sender_of : Entry → Sender
+sender_of e = record { from = e.actor; sent = e.sent }
+
+-- letters that are left, and what an entry sent
+abbrev pub with_sent : Entry → LettersLeft → LettersLeft
+with_sent e letters = record { begun = letters.begun; senders = letters.senders ++ sender_of e ∷ [] }
 
 -- an entry with the letter that it took
 abbrev pub entry_with : Entry → Letter → Entry
