@@ -1,3 +1,4 @@
+pub mod EachRun
 pub mod Taken
 pub mod Shown
 pub mod Waiting

@@ -1,9 +1,13 @@
 -- Why letters are kept, in every run.
-use Rattle.std.specs.Prelude.{ℕ, ◌≡◌, ◌+◌, ◌<◌, ◌≤◌, true, false, List}
+use Rattle.std.specs.Prelude.{ℕ, ◌≡◌, ◌+◌, ◌<◌, ◌≤◌, true, false, List, reverse, take, Some, None}
+use Rattle.tv_base.specs.declared.numbers.ItemNo.{ItemNo}
+use Rattle.tv_base.specs.declared.numbers.TreeNo.{TreeNo}
 use Rattle.letter_types.specs.declared.entries.Entry.{Entry}
 use Rattle.letter_types.specs.declared.kept.KeptLetter.{KeptLetter}
 use Rattle.letter_types.specs.declared.kept.Why.{Why}
 use Rattle.letter_types.specs.declared.kept.Why.TheVariants.{Called, ForHolder, ForShow}
+use Rattle.letter_types.specs.declared.votes.Cause.TheVariants.{Conflict}
+use Rattle.script_parts.specs.Counts.{has_strict}
 use Rattle.script_parts.specs.ScriptData.{node_of, updates, visits}
 use Rattle.tx_trees.specs.ScriptData.{ScriptData, subs_at}
 use Rattle.tx_trees.specs.Valid.{IsValid}
@@ -11,6 +15,8 @@ use Rattle.world_model.specs.Counts.{Each, tally}
 use Rattle.world_model.specs.Kept.{kept_in}
 use Rattle.world_model.specs.Named.{is_strict_at}
 use Rattle.world_model.specs.Runs.{IsStepRun, in_flight, keeping_in, node_in}
+use Rattle.board_rules.specs.Histories.{places_of}
+use Rattle.board_rules.specs.Right.{in_way_of}
 use Rattle.tree_laws.specs.Keeping.{Holds}
 use Rattle.tree_laws.specs.Waking.{is_wake_at}
 use Rattle.tree_laws.specs.Applied.{applied_at}
@@ -39,3 +45,14 @@ IsKeptUntil s past p x Called = 1 ≤ tally (is_wake_at x.tree x.sub p) (in_flig
 abbrev pub LettersStayKeptForAReason : Type 0
 LettersStayKeptForAReason = (s : ScriptData) (past : List Entry) (p : ℕ) → IsValid s → IsStepRun s past → p < s.nodes
     → Each (λ (x : KeptLetter). IsKeptUntil s past p x x.why) (kept_in s past p)
+
+-- nothing is in the way of a subtransaction, at any node and after any entries, where no tree is strict
+abbrev pub NothingIsInTheWay : Type 0
+NothingIsInTheWay = (s : ScriptData) (past : List Entry) (n p t k : ℕ) → IsValid s → has_strict s ≡ false → IsStepRun s past
+    → in_way_of s (places_of (take n (reverse past))) p t k ≡ None
+
+-- whose lock is in the way of one at its node is a strict tree that is decided on later
+abbrev pub OnlyHoldersAreInTheWay : Type 0
+OnlyHoldersAreInTheWay = (s : ScriptData) (past : List Entry) (p t k : ℕ) (x : ItemNo) (u : TreeNo) → IsValid s
+    → IsStepRun s past → p < s.nodes → node_of s t k ≡ p
+    → in_way_of s (places_of (reverse past)) p t k ≡ Some (Conflict x u) → IsHolder s past p u.0

@@ -1,10 +1,7 @@
 // The acts of a run as moves of the Board.
-ghost use Rattle.std.specs.Prelude.{List, reverse};
+ghost use Rattle.std.specs.Prelude.{reverse};
 ghost use Rattle.board_rules.specs.Moves.{AtEachAct};
-ghost use Rattle.letter_types.specs.declared.entries.Entry.{Entry};
-ghost use Rattle.script_parts.specs.ScriptData.{ScriptData};
-ghost use Rattle.script_parts.specs.Valid.{IsValid};
-ghost use Rattle.world_model.specs.Runs.{IsStepRun};
+ghost use Rattle.run_laws.specs.EachRun.{OfEachRun};
 ghost use Rattle.board_rules.specs.ButCause.{IsMoveButCause};
 
 /// In every run each act is a move of the Board, after the acts before it, but for the cause that a vote names: a tree is
@@ -13,5 +10,5 @@ ghost use Rattle.board_rules.specs.ButCause.{IsMoveButCause};
 /// up to there are whole; a strict tree waits where its home's update version isn't the one after the read version; and
 /// marks go and decisions are made and applied by their rules.
 pub fn acts_are_moves()
-    ensures { (s : ScriptData) (past : List Entry) → IsValid s → IsStepRun s past → AtEachAct (IsMoveButCause s) (reverse past) }
+    ensures { OfEachRun (λ s past. AtEachAct (IsMoveButCause s) (reverse past)) }
 {}

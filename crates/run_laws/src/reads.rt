@@ -1,21 +1,17 @@
 // What nodes read and vote.
-ghost use Rattle.std.specs.Prelude.{List, reverse};
 ghost use Rattle.board_rules.specs.Right.{IsRight};
-ghost use Rattle.letter_types.specs.declared.entries.Entry.{Entry};
-ghost use Rattle.script_parts.specs.ScriptData.{ScriptData};
-ghost use Rattle.script_parts.specs.Valid.{IsValid};
-ghost use Rattle.world_model.specs.Runs.{IsStepRun};
+ghost use Rattle.run_laws.specs.EachRun.{OfEachHistory};
 ghost use Rattle.run_laws.specs.Causes.{VotesNameTheirCauses};
 
 /// In every run each subtransaction of a read tree gives what its items are worth at its tree's version, after the acts up
 /// to there; and each yes gives what its gets are worth at its tree's version, in the history before its entry.
 pub fn reads_and_votes_are_right()
-    ensures { (s : ScriptData) (past : List Entry) → IsValid s → IsStepRun s past → IsRight s (reverse past) }
+    ensures { OfEachHistory IsRight }
 {}
 
 /// In every run each vote is a no just where there is a cause, and names the first: a lock that conflicts, as the look back
 /// over the acts before it names it; else the greatest version in which an item that it overwrites was written, if that is
 /// above its tree's; else a value that is short of what it draws, in the history before its entry.
 pub fn votes_name_their_causes()
-    ensures { (s : ScriptData) (past : List Entry) → IsValid s → IsStepRun s past → VotesNameTheirCauses s (reverse past) }
+    ensures { OfEachHistory VotesNameTheirCauses }
 {}

@@ -1,9 +1,5 @@
 // Where the roots of strict trees are born, and where they wait.
-ghost use Rattle.std.specs.Prelude.{List, reverse};
-ghost use Rattle.letter_types.specs.declared.entries.Entry.{Entry};
-ghost use Rattle.script_parts.specs.ScriptData.{ScriptData};
-ghost use Rattle.script_parts.specs.Valid.{IsValid};
-ghost use Rattle.world_model.specs.Runs.{IsStepRun};
+ghost use Rattle.run_laws.specs.EachRun.{OfEachHistory};
 ghost use Rattle.run_laws.specs.Roots.{RootsAreBornOrWait};
 
 /// In every run the entry that takes the Root of a strict tree, or the Wake of it, bears the tree, or its root waits.
@@ -11,6 +7,5 @@ ghost use Rattle.run_laws.specs.Roots.{RootsAreBornOrWait};
 /// entries before; then Waits is the only act of the entry, and tells both numbers. No other entry bears the tree, and
 /// no other has an act Waits.
 pub fn strict_roots_are_born_or_wait()
-    ensures { (s : ScriptData) (past : List Entry) → IsValid s → IsStepRun s past
-        → RootsAreBornOrWait s (reverse past) }
+    ensures { OfEachHistory RootsAreBornOrWait }
 {}

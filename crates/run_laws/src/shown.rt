@@ -1,16 +1,14 @@
 // What holds of a version that is shown, or that is swept to.
-ghost use Rattle.std.specs.Prelude.{false, ◌≡◌, ◌∷◌, ◌++◌, List, reverse};
+ghost use Rattle.std.specs.Prelude.{false, ◌≡◌, ◌∷◌, List, reverse};
 ghost use Rattle.letter_types.specs.declared.entries.Entry.{Entry};
-ghost use Rattle.letter_types.specs.declared.entries.Letter.{Letter};
-ghost use Rattle.letter_types.specs.declared.entries.Outgoing.{Outgoing};
 ghost use Rattle.advance_laws.specs.Given.{IsGivenAnew};
 ghost use Rattle.advance_laws.specs.Quiet.{IsGivenInQuiet};
+ghost use Rattle.run_laws.specs.EachRun.{EachInFlight, EachSent, OfEachLaterRun, OfEachRun};
 ghost use Rattle.run_laws.specs.Shown.{IsBackedBy, IsClosedBy};
 ghost use Rattle.script_parts.specs.Counts.{is_lossy};
 ghost use Rattle.tx_trees.specs.ScriptData.{ScriptData};
 ghost use Rattle.tx_trees.specs.Valid.{IsValid};
-ghost use Rattle.world_model.specs.Counts.{Each};
-ghost use Rattle.world_model.specs.Runs.{IsStepRun, in_flight};
+ghost use Rattle.world_model.specs.Runs.{IsStepRun};
 
 /// A version that nodes are told to show is no later than the latest one so far, or it is the next one: then nothing
 /// counted of it is outstanding and every node updates above it. A version that they are told to sweep to is no later than
@@ -19,7 +17,7 @@ ghost use Rattle.world_model.specs.Runs.{IsStepRun, in_flight};
 /// of every script, also where the coordinator forgets and tells nodes again what they have done.
 pub fn orders_are_given_before_or_in_quiet()
     ensures { (s : ScriptData) (past : List Entry) (e : Entry) → IsValid s → IsStepRun s (e ∷ past)
-        → Each (λ (o : Outgoing). IsGivenAnew s past o.body) e.sent }
+        → EachSent (IsGivenAnew s past) e }
 {}
 
 /// Where the coordinator remembers, an entry sends Show(v) only where nothing counted of version v is outstanding and
@@ -27,19 +25,17 @@ pub fn orders_are_given_before_or_in_quiet()
 /// reads v or a later version.
 pub fn orders_are_given_in_quiet()
     ensures { (s : ScriptData) (past : List Entry) (e : Entry) → IsValid s → is_lossy s ≡ false → IsStepRun s (e ∷ past)
-        → Each (λ (o : Outgoing). IsGivenInQuiet s past o.body) e.sent }
+        → EachSent (IsGivenInQuiet s past) e }
 {}
 
 /// While Show(v) is in flight, or an order that stands for it, each tree of version at most v that is born and reads
 /// nothing is whole; while Sweep(v) is, or an order that stands for it, each read tree of a version below v.
 pub fn what_is_shown_is_whole()
-    ensures { (s : ScriptData) (past : List Entry) → IsValid s → IsStepRun s past
-        → Each (λ (l : Letter). IsBackedBy s (reverse past) l.body) (in_flight s past) }
+    ensures { OfEachRun (λ s past. EachInFlight s past (IsBackedBy s (reverse past))) }
 {}
 
 /// Once Show(v) was in flight, no tree that reads nothing comes to a version at most v; once Sweep(v) was, no read tree
 /// to one below v.
 pub fn nothing_comes_to_what_is_shown()
-    ensures { (s : ScriptData) (past later : List Entry) → IsValid s → IsStepRun s (later ++ past)
-        → Each (λ (l : Letter). IsClosedBy s (reverse past) (reverse (later ++ past)) l.body) (in_flight s past) }
+    ensures { OfEachLaterRun (λ s past later. EachInFlight s past (IsClosedBy s (reverse past) (reverse later))) }
 {}

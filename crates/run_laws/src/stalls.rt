@@ -2,8 +2,9 @@
 ghost use Rattle.std.specs.Prelude.{ℕ, ◌≡◌, ◌<◌, ◌≤◌, ◌+◌, ◌*◌, List, [], length, true, false, reverse};
 ghost use Rattle.board_rules.specs.Right.{HasFinished};
 ghost use Rattle.letter_types.specs.declared.entries.Entry.{Entry};
+ghost use Rattle.run_laws.specs.EachRun.{OfEachEnd, OfEachRun, OfEachSimpleRun};
 ghost use Rattle.tree_laws.specs.Entries.{entries_most, entries_of, lossy_entries, rounds_in};
-ghost use Rattle.tx_trees.specs.Counts.{advances_in, has_strict, is_lossy};
+ghost use Rattle.tx_trees.specs.Counts.{advances_in, has_strict};
 ghost use Rattle.tx_trees.specs.ScriptData.{ScriptData};
 ghost use Rattle.tx_trees.specs.Valid.{IsValid};
 ghost use Rattle.world_model.specs.Kept.{kept_in};
@@ -12,8 +13,7 @@ ghost use Rattle.world_model.specs.Runs.{client_in, in_flight, IsStepRun};
 /// No run stalls, also of a script with strict trees, or of one whose coordinator forgets: where no letter is in flight
 /// any more, every tree is answered, every advancement has ended, and the client has finished.
 pub fn no_run_stalls()
-    ensures { (s : ScriptData) (past : List Entry) → IsValid s → IsStepRun s past → in_flight s past ≡ []
-        → ((client_in s past).finished ≡ true) × HasFinished (reverse past) }
+    ensures { OfEachEnd (λ s past. ((client_in s past).finished ≡ true) × HasFinished (reverse past)) }
 {}
 
 /// Where no letter is in flight any more, no node keeps one either.
@@ -25,15 +25,14 @@ pub fn nothing_is_kept_at_the_end()
 /// A run of a script without strict trees, whose coordinator remembers, in which no letter is in flight any more has as
 /// many entries as its trees, advancements and rounds take.
 pub fn entries_are_counted()
-    ensures { (s : ScriptData) (past : List Entry) → IsValid s → is_lossy s ≡ false → has_strict s ≡ false → IsStepRun s past
-        → in_flight s past ≡ [] → length past ≡ entries_of s (rounds_in s (reverse past)) }
+    ensures { OfEachSimpleRun (λ s past. in_flight s past ≡ [] → length past ≡ entries_of s (rounds_in s (reverse past))) }
 {}
 
 /// A run has at most so many entries: as many as two rounds for each advancement and one for each tree would bring it to,
 /// where there is a strict tree those of its decisions, of marks that are let go and of letters that are woken, and for each
 /// time that the coordinator is made to forget those by which it recovers and does anew what was in progress.
 pub fn entries_are_few()
-    ensures { (s : ScriptData) (past : List Entry) → IsValid s → IsStepRun s past → length past ≤ entries_most s }
+    ensures { OfEachRun (λ s past. length past ≤ entries_most s) }
 {}
 
 /// Where no tree is strict that is what two rounds for each advancement and one for each tree make, and what forgetting adds:
@@ -45,5 +44,5 @@ pub fn plain_runs_have_fewer_entries()
 
 /// By the limits of scripts no run has more than 3 million entries.
 pub fn runs_are_short()
-    ensures { (s : ScriptData) (past : List Entry) → IsValid s → IsStepRun s past → length past ≤ 3000000 }
+    ensures { OfEachRun (λ s past. length past ≤ 3000000) }
 {}

@@ -1,87 +1,72 @@
 // Trees, of every kind, in every run of every valid script.
-ghost use Rattle.std.specs.Prelude.{ℕ, Bool, true, false, ◌<◌, ◌≤◌, ◌+◌, ◌≡◌, List, length, reverse, take, Some, None};
+ghost use Rattle.std.specs.Prelude.{true, false, ◌≤◌, ◌+◌, ◌≡◌, reverse};
 ghost use Rattle.board_rules.specs.Histories.{places_of};
-ghost use Rattle.board_rules.specs.Right.{IsAtOnce, in_way_of};
-ghost use Rattle.letter_types.specs.declared.entries.Entry.{Entry};
+ghost use Rattle.board_rules.specs.Right.{IsAtOnce};
 ghost use Rattle.letter_types.specs.declared.entries.Letter.{Letter};
-ghost use Rattle.letter_types.specs.declared.votes.Cause.TheVariants.{Conflict};
-ghost use Rattle.run_laws.specs.Waiting.{IsHolder};
-ghost use Rattle.script_parts.specs.Counts.{has_strict};
+ghost use Rattle.run_laws.specs.EachRun.{OfEachHistory, OfEachRun, OfEachSub, OfEachTree, OfEachVisit};
+ghost use Rattle.run_laws.specs.Waiting.{NothingIsInTheWay, OnlyHoldersAreInTheWay};
 ghost use Rattle.tree_laws.specs.Applied.{applied_at, decided_as, decisions_to, noes};
 ghost use Rattle.tree_laws.specs.Carried.{CarriesVersion};
 ghost use Rattle.tree_laws.specs.Dids.{letters_asking};
 ghost use Rattle.tree_laws.specs.Stages.{StageAt};
 ghost use Rattle.tree_laws.specs.Turns.{turns};
-ghost use Rattle.tv_base.specs.declared.numbers.ItemNo.{ItemNo};
-ghost use Rattle.tv_base.specs.declared.numbers.TreeNo.{TreeNo};
-ghost use Rattle.tx_trees.specs.ScriptData.{ScriptData, node_of, sub_at, subs_at, visits};
-ghost use Rattle.tx_trees.specs.Valid.{IsValid};
-ghost use Rattle.tx_trees.specs.declared.parts.Sub.{Sub};
 ghost use Rattle.world_model.specs.Counts.{Each};
 ghost use Rattle.world_model.specs.Kept.{outstanding};
-ghost use Rattle.world_model.specs.Runs.{IsStepRun};
 
 /// In every run each subtransaction is asked for by an outstanding letter or has had its turn, a Did or a vote, and
 /// that at most once.
 pub fn turns_come_once()
-    ensures { (s : ScriptData) (past : List Entry) (t k : ℕ) (x : Sub) → IsValid s → IsStepRun s past
-        → sub_at s t k ≡ Some x → letters_asking s past t k + turns past t k ≤ 1 }
+    ensures { OfEachSub (λ s past t k. letters_asking s past t k + turns past t k ≤ 1) }
 {}
 
 /// In every run each tree is at one of its stages: it is unborn; or its home gathers its notices, and one is missing; or
 /// it is a strict tree that is decided, and its answer is held until each node that it visits has told that it applied
 /// the decision; or it is answered, once, and each of its subtransactions has had its turn.
 pub fn trees_go_by_stages()
-    ensures { (s : ScriptData) (past : List Entry) (t : ℕ) → IsValid s → IsStepRun s past → t < length s.trees
-        → StageAt s past t }
+    ensures { OfEachTree StageAt }
 {}
 
 /// In every run each outstanding Sub, notice, decision and acknowledgement is of a tree that is born, and carries the
 /// version with which it was born.
 pub fn letters_carry_versions()
-    ensures { (s : ScriptData) (past : List Entry) → IsValid s → IsStepRun s past
-        → Each (λ (l : Letter). CarriesVersion (places_of (reverse past)) l.body) (outstanding s past) }
+    ensures { OfEachRun (λ s past.
+        Each (λ (l : Letter). CarriesVersion (places_of (reverse past)) l.body) (outstanding s past)) }
 {}
 
 /// In every run a strict tree is decided on at most once.
 pub fn trees_are_decided_once()
-    ensures { (s : ScriptData) (past : List Entry) (t : ℕ) → IsValid s → IsStepRun s past → t < length s.trees
-        → decided_as past t true + decided_as past t false ≤ 1 }
+    ensures { OfEachTree (λ s past t. decided_as past t true + decided_as past t false ≤ 1) }
 {}
 
 /// In every run a decision was applied at each node that its tree visits, or is on its way there, as often as it was
 /// made: so at most once, and never otherwise than it was made.
 pub fn decisions_are_applied_once()
-    ensures { (s : ScriptData) (past : List Entry) (t q : ℕ) (commit : Bool) → IsValid s → IsStepRun s past
-        → t < length s.trees → q < s.nodes → visits (subs_at s t) q ≡ true
-        → applied_at past t commit q + decisions_to s past t commit q ≡ decided_as past t commit }
+    ensures { OfEachVisit (λ s past t q commit.
+        applied_at past t commit q + decisions_to s past t commit q ≡ decided_as past t commit) }
 {}
 
 /// In every run a strict tree commits only where none of its subtransactions has voted no, and aborts only where one
 /// has.
 pub fn decisions_follow_votes()
-    ensures { (s : ScriptData) (past : List Entry) (t : ℕ) → IsValid s → IsStepRun s past → t < length s.trees
-        → (1 ≤ decided_as past t true → noes past t ≡ 0) × (1 ≤ decided_as past t false → 1 ≤ noes past t) }
+    ensures { OfEachTree (λ s past t.
+        (1 ≤ decided_as past t true → noes past t ≡ 0) × (1 ≤ decided_as past t false → 1 ≤ noes past t)) }
 {}
 
 /// In every run no read or commuting step waits for anything but a strict tree's lock: an entry that takes the letter of
 /// a subtransaction of a read tree does it, and one of an update tree does it too, unless the look back over the acts
 /// before names a lock in its way. Then it parks it for that lock's tree. Nothing else is parked.
 pub fn no_step_waits()
-    ensures { (s : ScriptData) (past : List Entry) → IsValid s → IsStepRun s past → IsAtOnce s (reverse past) }
+    ensures { OfEachHistory IsAtOnce }
 {}
 
 /// In every run of a script without strict trees nothing is ever in the way of a subtransaction: so there each entry that
 /// takes the letter of a subtransaction does it.
 pub fn nothing_is_in_the_way()
-    ensures { (s : ScriptData) (past : List Entry) (n p t k : ℕ) → IsValid s → has_strict s ≡ false → IsStepRun s past
-        → in_way_of s (places_of (take n (reverse past))) p t k ≡ None }
+    ensures { NothingIsInTheWay }
 {}
 
 /// In every run what is in the way of a subtransaction is the lock of a strict tree, which is born, has had a turn there,
 /// and whose decision wasn't applied there.
 pub fn only_strict_trees_are_in_the_way()
-    ensures { (s : ScriptData) (past : List Entry) (p t k : ℕ) (x : ItemNo) (u : TreeNo) → IsValid s → IsStepRun s past
-        → p < s.nodes → node_of s t k ≡ p
-        → in_way_of s (places_of (reverse past)) p t k ≡ Some (Conflict x u) → IsHolder s past p u.0 }
+    ensures { OnlyHoldersAreInTheWay }
 {}
