@@ -1,18 +1,16 @@
 // The law of gates: every run keeps to the rows of its script.
-ghost use Rattle.std.specs.Prelude.{◌++◌, ℕ, List, reverse};
+ghost use Rattle.std.specs.Prelude.{◌++◌, ℕ, List};
 ghost use Rattle.board_rules.specs.Gates.{Fits, IsOpen};
 ghost use Rattle.board_rules.specs.Histories.{Place};
-ghost use Rattle.letter_types.specs.declared.entries.Entry.{Entry};
+ghost use Rattle.run_laws.specs.EachRun.{OfEachHistory};
 ghost use Rattle.tx_trees.specs.ScriptData.{ScriptData};
-ghost use Rattle.tx_trees.specs.Valid.{IsValid};
-ghost use Rattle.world_model.specs.Runs.{IsStepRun};
 
 /// Every run of every valid script, strict trees too, keeps to the rows of its script: a tree is born, and a node's update version is raised, only when the gate
 /// of the row that asks for it is open; and the client finishes once, when every tree is whole and every node has gone
 /// through all advancements. The gate of a row is open when each tree before the last `settle` row above it is whole,
 /// and every node has collected to the version of each advancement there.
 pub fn every_run_keeps_to_its_rows()
-    ensures { (s : ScriptData) (past : List Entry) → IsValid s → IsStepRun s past → Fits s (reverse past) }
+    ensures { OfEachHistory Fits }
 {}
 
 /// A gate that is open stays open, whatever comes.

@@ -1,21 +1,17 @@
 // Laws of items: at most three versions are held, and in the end the balances of the report.
-ghost use Rattle.std.specs.Prelude.{List, reverse};
+ghost use Rattle.std.specs.Prelude.{reverse};
 ghost use Rattle.board_rules.specs.Right.{HasFinished};
 ghost use Rattle.headline.specs.Held.{HasHeldThree, HoldsBalances};
-ghost use Rattle.letter_types.specs.declared.entries.Entry.{Entry};
-ghost use Rattle.tx_trees.specs.ScriptData.{ScriptData};
-ghost use Rattle.tx_trees.specs.Valid.{IsValid};
-ghost use Rattle.world_model.specs.Runs.{IsStepRun};
+ghost use Rattle.run_laws.specs.EachRun.{OfEachHistory, OfEachRun};
 
 /// In every run of every valid script, strict trees too, after each part of it, a node holds of each of its items at most
 /// three versions: from its low version to at most its update version, which is at most two above the low one.
 pub fn no_item_has_held_more_than_three()
-    ensures { (s : ScriptData) (past : List Entry) → IsValid s → IsStepRun s past → HasHeldThree s (reverse past) }
+    ensures { OfEachHistory HasHeldThree }
 {}
 
 /// In every run in which the client has finished, a node holds of each of its items the balances of the report and
 /// nothing else: its worth in the last version that was shown, and in the next one if a tree of that one changes it.
 pub fn nodes_hold_the_balances()
-    ensures { (s : ScriptData) (past : List Entry) → IsValid s → IsStepRun s past
-        → HasFinished (reverse past) → HoldsBalances s (reverse past) }
+    ensures { OfEachRun (λ s past. HasFinished (reverse past) → HoldsBalances s (reverse past)) }
 {}

@@ -1,12 +1,13 @@
 // The headline of a run whose client has finished, as one record.
-ghost use Rattle.std.specs.Prelude.{◌≡◌, List, [], reverse};
+ghost use Rattle.std.specs.Prelude.{List, reverse};
 ghost use Rattle.board_rules.specs.Right.{HasFinished};
 ghost use Rattle.headline.specs.Ended.{HasEnded};
 ghost use Rattle.headline.specs.Headline.{HasHeadline};
 ghost use Rattle.letter_types.specs.declared.entries.Entry.{Entry};
+ghost use Rattle.run_laws.specs.EachRun.{OfEachEnd};
 ghost use Rattle.tx_trees.specs.ScriptData.{ScriptData};
 ghost use Rattle.tx_trees.specs.Valid.{IsValid};
-ghost use Rattle.world_model.specs.Runs.{IsStepRun, IsWorldRun, in_flight};
+ghost use Rattle.world_model.specs.Runs.{IsWorldRun};
 
 /// Every run by the tables in which the client has finished has the headline, whoever made it: letters may still be in
 /// flight in it.
@@ -18,6 +19,5 @@ pub fn every_finished_run_has_the_headline()
 /// Every run in which no letter is left has ended: it has the headline, and at most so many entries; where the coordinator
 /// remembers and no tree is strict, as many as the script and the rounds of its advancements make.
 pub fn every_run_without_letters_has_ended()
-    ensures { (s : ScriptData) (past : List Entry) → IsValid s → IsStepRun s past
-        → in_flight s past ≡ [] → HasEnded s (reverse past) }
+    ensures { OfEachEnd (λ s past. HasEnded s (reverse past)) }
 {}
