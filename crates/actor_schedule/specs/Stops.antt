@@ -4,13 +4,7 @@ use Rattle.letter_types.specs.declared.entries.Posting.{Posting}
 use Rattle.letter_types.specs.Postal.{letters_sent}
 use Rattle.stamp_post.specs.Shown.{EnvelopeData, PostId}
 use Rattle.actor_schedule.specs.declared.stop.Held.{Held}
-use Rattle.actor_schedule.specs.declared.stop.Held.TheVariants.{Nothing, Undelivered, Unplaced}
-
--- the letters in hand are of this post
-abbrev pub AreOfPost : PostId → Held → Type 0
-AreOfPost post Nothing = Unit {0}
-AreOfPost post (Undelivered e) = e.post ≡ post
-AreOfPost post (Unplaced e rest) = (e.post ≡ post) × (rest.post ≡ post)
+use Rattle.actor_schedule.specs.declared.stop.Held.TheVariants.{Undelivered, Unplaced}
 
 -- a letter of the posting is held, and the outbox with all after it
 abbrev pub KeepsRest : PostId → Posting → Held → Type 0

@@ -1,2 +1,4 @@
-pub mod Seats
+pub mod Benches
 pub mod Entries
+pub mod Finishing
+pub mod Seats

@@ -1,9 +1,11 @@
 -- An actor's cell.
-use Rattle.std.specs.Prelude.{◌≡◌, ℕ, List}
+use Rattle.std.specs.Prelude.{◌≡◌, ◌≤◌, ℕ, List, length, sum_by}
+use Rattle.tv_base.specs.declared.numbers.TheConstants.{MOST_ENTRIES}
 use Rattle.letter_types.specs.declared.entries.Entry.{Entry}
 use Rattle.tx_trees.specs.ScriptData.{ScriptData}
 use Rattle.world_core.specs.declared.actor.ActorState.{ActorState}
 use Rattle.world_core.specs.Actors.{IsFor, actor_data}
+use Rattle.history_merge.specs.Merging.{NumberedBy}
 use Rattle.history_merge.specs.OwnLogs.{led_to}
 
 -- an actor: its number, and its own entries in order
@@ -18,3 +20,14 @@ cell_data number entries = record { number = number; entries = entries }
 pub record LeadsTo (s : ScriptData) (a : ℕ) (es : List Entry) (st : ActorState) : Type 0 where
   pub state : actor_data st ≡ led_to s a es
   pub script : IsFor s st
+
+-- how many entries cells have together
+abbrev pub entries_in : List CellData → ℕ
+entries_in cells = sum_by (λ c. length c.entries) cells
+
+-- cells lie in the order of their numbers, from 0, and so many entries are all that they have, and no more than a history
+-- takes
+pub record HasAllEntries (cells : List CellData) (count : ℕ) : Type 0 where
+  pub order : NumberedBy (λ c. c.number) 0 cells
+  pub whole : count ≡ entries_in cells
+  pub few : count ≤ MOST_ENTRIES

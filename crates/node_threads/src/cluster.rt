@@ -6,7 +6,7 @@ ghost use Rattle.history_merge.specs.Histories.{HasReceiptEntry};
 ghost use Rattle.history_merge.specs.OwnLogs.{Delivered};
 
 use crate::cell::ActorCell;
-use crate::finishing::{check_whole, closed_again, logs_of, opened, room_for_cells};
+use crate::finishing::{closed_again, is_whole, logs_of, opened, room_for_cells};
 use actor_schedule::Dispatch;
 use crossbeam_utils::CachePadded;
 use history_merge::{ClusterName, Made, Recorder, gathered};
@@ -194,7 +194,7 @@ impl<'a, K: ClusterName, G: Gate> Cluster<'a, K, G> {
         } = self;
         let cells = opened(cells, room.opened);
         let recorder = recorder.into_inner().into_inner();
-        if let Err(NoMemory) = check_whole(cells.as_slice(), recorder.count()) {
+        if !is_whole(cells.as_slice(), recorder.count()) {
             let cluster = Cluster {
                 alloc,
                 script,

@@ -1,8 +1,7 @@
 // The cells of a cluster that finishes: out of their locks, put back, and without their states.
-ghost use Rattle.std.specs.Prelude.{◌≡◌, ◌≤◌, true, length, map, sum_by, IfOk, IfSome, OnOk};
-ghost use Rattle.tv_base.specs.declared.numbers.TheConstants.{MOST_ENTRIES};
+ghost use Rattle.std.specs.Prelude.{◌≡◌, ◌↔◌, length, map, IfOk, IsTrue};
 ghost use Rattle.history_merge.specs.Merging.{HasRoom, NumberedBy};
-ghost use Rattle.node_threads.specs.Cells.{cell_data};
+ghost use Rattle.node_threads.specs.Cells.{HasAllEntries, cell_data, entries_in};
 
 use crate::cell::ActorCell;
 use crossbeam_utils::CachePadded;
@@ -69,8 +68,9 @@ pub(crate) fn closed_again<K: ClusterName>(
 }
 
 // Whether each cell's number is its place: no clause ties a lock's place to what lies under it.
+#[tactic(auto, using(crate::proofs::Finishing::numbering))]
 fn are_in_order<K: ClusterName>(cells: &[ActorCell<K>]) -> bool
-    ensures { result ≡ true → NumberedBy (λ c. c.number) 0 cells.now }
+    ensures { IsTrue result ↔ NumberedBy (λ c. c.number) 0 cells.now }
 {
     for (place, cell) in cells.iter().enumerate() {
         if cell.number().0 as usize != place {
@@ -80,37 +80,29 @@ fn are_in_order<K: ClusterName>(cells: &[ActorCell<K>]) -> bool
     true
 }
 
-// How many entries the cells have together. None where that is past the largest number.
-fn count_entries<K: ClusterName>(cells: &[ActorCell<K>]) -> Option<usize>
-    ensures { IfSome result (λ count. count ≡ sum_by (λ c. length c.entries) cells.now) }
+// Whether the cells have so many entries together.
+#[tactic(auto, using(crate::proofs::Finishing::counting))]
+fn have_together<K: ClusterName>(cells: &[ActorCell<K>], count: usize) -> bool
+    ensures { IsTrue result ↔ (count ≡ entries_in cells.now) }
 {
-    let mut count: usize = 0;
+    let mut left = count;
     for cell in cells {
-        count = count.checked_add(cell.count())?;
+        let own = cell.count();
+        if left < own {
+            return false;
+        }
+        left -= own;
     }
-    Some(count)
+    left == 0
 }
 
 // Whether the cells are in order, and as many entries are recorded as they have, which may be no more than a history
 // takes.
-pub(crate) fn check_whole<K: ClusterName>(
-    cells: &[ActorCell<K>],
-    recorded: usize,
-) -> Result<(), NoMemory>
-    ensures order { OnOk result (NumberedBy (λ c. c.number) 0 cells.now) }
-    ensures whole { OnOk result (recorded ≡ sum_by (λ c. length c.entries) cells.now) }
-    ensures few { OnOk result (recorded ≤ MOST_ENTRIES) }
+#[tactic(auto, using(crate::proofs::Finishing::holding))]
+pub(crate) fn is_whole<K: ClusterName>(cells: &[ActorCell<K>], recorded: usize) -> bool
+    ensures { IsTrue result ↔ HasAllEntries cells.now recorded }
 {
-    if !are_in_order(cells) {
-        return Err(NoMemory);
-    }
-    if count_entries(cells) != Some(recorded) {
-        return Err(NoMemory);
-    }
-    if recorded > MOST_ENTRIES {
-        return Err(NoMemory);
-    }
-    Ok(())
+    are_in_order(cells) && have_together(cells, recorded) && recorded <= MOST_ENTRIES
 }
 
 // The actors' own logs, in the room for them.

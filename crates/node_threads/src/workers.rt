@@ -1,8 +1,9 @@
 // What workers do with a cluster's letters.
-ghost use Rattle.std.specs.Prelude.{◌≡◌, ◌<◌, [], IfErr, IfOk, IfSome};
+ghost use Rattle.std.specs.Prelude.{◌≡◌, ◌<◌, ◌⊎◌, [], IfErr, IfOk, IfSome, IsOk, OnErr, OnOk};
 ghost use Rattle.actor_schedule.specs.Desks.{desk_data, empty_trays};
-ghost use Rattle.actor_schedule.specs.Stops.{AreOfPost, KeepsLetter};
+ghost use Rattle.actor_schedule.specs.Stops.{KeepsLetter};
 ghost use Rattle.actor_schedule.specs.declared.stop.Held.TheVariants as helds;
+ghost use Rattle.node_threads.specs.Benches.{AreAllOrNone, AreFlushed, IsDelivered, KeepsOne, ends_last};
 
 use crate::cluster::Cluster;
 use actor_schedule::{Desk, Ending, Held};
@@ -37,7 +38,8 @@ impl<K: ClusterName> Drop for Bench<K> {
 
 // Where no memory was found, nothing is held.
 fn or_stop(found: Result<(), NoMemory>) -> Result<(), (NoMemory, Held)>
-    ensures { IfErr result (λ e. e.1 ≡ helds.Nothing) }
+    ensures ok { OnOk result (IsOk found) }
+    ensures err { IfErr result (λ e. e.1 ≡ helds.Nothing) }
 {
     match found {
         Ok(()) => Ok(()),
@@ -47,7 +49,10 @@ fn or_stop(found: Result<(), NoMemory>) -> Result<(), (NoMemory, Held)>
 
 impl<K: ClusterName> Bench<K> {
     // Whether the client has finished with the entry that was made last.
-    fn has_finished(&self) -> bool {
+    #[tactic(auto, using(crate::proofs::Benches::ending))]
+    fn has_finished(&self) -> bool
+        ensures { result ≡ ends_last self.now.made.items }
+    {
         match self.made.back() {
             Some(last) => ends(&last.entry().acts),
             None => false,
@@ -73,7 +78,9 @@ impl<'a, K: ClusterName, G: Gate> Cluster<'a, K, G> {
         bench: &mut Bench<K>,
     ) -> Result<bool, (NoMemory, Held)>
         requires { envelope.post ≡ K.post }
-        ensures { IfErr result (λ e. KeepsLetter K.post envelope e.1) }
+        ensures delivered { IfOk result (IsDelivered K.post K.script envelope.letter bench.old.made.items
+            bench.new.made.items bench.old.desk bench.new.desk) }
+        ensures held { IfErr result (λ e. KeepsLetter K.post envelope e.1) }
     {
         let out = match self.deliver(rt, envelope, &mut bench.made) {
             Ok(out) => out,
@@ -88,7 +95,13 @@ impl<'a, K: ClusterName, G: Gate> Cluster<'a, K, G> {
 
     // Puts what lies in the trays into the mailboxes, and hands the entries in where there are many. Where no memory is
     // found, what is left lies in the trays and among the entries.
-    fn put_by<R: Wait>(&self, rt: &R, bench: &mut Bench<K>) -> Result<(), NoMemory> {
+    fn put_by<R: Wait>(&self, rt: &R, bench: &mut Bench<K>) -> Result<(), NoMemory>
+        ensures hand { bench.new.desk.hand ≡ bench.old.desk.hand }
+        ensures trays { OnOk result (bench.new.desk.trays ≡ empty_trays K.post.actors) }
+        ensures left { OnErr result ((bench.new.desk.trays ≡ empty_trays K.post.actors)
+            ⊎ AreFlushed bench.old.desk.trays bench.new.desk.trays) }
+        ensures made { AreAllOrNone bench.old.made.items bench.new.made.items }
+    {
         self.dispatch.flush(rt, &mut bench.desk)?;
         let count = bench.made.len();
         if count >= MOST_KEPT {
@@ -108,7 +121,8 @@ impl<'a, K: ClusterName, G: Gate> Cluster<'a, K, G> {
         bench: &mut Bench<K>,
     ) -> Result<(), (NoMemory, Held)>
         requires { envelope.post ≡ K.post }
-        ensures { IfErr result (λ e. AreOfPost K.post e.1) }
+        ensures trays { OnOk result (bench.new.desk.trays ≡ empty_trays K.post.actors) }
+        ensures held { IfErr result (λ e. (e.1 ≡ helds.Nothing) ⊎ KeepsLetter K.post envelope e.1) }
     {
         let _finished = self.deliver_to_desk(rt, envelope, bench)?;
         or_stop(self.put_by(rt, bench))
@@ -127,6 +141,7 @@ impl<'a, K: ClusterName, G: Gate> Cluster<'a, K, G> {
 
     // Serves an actor: a turn of letters, or all that lie in its mailbox. What comes out is put at the end, and what is
     // left in hand goes back into the mailbox, also where it stops. Where more may lie there, the actor is ready again.
+    #[tactic(auto, using(crate::proofs::Benches::keeping))]
     fn take_turn<R: Wait>(
         &self,
         rt: &R,
@@ -134,7 +149,8 @@ impl<'a, K: ClusterName, G: Gate> Cluster<'a, K, G> {
         bench: &mut Bench<K>,
     ) -> Result<(), (NoMemory, Held)>
         requires { actor < K.post.actors }
-        ensures { IfErr result (λ e. AreOfPost K.post e.1) }
+        ensures trays { OnOk result (bench.new.desk.trays ≡ empty_trays K.post.actors) }
+        ensures held { IfErr result (λ e. KeepsOne K.post e.1) }
     {
         for _letter in 0..TURN {
             let Some(envelope) = self.next_letter(rt, actor, bench) else {
@@ -163,7 +179,8 @@ impl<'a, K: ClusterName, G: Gate> Cluster<'a, K, G> {
         bench: &mut Bench<K>,
     ) -> Result<(), (NoMemory, Held)>
         requires { actor < K.post.actors }
-        ensures { IfErr result (λ e. AreOfPost K.post e.1) }
+        ensures trays { OnOk result (bench.new.desk.trays ≡ empty_trays K.post.actors) }
+        ensures held { IfErr result (λ e. KeepsOne K.post e.1) }
     {
         let served = self.take_turn(rt, actor, bench);
         if served.is_err() {
@@ -175,7 +192,9 @@ impl<'a, K: ClusterName, G: Gate> Cluster<'a, K, G> {
     // A worker for which no actor is ready hands in what it made, so that nobody waits for that, and sleeps. Where no
     // memory is found it tells the others.
     fn rest<R: Wait>(&self, rt: &R, bench: &mut Bench<K>) -> Result<(), (NoMemory, Held)>
-        ensures { IfErr result (λ e. e.1 ≡ helds.Nothing) }
+        ensures desk { bench.new.desk ≡ bench.old.desk }
+        ensures made { OnOk result (bench.new.made.items ≡ []) }
+        ensures held { IfErr result (λ e. e.1 ≡ helds.Nothing) }
     {
         if !bench.made.is_empty() {
             if let Err(NoMemory) = self.record(rt, &mut bench.made) {
@@ -195,18 +214,24 @@ impl<'a, K: ClusterName, G: Gate> Cluster<'a, K, G> {
     /// there is none, it sleeps until an envelope is put that nobody else is about to take. It ends once the client has
     /// finished, or once any worker finds no memory. What it had in hand when it stopped itself comes back, lies in its
     /// mailbox again, or in a tray of its desk; where another worker stopped it has nothing in hand. Either way the
-    /// entries that it hasn't handed in lie on the bench. Of this a clause says what post comes back is of: what its
-    /// steps leave is said by `deliver`, `Desk::sort` and `Recorder::record`, and the rest lies under locks.
+    /// entries that it hasn't handed in lie on the bench. Clauses say that a worker which ends with the client has
+    /// handed in all that it made, and leaves its trays empty where they were so; and that what comes back is nothing, a
+    /// letter that wasn't delivered, or all that no tray took of what came of one. What its steps leave is said by
+    /// `deliver`, `Desk::sort` and `Recorder::record`, and the rest lies under locks.
     ///
     /// `worker` is its own number, by which it is known as the last to serve an actor: different workers should have
     /// different numbers, and 2^32 - 1 stands for nobody.
+    #[tactic(auto, using(crate::proofs::Benches::keeping))]
     pub fn serve<R: Wait>(
         &self,
         rt: &R,
         worker: u32,
         bench: &mut Bench<K>,
     ) -> Result<(), (NoMemory, Held)>
-        ensures { IfErr result (λ e. AreOfPost K.post e.1) }
+        ensures made { OnOk result (bench.new.made.items ≡ []) }
+        ensures trays { OnOk result (bench.old.desk.trays ≡ empty_trays K.post.actors
+            → bench.new.desk.trays ≡ empty_trays K.post.actors) }
+        ensures held { IfErr result (λ e. KeepsOne K.post e.1) }
     {
         let mut place = (worker % 256) as u8;
         for _ in rt.forever() {
