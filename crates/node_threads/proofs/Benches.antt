@@ -1,7 +1,6 @@
 -- The client's end in the entry that was made last; what a worker holds that stops.
 use Rattle.std.proofs.Common.{◌≡◌, ℕ, zero, suc, ◌-◌, ◌<◌, Bool, false, List, [], ◌∷◌, length, get_or, refl, ap, sym, ◌∙◌, arith, Option, Some, None, inl, inr}
-use Rattle.std.specs.Prelude.{list_any}
-use Rattle.std.specs.List.{last_or}
+use Rattle.std.specs.List.{last_or, list_any}
 use Rattle.letter_types.specs.declared.entries.Entry.{Entry}
 use Rattle.board_rules.specs.Right.{finishes}
 use Rattle.stamp_post.specs.Shown.{EnvelopeData, PostId}
@@ -30,7 +29,7 @@ pub ruleset ending = (ends_at, ends_nowhere)
 
 -- what keeps a letter of the post keeps one
 pub keeps_letter : (post : PostId) (e : EnvelopeData) (held : Held) → e.post ≡ post → KeepsLetter post e held → KeepsOne post held
-keeps_letter post e held is keeps = inr (e, (is, keeps))
+keeps_letter post e held is keeps = inr (e, is, keeps)
 
 pub keeps_none : (post : PostId) (held : Held) → held ≡ Nothing → KeepsOne post held
 keeps_none post held none = inl none

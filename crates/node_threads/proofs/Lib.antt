@@ -1,4 +1,4 @@
+pub mod AllEntries
 pub mod Benches
 pub mod Entries
-pub mod Finishing
 pub mod Seats

@@ -68,7 +68,7 @@ pub(crate) fn closed_again<K: ClusterName>(
 }
 
 // Whether each cell's number is its place: no clause ties a lock's place to what lies under it.
-#[tactic(auto, using(crate::proofs::Finishing::numbering))]
+#[tactic(auto, using(crate::proofs::AllEntries::numbering))]
 fn are_in_order<K: ClusterName>(cells: &[ActorCell<K>]) -> bool
     ensures { IsTrue result ↔ NumberedBy (λ c. c.number) 0 cells.now }
 {
@@ -81,7 +81,7 @@ fn are_in_order<K: ClusterName>(cells: &[ActorCell<K>]) -> bool
 }
 
 // Whether the cells have so many entries together.
-#[tactic(auto, using(crate::proofs::Finishing::counting))]
+#[tactic(auto, using(crate::proofs::AllEntries::counting))]
 fn have_together<K: ClusterName>(cells: &[ActorCell<K>], count: usize) -> bool
     ensures { IsTrue result ↔ (count ≡ entries_in cells.now) }
 {
@@ -98,7 +98,7 @@ fn have_together<K: ClusterName>(cells: &[ActorCell<K>], count: usize) -> bool
 
 // Whether the cells are in order, and as many entries are recorded as they have, which may be no more than a history
 // takes.
-#[tactic(auto, using(crate::proofs::Finishing::holding))]
+#[tactic(auto, using(crate::proofs::AllEntries::holding))]
 pub(crate) fn is_whole<K: ClusterName>(cells: &[ActorCell<K>], recorded: usize) -> bool
     ensures { IsTrue result ↔ HasAllEntries cells.now recorded }
 {

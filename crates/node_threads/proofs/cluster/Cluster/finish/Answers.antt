@@ -4,7 +4,7 @@ use Rattle.history_merge.specs.Merging.{NumberedBy}
 use Rattle.history_merge.specs.OwnLogs.{LogData}
 use Rattle.history_merge.proofs.Parts.{numbered_as}
 use Rattle.node_threads.specs.Cells.{CellData, cell_data, entries_in}
-use Rattle.node_threads.proofs.Finishing.{entries_of_logs}
+use Rattle.node_threads.proofs.AllEntries.{entries_of_logs}
 use Rattle.node_threads.proofs.cluster.Cluster.finish.Goals as goal
 
 pub gathered-requires-clause-order : goal.gathered-requires-clause-order
