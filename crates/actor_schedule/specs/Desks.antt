@@ -3,8 +3,8 @@ use Rattle.std.specs.Prelude.{ℕ, List, [], ◌∷◌, ◌++◌, drop, replicat
 use Rattle.letter_types.specs.declared.entries.Letter.{Letter}
 use Rattle.letter_types.specs.Postal.{letters_sent}
 use Rattle.stamp_post.specs.Shown.{EnvelopeData, OutboxData, PostId, envelope_data}
-use Rattle.actor_schedule.specs.declared.stop.Held.{Held}
-use Rattle.actor_schedule.specs.declared.stop.Held.TheVariants.{Unplaced}
+use Rattle.actor_schedule.specs.declared.stop.InHand.{InHand}
+use Rattle.actor_schedule.specs.declared.stop.InHand.TheVariants.{Unplaced}
 
 -- a worker's desk: the letters in hand, and a tray for each actor with those that are to be put into its mailbox
 pub record DeskData : Type 0 where
@@ -32,6 +32,6 @@ abbrev pub left_in : OutboxData → List Letter
 left_in o = drop o.next (letters_sent o.posting)
 
 -- the letters that are held, those of an outbox that are left among them
-abbrev pub letters_held : Held → List Letter
+abbrev pub letters_held : InHand → List Letter
 letters_held (Unplaced e rest) = e.letter ∷ left_in rest
 letters_held _ = []

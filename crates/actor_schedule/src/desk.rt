@@ -3,7 +3,7 @@ ghost use Rattle.std.specs.Prelude.{◌≡◌, [], ◌++◌, option_to_list, IfE
 ghost use Rattle.actor_schedule.specs.Desks.{all_sorted_in, desk_data, empty_trays, left_in, letters_held, sorted_in};
 ghost use Rattle.actor_schedule.specs.Stops.{KeepsRest};
 
-use crate::stop::Held;
+use crate::stop::InHand;
 use message_bag::Bag;
 use stamp_post::{Envelope, Outbox, Post, PostName};
 use std::alloc::Global;
@@ -76,7 +76,7 @@ impl<P: PostName> Desk<P> {
 
     /// Sorts the letters of an outbox into the trays. Where a tray finds no memory for one, that is held with those
     /// after it, and those before it lie in the trays.
-    pub fn sort(&mut self, post: &Post, out: Outbox) -> Result<(), Held>
+    pub fn sort(&mut self, post: &Post, out: Outbox) -> Result<(), InHand>
         requires post { post.now ≡ P.post }
         requires out { out.post ≡ P.post }
         ensures hand { self.new.hand ≡ self.old.hand }
@@ -89,7 +89,7 @@ impl<P: PostName> Desk<P> {
         let mut left = out;
         while let Some(envelope) = left.next(post) {
             if let Err((NoMemory, envelope)) = self.put(envelope) {
-                return Err(Held::Unplaced(envelope, left));
+                return Err(InHand::Unplaced(envelope, left));
             }
         }
         Ok(())

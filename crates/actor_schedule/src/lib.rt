@@ -10,4 +10,4 @@ mod stop;
 
 pub use desk::Desk;
 pub use dispatch::{Dispatch, Ending};
-pub use stop::Held;
+pub use stop::InHand;

@@ -3,7 +3,7 @@ use stamp_post::{Envelope, Outbox};
 
 /// What a worker had in hand when it stopped.
 #[derive(Drop)]
-pub enum Held {
+pub enum InHand {
     /// No letter.
     Nothing,
     /// A letter that its addressee didn't take.

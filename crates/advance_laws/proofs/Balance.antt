@@ -15,7 +15,7 @@ use Rattle.letter_types.specs.declared.entries.Entry.{Entry}
 use Rattle.letter_types.specs.declared.entries.Letter.{Letter}
 use Rattle.letter_types.specs.declared.entries.Outgoing.{Outgoing}
 use Rattle.letter_types.specs.declared.kept.KeptLetter.{KeptLetter}
-use Rattle.letter_types.specs.declared.kept.Why.{Why}
+use Rattle.letter_types.specs.declared.kept.KeepReason.{KeepReason}
 use Rattle.letter_types.specs.declared.votes.Vote.{Vote}
 use Rattle.letter_types.specs.Kept.{kept_without, wakes}
 use Rattle.letter_types.specs.Steps.{Out}
@@ -76,7 +76,7 @@ wake_uncounted : (v q : ℕ) (b : Bool) (o : Outgoing) (os : List Outgoing) → 
 wake_uncounted v q true o os one none = omega (arith, one, none)
 wake_uncounted v q false o os one none = none
 
-pub wakes_uncounted : (v q : ℕ) (test : Why → Bool) (kept : List KeptLetter) → tally (counted v q) (wakes test kept) ≡ 0
+pub wakes_uncounted : (v q : ℕ) (test : KeepReason → Bool) (kept : List KeptLetter) → tally (counted v q) (wakes test kept) ≡ 0
 wakes_uncounted v q test [] = refl
 wakes_uncounted v q test (x ∷ xs) =
     wake_uncounted v q (test x.why) _ (wakes test xs) refl (wakes_uncounted v q test xs)

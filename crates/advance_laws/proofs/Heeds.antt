@@ -10,7 +10,7 @@ use Rattle.letter_types.specs.declared.bodies.What.{What}
 use Rattle.letter_types.specs.declared.bodies.What.TheVariants as whats
 use Rattle.letter_types.specs.declared.entries.Outgoing.{Outgoing}
 use Rattle.letter_types.specs.declared.kept.KeptLetter.{KeptLetter}
-use Rattle.letter_types.specs.declared.kept.Why.{Why}
+use Rattle.letter_types.specs.declared.kept.KeepReason.{KeepReason}
 use Rattle.letter_types.specs.Kept.{wakes, wakes_by}
 use Rattle.letter_types.proofs.Ids.{none_woken}
 use Rattle.node_versions.specs.declared.turns.Turns.{Turns}
@@ -34,7 +34,7 @@ wake_more : (b : Bool) (o : Outgoing) (os : List Outgoing) → IsWake o.body →
 wake_more true o os one rest = (one, rest)
 wake_more false o os one rest = rest
 
-pub wakes_are : (test : Why → Bool) (kept : List KeptLetter) → AreWakes (wakes test kept)
+pub wakes_are : (test : KeepReason → Bool) (kept : List KeptLetter) → AreWakes (wakes test kept)
 wakes_are test [] = tt
 wakes_are test (x ∷ xs) = wake_more (test x.why) _ (wakes test xs) tt (wakes_are test xs)
 

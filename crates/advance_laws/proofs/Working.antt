@@ -11,7 +11,7 @@ use Rattle.letter_types.specs.declared.bodies.Body.TheVariants.{Root, Sub as Sub
 use Rattle.letter_types.specs.declared.bodies.Notice.{Notice}
 use Rattle.letter_types.specs.declared.entries.Outgoing.{Outgoing}
 use Rattle.letter_types.specs.declared.kept.KeptLetter.{KeptLetter}
-use Rattle.letter_types.specs.declared.kept.Why.{Why}
+use Rattle.letter_types.specs.declared.kept.KeepReason.{KeepReason}
 use Rattle.letter_types.specs.declared.votes.Vote.{Vote}
 use Rattle.letter_types.specs.Kept.{wakes}
 use Rattle.letter_types.specs.Steps.{Out}
@@ -153,7 +153,7 @@ wake_sent : (s : ScriptData) (st : Node) (does : Body) (b : Bool) (o : Outgoing)
 wake_sent s st does true o os one rest = (one, rest)
 wake_sent s st does false o os one rest = rest
 
-pub wakes_sent : (s : ScriptData) (st : Node) (does : Body) (test : Why → Bool) (kept : List KeptLetter)
+pub wakes_sent : (s : ScriptData) (st : Node) (does : Body) (test : KeepReason → Bool) (kept : List KeptLetter)
     → AreSentIn s st does (wakes test kept)
 wakes_sent s st does test [] = tt
 wakes_sent s st does test (x ∷ xs) = wake_sent s st does (test x.why) _ (wakes test xs) tt (wakes_sent s st does test xs)

@@ -18,7 +18,7 @@ use Rattle.letter_types.specs.declared.entries.Letter.{Letter}
 use Rattle.letter_types.specs.declared.entries.LetterId.{LetterId}
 use Rattle.letter_types.specs.declared.entries.Outgoing.{Outgoing}
 use Rattle.letter_types.specs.declared.kept.KeptLetter.{KeptLetter}
-use Rattle.letter_types.specs.declared.kept.Why.{Why}
+use Rattle.letter_types.specs.declared.kept.KeepReason.{KeepReason}
 use Rattle.nc_locks.specs.declared.modes.Met.{Met}
 use Rattle.script_parts.specs.Counts.{has_strict}
 use Rattle.script_parts.specs.ScriptData.{ScriptData, node_of, ops_of, updates}
@@ -174,7 +174,7 @@ kept_acts s past p from (SubLetter t k v) g meant =
 kept_acts s past p from _ g meant = tt
 
 -- What the coordinator and the client send and do.
-wakes_carried : (s : ScriptData) (test : Why → Bool) (xs : List KeptLetter) → AreCarried s (wakes test xs)
+wakes_carried : (s : ScriptData) (test : KeepReason → Bool) (xs : List KeptLetter) → AreCarried s (wakes test xs)
 wakes_carried s test [] = tt
 wakes_carried s test (x ∷ xs) = by (test x.why) (wakes_carried s test xs) where
   by : (b : Bool) → AreCarried s (wakes test xs)

@@ -18,7 +18,7 @@ use Rattle.tree_home.specs.declared.homes.Held.{Held}
 use Rattle.tree_home.specs.declared.homes.OpenTree.{OpenTree}
 use Rattle.world_model.specs.Core.{Refusals, lesser, refused_by}
 use Rattle.world_model.specs.Notices.{answer_noted, homes_noted, values_of}
-use Rattle.world_model.specs.declared.refusal.Refusal.{Refusal}
+use Rattle.world_model.specs.declared.refusal.NegativeVote.{NegativeVote}
 use Rattle.tree_laws.proofs.AtHome.{all_append}
 use Rattle.history_text.specs.Printable.{AreGot, HasStrictness, IsGot}
 use Rattle.audit_laws.specs.OfScript.{IsCauseOf, IsNoticeOf}
@@ -142,13 +142,13 @@ pub acked_got : (s : ScriptData) (t : TreeNo) (hs : HeldAnswers) → AreHeldAnsw
 acked_got s t hs all = last_got s t.0 (held_in t hs) (all t.0)
 
 -- Noes, which only strict trees have.
-abbrev pub IsRefusal : ScriptData → ℕ → Refusal → Type 0
+abbrev pub IsRefusal : ScriptData → ℕ → NegativeVote → Type 0
 IsRefusal s t r = HasStrictness true (slice_get s.trees t) × IsCauseOf s r.cause
 
 abbrev pub AreRefusals : ScriptData → Refusals → Type 0
 AreRefusals s rs = AllPut (IsRefusal s) rs
 
-least_refusal : (s : ScriptData) (t : ℕ) (old : Option Refusal) (r : Refusal) → IfSome old (IsRefusal s t) → IsRefusal s t r
+least_refusal : (s : ScriptData) (t : ℕ) (old : Option NegativeVote) (r : NegativeVote) → IfSome old (IsRefusal s t) → IsRefusal s t r
     → IsRefusal s t (lesser old r)
 least_refusal s t None r all one = one
 least_refusal s t (Some q) r all one = by (nat_lt r.sub.0 q.sub.0) where
@@ -159,7 +159,7 @@ least_refusal s t (Some q) r all one = by (nat_lt r.sub.0 q.sub.0) where
 pub notice_refused : (s : ScriptData) (t : TreeNo) (k : SubNo) (notice : Notice) (rs : Refusals) → IsNoticeOf s t.0 notice
     → AreRefusals s rs → AreRefusals s (refused_by t k notice rs)
 notice_refused s t k (No cause) rs of all =
-    let r : Refusal = record { sub = k; cause = cause } in
+    let r : NegativeVote = record { sub = k; cause = cause } in
     put_all (IsRefusal s) t.0 (Some (lesser (rs t.0) r)) rs (least_refusal s t.0 (rs t.0) r (all t.0) of) all
 notice_refused s t k (Did vs) rs of all = all
 notice_refused s t k (Yes vs) rs of all = all

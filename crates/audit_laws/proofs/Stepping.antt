@@ -39,7 +39,7 @@ use Rattle.world_model.specs.Reads.{getting}
 use Rattle.world_model.specs.Strict.{answer_by, answer_letters, answered, core_by_kind, core_row, decided, locks_by, marks, marks_of, none_refuses, note_core, notice_by, noted_vote, refusals_after, refused_there, release_letters, to_each, voting}
 use Rattle.world_model.specs.Updates.{touching}
 use Rattle.world_model.specs.Votes.{cause_in, vote_of, voted}
-use Rattle.world_model.specs.declared.refusal.Refusal.{Refusal}
+use Rattle.world_model.specs.declared.refusal.NegativeVote.{NegativeVote}
 use Rattle.world_model.proofs.Epochs.{ask_each, order_each}
 use Rattle.world_model.proofs.Every.{each_append}
 use Rattle.world_model.proofs.Scripts.{SubAt, sub_here, tree_below}
@@ -119,7 +119,7 @@ replies_carried : (s : ScriptData) (found : Option Answered) → IfSome found (I
 replies_carried s None due = tt
 replies_carried s (Some a) due = (due.0, tt)
 
-answer_carried : (s : ScriptData) (a : Answered) (found : Option Refusal) → HasGot s a → IfSome found (IsRefusal s a.tree.0)
+answer_carried : (s : ScriptData) (a : Answered) (found : Option NegativeVote) → HasGot s a → IfSome found (IsRefusal s a.tree.0)
     → CarriesAnswer s a.tree.0 (answer_by found a)
 answer_carried s a None got refused = got
 answer_carried s a (Some r) got refused = refused

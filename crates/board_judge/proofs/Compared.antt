@@ -24,7 +24,7 @@ use Rattle.board_judge.specs.Notes.{AreKnown, noted_on, subs_noted}
 use Rattle.board_judge.specs.Settled.{IsMoveRun}
 use Rattle.board_judge.proofs.NotedWorth.{if_noted, noted_more}
 use Rattle.board_judge.proofs.OneMore.{settled_born}
-use Rattle.board_judge.specs.declared.noting.Step.{Step}
+use Rattle.board_judge.specs.declared.noting.NotedStep.{NotedStep}
 use Rattle.board_judge.specs.inside.Rewriting.{HasNoted, IsClosing, IsCompared, IsRewritten, closed_noted}
 use Rattle.board_judge.specs.inside.Steps.{AreClosings, AreNoted}
 use Rattle.board_judge.specs.inside.Votes.{HasVersions, IsRightRead}
@@ -101,7 +101,7 @@ has_versions s xs later p (Applied t commit) move = tt
 abbrev placed_at : ℕ → Act → Place
 placed_at p a = record { node = p; act = a }
 
-closings_at : (s : ScriptData) (xs ys : List Place) (sts : List Step) (i : ℕ) (y : Place) (st : Step) → AreClosings s xs ys sts
+closings_at : (s : ScriptData) (xs ys : List Place) (sts : List NotedStep) (i : ℕ) (y : Place) (st : NotedStep) → AreClosings s xs ys sts
     → slice_get ys i ≡ Some y → slice_get sts i ≡ Some st
     → option_map (λ (t : TreeNo). t.0) st.noted.closed ≡ closes_in s ((xs ++ take i ys) ++ y ∷ []) y.act
 closings_at s xs [] sts i y st all here there = absurd (cc here)
@@ -109,14 +109,14 @@ closings_at s xs (z ∷ ys) [] i y st all here there = absurd all
 closings_at s xs (z ∷ ys) (w ∷ sts) zero y st all here there =
     let same : z ≡ y = cc here in
     let step : st ≡ w = sym (cc there) in
-    ap (λ (u : Step). option_map (λ (t : TreeNo). t.0) u.noted.closed) step ∙ all.0
+    ap (λ (u : NotedStep). option_map (λ (t : TreeNo). t.0) u.noted.closed) step ∙ all.0
     ∙ ap (λ (u : Place). closes_in s (xs ++ u ∷ []) u.act) same
     ∙ ap (λ (zs : List Place). closes_in s (zs ++ y ∷ []) y.act) (sym (append-nil xs))
 closings_at s xs (z ∷ ys) (w ∷ sts) (suc i) y st all here there =
     closings_at s (xs ++ z ∷ []) ys sts i y st all.1 here there
     ∙ ap (λ (zs : List Place). closes_in s (zs ++ y ∷ []) y.act) (append_assoc xs (z ∷ []) (take i ys))
 
-closings_many : (s : ScriptData) (xs ys : List Place) (sts : List Step) → AreClosings s xs ys sts → length sts ≡ length ys
+closings_many : (s : ScriptData) (xs ys : List Place) (sts : List NotedStep) → AreClosings s xs ys sts → length sts ≡ length ys
 closings_many s xs [] [] all = refl
 closings_many s xs [] (st ∷ sts) all = absurd all
 closings_many s xs (y ∷ ys) [] all = absurd all
@@ -133,7 +133,7 @@ taken_more (z ∷ ys) zero y is = (let same : z ≡ y = cc is in ap (λ (u : Pla
 taken_more (z ∷ ys) (suc i) y is = ap (λ (us : List Place). z ∷ us) (taken_more ys i y is)
 
 -- an act of an entry whose acts were noted
-pub closing_at : (s : ScriptData) (h : List Entry) (ys : List Place) (sts : List Step) (b : BoardData) (i p : ℕ) (a : Act) (st : Step)
+pub closing_at : (s : ScriptData) (h : List Entry) (ys : List Place) (sts : List NotedStep) (b : BoardData) (i p : ℕ) (a : Act) (st : NotedStep)
     → AreNoted s h ys sts b → slice_get ys i ≡ Some (record { node = p; act = a }) → slice_get sts i ≡ Some st
     → IsClosing s (places_of h ++ take i ys) (drop (suc i) ys) (record { node = p; act = a }) st.noted.closed b
 closing_at s h ys sts b i p a st noted here there = record {
@@ -175,7 +175,7 @@ rewritten_wrong s h ys i y vs at one = record {
   known = λ never. absurd (cc never);
 }
 
-pub rewritten_all : (s : ScriptData) (h : List Entry) (ys : List Place) (sts : List Step) (b : BoardData) (n : ℕ) (ws : List WorthsData)
+pub rewritten_all : (s : ScriptData) (h : List Entry) (ys : List Place) (sts : List NotedStep) (b : BoardData) (n : ℕ) (ws : List WorthsData)
     → AreNoted s h ys sts b → n ≡ min (length sts) (length ys) → IsRewritten s h (take n ys) true ws → IsRewritten s h ys true ws
 rewritten_all s h ys sts b n ws noted is all =
     let many = closings_many s (places_of h) ys sts noted.closings in
@@ -192,7 +192,7 @@ pub pushed : {A : Type 0} (xs : List A) (x : A) → length (xs ++ x ∷ []) ≡ 
 pushed [] x = refl
 pushed (y ∷ xs) x = ap suc (pushed xs x)
 
-module _ (s : ScriptData) (h : List Entry) (acts : List Act) (steps : List Step) (b : BoardData) (i p : ℕ) (a : Act) (st : Step) (right : Bool)
+module _ (s : ScriptData) (h : List Entry) (acts : List Act) (steps : List NotedStep) (b : BoardData) (i p : ℕ) (a : Act) (st : NotedStep) (right : Bool)
     (ws vs : List WorthsData) where
   compared : AreNoted s h (placed p acts) steps b → slice_get acts i ≡ Some a → slice_get steps i ≡ Some st → IsRewritten s h (take i (placed p acts)) true ws
       → ((xs later : List Place) → IsClosing s xs later (placed_at p a) st.noted.closed b → AreKnown s xs ws → IsCompared s xs (placed_at p a) right vs)
@@ -218,7 +218,7 @@ module _ (s : ScriptData) (h : List Entry) (acts : List Act) (steps : List Step)
       (rewritten_more s h (placed p acts) i (placed_at p a) ws vs (here_placed acts i p a here) before
       (subst (λ (r : Bool). IsCompared s (places_of h ++ take i (placed p acts)) (placed_at p a) r vs) is (compared noted here there before compares)))
 
-pub walk_ends : (s : ScriptData) (h : List Entry) (acts : List Act) (steps : List Step) (b : BoardData) (p n : ℕ) (ws : List WorthsData)
+pub walk_ends : (s : ScriptData) (h : List Entry) (acts : List Act) (steps : List NotedStep) (b : BoardData) (p n : ℕ) (ws : List WorthsData)
     → AreNoted s h (placed p acts) steps b → n ≡ min (length steps) (length acts) → IsRewritten s h (take n (placed p acts)) true ws
     → IsRewritten s h (placed p acts) true ws
 walk_ends s h acts steps b p n ws noted is all =

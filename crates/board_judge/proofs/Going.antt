@@ -24,7 +24,7 @@ use Rattle.board_tallies.specs.TakenBack.{taken_back}
 use Rattle.board_judge.specs.Settled.{IsMoveRun}
 use Rattle.board_judge.specs.Views.{UsersData}
 use Rattle.worth_steps.specs.Kept.{WorthsData}
-use Rattle.board_judge.specs.declared.noting.Step.{Step}
+use Rattle.board_judge.specs.declared.noting.NotedStep.{NotedStep}
 use Rattle.board_judge.specs.inside.Steps.{AreClosings, AreNoted, IsStepped, restored}
 use Rattle.board_judge.specs.inside.Votes.{IsMidway, IsRightYes}
 use Rattle.board_judge.proofs.Voting.{but_cause}
@@ -56,7 +56,7 @@ none_noted s g u h b ws midway = record {
   board = subst (λ (xs : List Place). IsBoardOf s xs b) (sym (append-nil (places_of h))) midway.view.board;
 }
 
-closings_last : (s : ScriptData) (xs ys : List Place) (y : Place) (sts : List Step) (st : Step) → AreClosings s xs ys sts
+closings_last : (s : ScriptData) (xs ys : List Place) (y : Place) (sts : List NotedStep) (st : NotedStep) → AreClosings s xs ys sts
     → option_map (λ (t : TreeNo). t.0) st.noted.closed ≡ closes_in s ((xs ++ ys) ++ y ∷ []) y.act
     → AreClosings s xs (ys ++ y ∷ []) (sts ++ st ∷ [])
 closings_last s xs [] y [] st all last = (last ∙ ap (λ (zs : List Place). closes_in s (zs ++ y ∷ []) y.act) (append-nil xs), tt)
@@ -68,20 +68,20 @@ closings_last s xs (z ∷ ys) y (w ∷ sts) st all last = (
       (last ∙ ap (λ (zs : List Place). closes_in s (zs ++ y ∷ []) y.act) (sym (append_assoc xs (z ∷ []) ys))),
 )
 
-all_last : (test : Step → Bool) (sts : List Step) (st : Step) → list_all test (sts ++ st ∷ []) ≡ (list_all test sts && test st)
+all_last : (test : NotedStep → Bool) (sts : List NotedStep) (st : NotedStep) → list_all test (sts ++ st ∷ []) ≡ (list_all test sts && test st)
 all_last test sts st = list_all-append test sts (st ∷ []) ∙ ap (λ (b : Bool). list_all test sts && b) (and_true (test st)) where
   and_true : (b : Bool) → (b && true) ≡ b
   and_true true = refl
   and_true false = refl
 
-pub one_noted : (s : ScriptData) (h : List Entry) (ys : List Place) (y : Place) (sts : List Step) (st : Step) (b c : BoardData) → AreNoted s h ys sts b
+pub one_noted : (s : ScriptData) (h : List Entry) (ys : List Place) (y : Place) (sts : List NotedStep) (st : NotedStep) (b c : BoardData) → AreNoted s h ys sts b
     → IsStepped s h (places_of h ++ ys) y st c → AreNoted s h (ys ++ y ∷ []) (sts ++ st ∷ []) c
 one_noted s h ys y sts st b c noted one = record {
   moves = one_last (IsMove s h) (places_of h) ys y noted.moves one.moves;
-  keeps = subst (λ (r : Bool). Decides r (OneByOne (KeepsTo s) (places_of h) (ys ++ y ∷ []))) (sym (all_last (λ (z : Step). z.keeps) sts st))
-      (decide_last (KeepsTo s) (places_of h) ys y (list_all (λ (z : Step). z.keeps) sts) st.keeps noted.keeps one.keeps);
-  right = subst (λ (r : Bool). Decides r (OneByOne shows (places_of h) (ys ++ y ∷ []))) (sym (all_last (λ (z : Step). z.right) sts st))
-      (decide_last shows (places_of h) ys y (list_all (λ (z : Step). z.right) sts) st.right noted.right one.right);
+  keeps = subst (λ (r : Bool). Decides r (OneByOne (KeepsTo s) (places_of h) (ys ++ y ∷ []))) (sym (all_last (λ (z : NotedStep). z.keeps) sts st))
+      (decide_last (KeepsTo s) (places_of h) ys y (list_all (λ (z : NotedStep). z.keeps) sts) st.keeps noted.keeps one.keeps);
+  right = subst (λ (r : Bool). Decides r (OneByOne shows (places_of h) (ys ++ y ∷ []))) (sym (all_last (λ (z : NotedStep). z.right) sts st))
+      (decide_last shows (places_of h) ys y (list_all (λ (z : NotedStep). z.right) sts) st.right noted.right one.right);
   closings = closings_last s (places_of h) ys y sts st noted.closings one.closes;
   board = subst (λ (xs : List Place). IsBoardOf s xs c) (append_assoc (places_of h) ys (y ∷ [])) one.board;
 } where
@@ -104,7 +104,7 @@ run_on s h xs (y ∷ ys) run all =
     subst (IsMoveRun s) (append_assoc xs (y ∷ []) ys)
     (run_on s h (xs ++ y ∷ []) ys (run_more s xs y run (but_cause s h [] xs y.node y.act all.0)) all.1)
 
-pub midway_on : (s : ScriptData) (g : GatesData) (u : UsersData) (h : List Entry) (ys : List Place) (sts : List Step) (b c : BoardData) (ws : List WorthsData)
+pub midway_on : (s : ScriptData) (g : GatesData) (u : UsersData) (h : List Entry) (ys : List Place) (sts : List NotedStep) (b c : BoardData) (ws : List WorthsData)
     → IsMidway s g u h (places_of h) b ws → AreNoted s h ys sts c → IsMidway s g u h (places_of h ++ ys) c ws
 midway_on s g u h ys sts b c ws midway noted = record {
   gates = midway.gates;
@@ -144,7 +144,7 @@ acts_split e i a within at =
     ∙ ap (λ (ys : List Place). ys ++ drop (i + 1) (places_at e)) (acts_more e i a within at)
     ∙ append_assoc (take i (places_at e)) (record { node = e.actor.0; act = a } ∷ []) (drop (i + 1) (places_at e))
 
-pub first_fails : (s : ScriptData) (h : List Entry) (e : Entry) (i : ℕ) (a : Act) (sts : List Step) (b : BoardData) (rule : Rule) → i < length e.acts
+pub first_fails : (s : ScriptData) (h : List Entry) (e : Entry) (i : ℕ) (a : Act) (sts : List NotedStep) (b : BoardData) (rule : Rule) → i < length e.acts
     → a ≡ get_or e.acts i a → AreNoted s h (take i (places_at e)) sts b
     → (IsMove s h (places_of h ++ take i (places_at e)) (record { node = e.actor.0; act = a }) → ⊥) → rule ≡ rule_of a → FirstFails s h e rule
 first_fails s h e i a sts b rule within at noted never is = record {
@@ -158,17 +158,17 @@ first_fails s h e i a sts b rule within at noted never is = record {
 }
 
 -- Taking back.
-pub restored_last : (sts : List Step) (st : Step) (b : BoardData) → restored (sts ++ st ∷ []) b ≡ restored sts (taken_back st.noted b)
+pub restored_last : (sts : List NotedStep) (st : NotedStep) (b : BoardData) → restored (sts ++ st ∷ []) b ≡ restored sts (taken_back st.noted b)
 restored_last [] st b = refl
 restored_last (z ∷ sts) st b = ap (taken_back z.noted) (restored_last sts st b)
 
-pub restored_step : (ns sts : List Step) (st : Step) (b c d : BoardData) → sts ≡ ns ++ st ∷ [] → c ≡ taken_back st.noted b → restored sts b ≡ d → restored ns c ≡ d
+pub restored_step : (ns sts : List NotedStep) (st : NotedStep) (b c d : BoardData) → sts ≡ ns ++ st ∷ [] → c ≡ taken_back st.noted b → restored sts b ≡ d → restored ns c ≡ d
 restored_step ns sts st b c d is so all =
-    ap (restored ns) so ∙ sym (restored_last ns st b) ∙ sym (ap (λ (zs : List Step). restored zs b) is) ∙ all
+    ap (restored ns) so ∙ sym (restored_last ns st b) ∙ sym (ap (λ (zs : List NotedStep). restored zs b) is) ∙ all
 
-pub restored_more : (ns sts : List Step) (st : Step) (b c d : BoardData) → ns ≡ sts ++ st ∷ [] → taken_back st.noted c ≡ b → restored sts b ≡ d → restored ns c ≡ d
+pub restored_more : (ns sts : List NotedStep) (st : NotedStep) (b c d : BoardData) → ns ≡ sts ++ st ∷ [] → taken_back st.noted c ≡ b → restored sts b ≡ d → restored ns c ≡ d
 restored_more ns sts st b c d is so all =
-    ap (λ (zs : List Step). restored zs c) is ∙ restored_last sts st c ∙ ap (restored sts) so ∙ all
+    ap (λ (zs : List NotedStep). restored zs c) is ∙ restored_last sts st c ∙ ap (restored sts) so ∙ all
 
 -- A test that tells a fact, and one that tells that it fails.
 pub decide_by : (P : Type 0) (r : Bool) → (r ≡ true → P) → (r ≡ false → P → ⊥) → Decides r P

@@ -31,7 +31,7 @@ use Rattle.board_judge.specs.Notes.{AreAllWorths, AreKnown}
 use Rattle.board_judge.specs.Settled.{IsMoveRun}
 use Rattle.worth_steps.specs.Kept.{AreWorths, WorthsData}
 use Rattle.board_judge.specs.Judged.{HasJudged, JudgeData}
-use Rattle.board_judge.specs.declared.noting.Step.{Step}
+use Rattle.board_judge.specs.declared.noting.NotedStep.{NotedStep}
 use Rattle.board_judge.specs.inside.Rewriting.{IsRewritten}
 use Rattle.board_judge.specs.inside.Steps.{AreNoted}
 use Rattle.board_judge.specs.inside.Trying.{refused_for}
@@ -126,38 +126,38 @@ breaks_first s h e rule f =
     subst (Breaks s h e) f.is (breaks_by s h e f.act.node f.act.act f.before f.after f.acts f.moves f.fails)
 
 -- Where a later test fails.
-pub breaks_fit : (s : ScriptData) (h : List Entry) (e : Entry) (steps : List Step) (b : BoardData) → AreNoted s h (places_at e) steps b
-    → list_all (λ (st : Step). st.keeps) steps ≡ false → Breaks s h e rules.Fits
+pub breaks_fit : (s : ScriptData) (h : List Entry) (e : Entry) (steps : List NotedStep) (b : BoardData) → AreNoted s h (places_at e) steps b
+    → list_all (λ (st : NotedStep). st.keeps) steps ≡ false → Breaks s h e rules.Fits
 breaks_fit s h e steps b noted none = (noted.moves, (λ all. absurd (let is = noted.keeps.1 all in cc (is, none))))
 
-pub keeps_all : (s : ScriptData) (h : List Entry) (e : Entry) (steps : List Step) (b : BoardData) → AreNoted s h (places_at e) steps b
-    → list_all (λ (st : Step). st.keeps) steps ≡ true → KeepToScript s h e
+pub keeps_all : (s : ScriptData) (h : List Entry) (e : Entry) (steps : List NotedStep) (b : BoardData) → AreNoted s h (places_at e) steps b
+    → list_all (λ (st : NotedStep). st.keeps) steps ≡ true → KeepToScript s h e
 keeps_all s h e steps b noted all = noted.keeps.0 all
 
-pub breaks_vote : (s : ScriptData) (h : List Entry) (e : Entry) (steps : List Step) (b : BoardData) → AreNoted s h (places_at e) steps b
-    → list_all (λ (st : Step). st.keeps) steps ≡ true → list_all (λ (st : Step). st.right) steps ≡ false → Breaks s h e rules.Right
+pub breaks_vote : (s : ScriptData) (h : List Entry) (e : Entry) (steps : List NotedStep) (b : BoardData) → AreNoted s h (places_at e) steps b
+    → list_all (λ (st : NotedStep). st.keeps) steps ≡ true → list_all (λ (st : NotedStep). st.right) steps ≡ false → Breaks s h e rules.Right
 breaks_vote s h e steps b noted keep none =
     (noted.moves, noted.keeps.0 keep, (λ all. absurd (let is = noted.right.1 (right_yes s h (places_of h) (places_at e) all) in cc (is, none))))
 
-pub breaks_read : (s : ScriptData) (h : List Entry) (e : Entry) (steps : List Step) (b : BoardData) (ws : List WorthsData) → AreNoted s h (places_at e) steps b
-    → list_all (λ (st : Step). st.keeps) steps ≡ true → IsRewritten s h (places_at e) false ws → Breaks s h e rules.Right
+pub breaks_read : (s : ScriptData) (h : List Entry) (e : Entry) (steps : List NotedStep) (b : BoardData) (ws : List WorthsData) → AreNoted s h (places_at e) steps b
+    → list_all (λ (st : NotedStep). st.keeps) steps ≡ true → IsRewritten s h (places_at e) false ws → Breaks s h e rules.Right
 breaks_read s h e steps b ws noted keep written =
     (noted.moves, noted.keeps.0 keep, (λ all. absurd (let is = written.reads.1 (right_reads s h (places_of h) (places_at e) all) in cc is)))
 
-pub all_right : (s : ScriptData) (h : List Entry) (e : Entry) (steps : List Step) (b : BoardData) (ws : List WorthsData) → AreNoted s h (places_at e) steps b
-    → list_all (λ (st : Step). st.right) steps ≡ true → IsRewritten s h (places_at e) true ws → AreRight s h e
+pub all_right : (s : ScriptData) (h : List Entry) (e : Entry) (steps : List NotedStep) (b : BoardData) (ws : List WorthsData) → AreNoted s h (places_at e) steps b
+    → list_all (λ (st : NotedStep). st.right) steps ≡ true → IsRewritten s h (places_at e) true ws → AreRight s h e
 all_right s h e steps b ws noted said written =
     right_both s h (places_of h) (places_at e) (noted.right.0 said) (written.reads.0 refl)
 
-pub breaks_delay : (s : ScriptData) (h : List Entry) (e : Entry) (steps : List Step) (b : BoardData) (ws : List WorthsData) → AreNoted s h (places_at e) steps b
-    → list_all (λ (st : Step). st.keeps) steps ≡ true → list_all (λ (st : Step). st.right) steps ≡ true → IsRewritten s h (places_at e) true ws
+pub breaks_delay : (s : ScriptData) (h : List Entry) (e : Entry) (steps : List NotedStep) (b : BoardData) (ws : List WorthsData) → AreNoted s h (places_at e) steps b
+    → list_all (λ (st : NotedStep). st.keeps) steps ≡ true → list_all (λ (st : NotedStep). st.right) steps ≡ true → IsRewritten s h (places_at e) true ws
     → (DoesAtOnce s h e → ⊥) → Breaks s h e rules.AtOnce
 breaks_delay s h e steps b ws noted keep said written late =
     (noted.moves, noted.keeps.0 keep, all_right s h e steps b ws noted said written, late)
 
 -- Where none fails.
-pub may_come : (s : ScriptData) (h : List Entry) (e : Entry) (steps : List Step) (b : BoardData) (ws : List WorthsData) → AreNoted s h (places_at e) steps b
-    → list_all (λ (st : Step). st.keeps) steps ≡ true → list_all (λ (st : Step). st.right) steps ≡ true → IsRewritten s h (places_at e) true ws
+pub may_come : (s : ScriptData) (h : List Entry) (e : Entry) (steps : List NotedStep) (b : BoardData) (ws : List WorthsData) → AreNoted s h (places_at e) steps b
+    → list_all (λ (st : NotedStep). st.keeps) steps ≡ true → list_all (λ (st : NotedStep). st.right) steps ≡ true → IsRewritten s h (places_at e) true ws
     → DoesAtOnce s h e → MayCome s h e
 may_come s h e steps b ws noted keep said written once = record {
   moves = noted.moves;
@@ -169,7 +169,7 @@ may_come s h e steps b ws noted keep said written once = record {
 places_more : (h : List Entry) (e : Entry) → places_of (h ++ e ∷ []) ≡ places_of h ++ places_at e
 places_more h e = places_of-append h (e ∷ []) ∙ ap (λ (xs : List Place). places_of h ++ xs) (append-nil (places_at e))
 
-pub taken_more : (j : JudgeData) (h : List Entry) (e : Entry) (steps : List Step) (b : BoardData) (ws : List WorthsData) → HasJudged j h
+pub taken_more : (j : JudgeData) (h : List Entry) (e : Entry) (steps : List NotedStep) (b : BoardData) (ws : List WorthsData) → HasJudged j h
     → MayCome j.script h e → AreNoted j.script h (places_at e) steps b → IsRewritten j.script h (places_at e) true ws
     → HasJudged (record { script = j.script; gates = j.gates; users = j.users; board = b; worths = ws }) (h ++ e ∷ [])
 taken_more j h e steps b ws taken may noted written = record {
@@ -199,13 +199,13 @@ taken_settled j b h taken settles = record {
 abbrev at_actor : Entry → List Act → List Place
 at_actor e acts = map (λ (a : Act). record { node = e.actor.0; act = a }) acts
 
-pub rewritten : (s : ScriptData) (h : List Entry) (e : Entry) (acts : List Act) (sts steps : List Step) (b : BoardData) (ws news : List WorthsData)
+pub rewritten : (s : ScriptData) (h : List Entry) (e : Entry) (acts : List Act) (sts steps : List NotedStep) (b : BoardData) (ws news : List WorthsData)
     (found right : Bool) → acts ≡ e.acts → sts ≡ steps → found ≡ right → AreNoted s h (places_at e) steps b → AreKnown s (places_of h) ws
     → (AreNoted s h (at_actor e acts) sts b → AreKnown s (places_of h) ws → IsRewritten s h (at_actor e acts) found news)
     → IsRewritten s h (places_at e) right news
 rewritten s h e acts sts steps b ws news found right same so is noted known done =
     let here = subst (λ (as' : List Act). AreNoted s h (at_actor e as') sts b) (sym same)
-    (subst (λ (ss : List Step). AreNoted s h (places_at e) ss b) (sym so) noted) in
+    (subst (λ (ss : List NotedStep). AreNoted s h (places_at e) ss b) (sym so) noted) in
     subst (λ (as' : List Act). IsRewritten s h (at_actor e as') right news) same
     (subst (λ (r : Bool). IsRewritten s h (at_actor e acts) r news) is (done here known))
 

@@ -27,7 +27,7 @@ use Rattle.board_rules.specs.Worth.{worth_in}
 use Rattle.board_judge.specs.inside.Shorts.{short_ops}
 use Rattle.board_judge.proofs.Fitting.{reads_get}
 use Rattle.board_judge.proofs.OneMore.{version_kept}
-use Rattle.board_judge.specs.declared.votes.Ballot.{Ballot}
+use Rattle.board_judge.specs.declared.votes.NamedVote.{NamedVote}
 use Rattle.board_judge.specs.inside.Votes.{HasVersions, IsRightRead, IsRightYes, Values, ballot_of, did_of, same_cause, yes_of}
 
 -- An act that isn't a vote is a move where it is one but for the cause.
@@ -62,15 +62,15 @@ but_cause s h f xs p (Decided t commit) move = move
 but_cause s h f xs p (Applied t commit) move = move
 
 -- A vote is of a strict tree, and is a move where it names the cause.
-abbrev cause_for : ScriptData → List Entry → List Place → ℕ → Ballot → Option Cause
+abbrev cause_for : ScriptData → List Entry → List Place → ℕ → NamedVote → Option Cause
 cause_for s h xs p b = cause_of s h xs p b.asked.tree.0 (ops_of s b.asked.tree.0 b.asked.sub.0)
 
-record IsCast (s : ScriptData) (h : List Entry) (xs : List Place) (p : ℕ) (a : Act) (b : Ballot) : Type 0 where
+record IsCast (s : ScriptData) (h : List Entry) (xs : List Place) (p : ℕ) (a : Act) (b : NamedVote) : Type 0 where
   strict : is_strict_tree s b.asked.tree.0 ≡ true
   moves : b.refusal ≡ cause_for s h xs p b → IsMoveAt s h xs p a
   names : IsMoveAt s h xs p a → b.refusal ≡ cause_for s h xs p b
 
-cast : (s : ScriptData) (h : List Entry) (xs : List Place) (p : ℕ) (a : Act) (b : Ballot) → ballot_of a ≡ Some b → IsMoveButCauseAt s h xs p a
+cast : (s : ScriptData) (h : List Entry) (xs : List Place) (p : ℕ) (a : Act) (b : NamedVote) → ballot_of a ≡ Some b → IsMoveButCauseAt s h xs p a
     → IsCast s h xs p a b
 cast s h xs p (Voted t k vote) b is move = subst (IsCast s h xs p (Voted t k vote)) (let same : record { asked = record { tree = t; sub = k }; refusal = refusal_in vote } ≡ b = cc is in same) (record {
   strict = move.strict;
@@ -89,7 +89,7 @@ cast s h xs p (Freed t) b is move = absurd (cc is)
 cast s h xs p (Decided t commit) b is move = absurd (cc is)
 cast s h xs p (Applied t commit) b is move = absurd (cc is)
 
-pub cast_strict : (s : ScriptData) (h : List Entry) (xs : List Place) (p : ℕ) (a : Act) (b : Ballot) → ballot_of a ≡ Some b → IsMoveButCauseAt s h xs p a
+pub cast_strict : (s : ScriptData) (h : List Entry) (xs : List Place) (p : ℕ) (a : Act) (b : NamedVote) → ballot_of a ≡ Some b → IsMoveButCauseAt s h xs p a
     → is_strict_tree s b.asked.tree.0 ≡ true
 cast_strict s h xs p a b is move = (cast s h xs p a b is move).strict
 
@@ -122,7 +122,7 @@ same_self (Some (Conflict x h)) = and_from (x.0 == x.0) (h.0 == h.0) (same_test 
 same_self (Some (Newer x v)) = and_from (x.0 == x.0) (v.0 == v.0) (same_test x.0) (same_test v.0)
 same_self (Some (Short x n)) = and_from (x.0 == x.0) (int_eq n n) (same_test x.0) ((Decides-int_eq n n).1 refl)
 
-pub decide_vote : (s : ScriptData) (h : List Entry) (xs : List Place) (p : ℕ) (a : Act) (b : Ballot) (cause : Option Cause) (r : Bool)
+pub decide_vote : (s : ScriptData) (h : List Entry) (xs : List Place) (p : ℕ) (a : Act) (b : NamedVote) (cause : Option Cause) (r : Bool)
     → ballot_of a ≡ Some b → IsMoveButCauseAt s h xs p a → cause ≡ cause_of s h xs p b.asked.tree.0 (ops_of s b.asked.tree.0 b.asked.sub.0)
     → r ≡ same_cause b.refusal cause → Decides r (IsMoveAt s h xs p a)
 decide_vote s h xs p a b cause r is move found same =

@@ -10,13 +10,13 @@ ghost use Rattle.board_judge.specs.Notes.{AreAllWorths};
 ghost use Rattle.commute_ops.specs.Ops.{value_start};
 ghost use Rattle.worth_steps.specs.Kept.{AreWorths};
 ghost use Rattle.board_judge.specs.Judged.{HasJudged, IsRefusal};
-ghost use Rattle.board_judge.specs.declared.noting.Step.{Step};
+ghost use Rattle.board_judge.specs.declared.noting.NotedStep.{NotedStep};
 ghost use Rattle.board_judge.specs.inside.Rewriting.{AreOfKinds, unaltered};
 ghost use Rattle.board_judge.specs.inside.Steps.{restored};
 ghost use Rattle.board_judge.specs.inside.Trying.{IsTried, judge_of, refused_for};
 
 use crate::at_once::does_at_once;
-use crate::noting::{Step, note_acts, restore};
+use crate::noting::{NotedStep, note_acts, restore};
 use crate::rewriting::{Altered, rewrite, take_back};
 use crate::users::Users;
 use crate::votes::Basis;
@@ -154,7 +154,7 @@ fn try_entry(
     board: &mut Board,
     worths: &mut Vec<Worths>,
     entry: &Entry,
-    steps: &mut Vec<Step>,
+    steps: &mut Vec<NotedStep>,
     trail: &mut Vec<Altered>,
 ) -> Result<Option<Rule>, NoMemory>
     requires steps { steps.old.items ≡ [] }
@@ -202,15 +202,15 @@ fn try_entry(
 }
 
 // Whether all acts that were noted keep to the script.
-fn all_keep(steps: &[Step]) -> bool
-    ensures { result ≡ list_all (λ (st : Step). st.keeps) steps.now }
+fn all_keep(steps: &[NotedStep]) -> bool
+    ensures { result ≡ list_all (λ (st : NotedStep). st.keeps) steps.now }
 {
     steps.iter().all(|step| step.keeps)
 }
 
 // Whether all votes among them show what was worth.
-fn all_right(steps: &[Step]) -> bool
-    ensures { result ≡ list_all (λ (st : Step). st.right) steps.now }
+fn all_right(steps: &[NotedStep]) -> bool
+    ensures { result ≡ list_all (λ (st : NotedStep). st.right) steps.now }
 {
     steps.iter().all(|step| step.right)
 }

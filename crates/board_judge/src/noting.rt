@@ -10,15 +10,15 @@ ghost use Rattle.board_judge.specs.inside.Votes.{IsMidway};
 
 use crate::votes::{Basis, is_move, is_right_yes};
 use board_rules::Rule;
-use board_tallies::{Board, Noted};
+use board_tallies::{Board, NotedAct};
 use letter_types::{Act, Entry};
 use tv_base::{ActorNo, NoMemory};
 use worth_steps::Worths;
 
 // What was found of an act that was noted, and by what it is taken back.
 #[derive(Clone, Copy)]
-pub(crate) struct Step {
-    pub(crate) noted: Noted,
+pub(crate) struct NotedStep {
+    pub(crate) noted: NotedAct,
     // Whether it keeps to the script.
     pub(crate) keeps: bool,
     // Whether it shows what was worth before the entry, if it is a yes.
@@ -32,7 +32,7 @@ pub(crate) fn note_act(
     worths: &[Worths],
     node: ActorNo,
     act: &Act,
-) -> Result<Option<Step>, NoMemory>
+) -> Result<Option<NotedStep>, NoMemory>
     ensures stepped { IfOk result (λ step. IfSome step (λ st. (h : List Entry) (xs : List Place)
         → IsMidway basis.now.script.now basis.now.gates basis.now.users h xs board.old worths.now
         → IsStepped basis.now.script.now h xs (record { node = node.0; act = act.now }) st board.new)) }
@@ -49,7 +49,7 @@ pub(crate) fn note_act(
     let keeps = board.keeps(basis.script, &basis.gates, node, act);
     let right = is_right_yes(basis.script, board, worths, act);
     let noted = board.note(basis.script, node, act)?;
-    Ok(Some(Step {
+    Ok(Some(NotedStep {
         noted,
         keeps,
         right,
@@ -63,7 +63,7 @@ fn note_next(
     worths: &[Worths],
     node: ActorNo,
     act: &Act,
-    steps: &mut Vec<Step>,
+    steps: &mut Vec<NotedStep>,
 ) -> Result<bool, NoMemory>
     ensures noted { IfOk result (λ moves. moves ≡ true → (h : List Entry) (ys : List Place)
         → IsMidway basis.now.script.now basis.now.gates basis.now.users h (places_of h ++ ys) board.old worths.now
@@ -92,7 +92,7 @@ pub(crate) fn note_acts(
     board: &mut Board,
     worths: &[Worths],
     entry: &Entry,
-    steps: &mut Vec<Step>,
+    steps: &mut Vec<NotedStep>,
 ) -> Result<Option<Rule>, NoMemory>
     requires { steps.old.items ≡ [] }
     ensures noted { IfOk result (λ broken. IsNone broken → (h : List Entry)
@@ -112,7 +112,7 @@ pub(crate) fn note_acts(
 }
 
 // Takes back what was noted, the last step first.
-pub(crate) fn restore(board: &mut Board, steps: &mut Vec<Step>)
+pub(crate) fn restore(board: &mut Board, steps: &mut Vec<NotedStep>)
     ensures board { board.new ≡ restored steps.old.items board.old }
 {
     while let Some(step) = steps.pop() {

@@ -9,20 +9,20 @@ ghost use Rattle.board_judge.specs.Notes.{AreKnown, ops_noted, subs_noted};
 ghost use Rattle.board_judge.specs.inside.Rewriting.{AllSubsSuit, AllSuit, AreOfKinds, HasNoted, IsClosing, IsCompared, IsRewritten, SuitsKind, altered_back, closed_noted, kinds_of, one_noted, unaltered};
 ghost use Rattle.board_judge.specs.inside.Steps.{AreNoted};
 
-use crate::noting::Step;
+use crate::noting::NotedStep;
 use crate::standing::version_or_zero;
 use crate::votes::is_right_read;
 use board_tallies::Board;
 use letter_types::Act;
 use tv_base::{ItemNo, NoMemory, TreeNo, Version};
 use tx_trees::{Deed, Script, Sub, SubOp};
-use worth_steps::{Change, Worths};
+use worth_steps::{WorthChange, Worths};
 
 // An item whose worths were changed, and by what that is taken back.
 #[derive(Drop)]
 pub(crate) struct Altered {
     pub(crate) item: ItemNo,
-    pub(crate) change: Change,
+    pub(crate) change: WorthChange,
 }
 
 // Notes on the worths, which are of the items' kinds, what these acts' steps close, act by act, and compares what reads show.
@@ -33,7 +33,7 @@ pub(crate) fn rewrite(
     board: &Board,
     worths: &mut Vec<Worths>,
     trail: &mut Vec<Altered>,
-    steps: &[Step],
+    steps: &[NotedStep],
     acts: &[Act],
 ) -> Result<bool, NoMemory>
     requires { AreOfKinds script.now worths.old.items }
@@ -58,7 +58,7 @@ fn rewrite_act(
     board: &Board,
     worths: &mut Vec<Worths>,
     trail: &mut Vec<Altered>,
-    step: &Step,
+    step: &NotedStep,
     act: &Act,
 ) -> Result<bool, NoMemory>
     requires { AreOfKinds script.now worths.old.items }
@@ -173,7 +173,7 @@ fn note_deed(
     item: ItemNo,
     version: Version,
     deed: &Deed,
-) -> Result<Change, NoMemory>
+) -> Result<WorthChange, NoMemory>
     requires { SuitsKind deed.now (slice_get (kinds_of worths.old.items) item.0) }
     ensures noted { OnOk result (HasNoted (one_noted item.0 (record { version = version.0; deed = deed.now })) worths.old.items worths.new.items) }
     ensures back { IfOk result (λ change. altered_back (record { item = item; change = change }) worths.new.items ≡ worths.old.items) }

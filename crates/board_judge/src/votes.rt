@@ -37,7 +37,7 @@ pub(crate) struct Basis<'a> {
 
 // A vote: whose it is, and the cause that it names.
 #[derive(Clone, Copy)]
-pub(crate) struct Ballot {
+pub(crate) struct NamedVote {
     pub(crate) asked: Asked,
     pub(crate) refusal: Option<Cause>,
 }
@@ -72,7 +72,7 @@ pub(crate) fn is_move(
 }
 
 // The vote that an act is.
-fn ballot_of(act: &Act) -> Option<Ballot>
+fn ballot_of(act: &Act) -> Option<NamedVote>
     ensures { result ≡ ballot_of act.now }
 {
     match act {
@@ -82,7 +82,7 @@ fn ballot_of(act: &Act) -> Option<Ballot>
                 sub: *sub,
             };
             let refusal = refusal_in(vote.get());
-            Some(Ballot { asked, refusal })
+            Some(NamedVote { asked, refusal })
         }
         _ => None,
     }

@@ -20,7 +20,7 @@ pub(crate) struct Tally {
 
 // What an act says of a tree.
 #[derive(Clone, Copy)]
-pub(crate) enum News {
+pub(crate) enum TreeNews {
     Born(Version),
     Done(SubNo),
     Decided(bool),
@@ -45,21 +45,21 @@ pub(crate) fn note(rows: &mut Vec<Tally>, actor: ActorNo, act: &Act)
     ensures { rows.new.items ≡ tallies_with_act actor.0 act.now rows.old.items }
 {
     match act {
-        Act::Born { tree, version } => note_on(rows, *tree, News::Born(*version)),
+        Act::Born { tree, version } => note_on(rows, *tree, TreeNews::Born(*version)),
         Act::Did {
             tree,
             sub,
             values: _,
-        } => note_on(rows, *tree, News::Done(*sub)),
-        Act::Decided { tree, commit } => note_on(rows, *tree, News::Decided(*commit)),
-        Act::Applied { tree, commit: _ } => note_on(rows, *tree, News::Applied(actor)),
+        } => note_on(rows, *tree, TreeNews::Done(*sub)),
+        Act::Decided { tree, commit } => note_on(rows, *tree, TreeNews::Decided(*commit)),
+        Act::Applied { tree, commit: _ } => note_on(rows, *tree, TreeNews::Applied(actor)),
         _ => {}
     }
 }
 
 // Notes it on the row of the tree, if it is there.
 #[tactic(auto, using(crate::proofs::Rows::on_rows))]
-fn note_on(rows: &mut Vec<Tally>, tree: TreeNo, news: News)
+fn note_on(rows: &mut Vec<Tally>, tree: TreeNo, news: TreeNews)
     ensures { rows.new.items ≡ on_row tree.0 (with_news news) rows.old.items }
 {
     let place = tree.0 as usize;
@@ -69,14 +69,14 @@ fn note_on(rows: &mut Vec<Tally>, tree: TreeNo, news: News)
 }
 
 // Puts into the row what is noted: the version in place of a later one, a mark, or whether it commits.
-fn add_news(row: &mut Tally, news: News)
+fn add_news(row: &mut Tally, news: TreeNews)
     ensures { row.new ≡ with_news news row.old }
 {
     match news {
-        News::Born(version) => row.born = Some(version),
-        News::Done(sub) => mark(&mut row.done, sub.0 as usize),
-        News::Decided(commit) => row.committed = commit || row.committed,
-        News::Applied(node) => mark(&mut row.applied, node.0 as usize),
+        TreeNews::Born(version) => row.born = Some(version),
+        TreeNews::Done(sub) => mark(&mut row.done, sub.0 as usize),
+        TreeNews::Decided(commit) => row.committed = commit || row.committed,
+        TreeNews::Applied(node) => mark(&mut row.applied, node.0 as usize),
     }
 }
 

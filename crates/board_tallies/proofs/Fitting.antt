@@ -20,7 +20,7 @@ use Rattle.board_rules.specs.Right.{has_finished}
 use Rattle.board_tallies.specs.Board.{BoardData, IsBoardOf, numbers_at}
 use Rattle.board_tallies.specs.GateRows.{AreGatesFor, AreGatesOf, GatesData, gate_behind, is_tree_row, rows_passing}
 use Rattle.board_tallies.specs.inside.Keeping.{has_gone, is_open_gate, keeps_by, may_finish}
-use Rattle.board_tallies.specs.declared.gates.Gate.{Gate}
+use Rattle.board_tallies.specs.declared.gates.RowGate.{RowGate}
 use Rattle.board_tallies.specs.declared.numbers.Numbers.{Numbers}
 use Rattle.board_tallies.proofs.Deciding.{not_flag}
 use Rattle.board_tallies.proofs.Raising.{always, each_node}
@@ -220,7 +220,7 @@ swept_to_each s xs b many q board = (there, back) where
 open_decides : (s : ScriptData) (xs : List Place) (b : BoardData) (i : ℕ) → IsValid s → IsBoardOf s xs b
     → Decides (is_open_gate (Some (gate_behind (take i s.rows))) b) (IsOpen s xs i)
 open_decides s xs b i valid board =
-    let gate : Gate = gate_behind (take i s.rows) in
+    let gate : RowGate = gate_behind (take i s.rows) in
     let asked : advances_in (awaited s i) ≡ rows_passing is_advance (awaited s i) = asked_is (awaited s i) in
     Decides-like (is_open_gate (Some (gate_behind (take i s.rows))) b)
     (λ h. record { trees = h.0; advances = λ a p lt node. h.1 p node a (omega (arith, lt, asked)) })
@@ -231,7 +231,7 @@ open_decides s xs b i valid board =
     (λ q. swept_to_each s xs b gate.advances q board)))
 
 -- The gate of a row that passes a test, by its number among those.
-gate_decides : (s : ScriptData) (xs : List Place) (b : BoardData) (test : ScriptRow → Bool) (gates : List Gate) (k : ℕ) (P : Type 0)
+gate_decides : (s : ScriptData) (xs : List Place) (b : BoardData) (test : ScriptRow → Bool) (gates : List RowGate) (k : ℕ) (P : Type 0)
     → IsValid s → IsBoardOf s xs b → AreGatesFor test s.rows gates
     → (P → (i : ℕ) × (r : ScriptRow) × (slice_get s.rows i ≡ Some r) × (test r ≡ true)
     × (rows_passing test (take i s.rows) ≡ k) × IsOpen s xs i)
@@ -239,14 +239,14 @@ gate_decides : (s : ScriptData) (xs : List Place) (b : BoardData) (test : Script
     → IsOpen s xs i → P)
     → Decides (is_open_gate (slice_get gates k) b) P
 gate_decides s xs b test gates k P valid board are gives takes = (there, back) where
-  there_by : (found : Option Gate) → slice_get gates k ≡ found → is_open_gate found b ≡ true → P
+  there_by : (found : Option RowGate) → slice_get gates k ≡ found → is_open_gate found b ≡ true → P
   there_by None at is = absurd (cc is)
   there_by (Some gate) at is =
       let (i, r, row, passes, number) = are.each k gate at in
       let same : Some gate ≡ Some (gate_behind (take i s.rows))
       = sym at ∙ sym (ap (slice_get gates) number) ∙ are.there i r row passes in
       takes i r row passes number
-      ((open_decides s xs b i valid board).0 (ap (λ (one : Option Gate). is_open_gate one b) (sym same) ∙ is))
+      ((open_decides s xs b i valid board).0 (ap (λ (one : Option RowGate). is_open_gate one b) (sym same) ∙ is))
 
   there : is_open_gate (slice_get gates k) b ≡ true → P
   there is = there_by (slice_get gates k) refl is
@@ -256,7 +256,7 @@ gate_decides s xs b test gates k P valid board are gives takes = (there, back) w
       let (i, r, row, passes, number, opens) = gives p in
       let at : slice_get gates k ≡ Some (gate_behind (take i s.rows))
       = sym (ap (slice_get gates) number) ∙ are.there i r row passes in
-      ap (λ (one : Option Gate). is_open_gate one b) at ∙ (open_decides s xs b i valid board).1 opens
+      ap (λ (one : Option RowGate). is_open_gate one b) at ∙ (open_decides s xs b i valid board).1 opens
 
 born_decides : (s : ScriptData) (xs : List Place) (b : BoardData) (g : GatesData) (t : ℕ) → IsValid s → IsBoardOf s xs b
     → AreGatesOf s g → Decides (is_open_gate (slice_get g.trees t) b) (IsBornByItsRow s xs t)

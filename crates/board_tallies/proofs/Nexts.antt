@@ -22,7 +22,7 @@ use Rattle.board_tallies.specs.inside.Noting.{IsNoted, closed_by, numbers_with, 
 use Rattle.board_tallies.specs.inside.Pending.{is_counted, settled}
 use Rattle.board_tallies.specs.declared.numbers.Numbers.{Numbers}
 use Rattle.board_tallies.specs.declared.pending.Pending.{Pending}
-use Rattle.board_tallies.specs.declared.states.News.{News}
+use Rattle.board_tallies.specs.declared.states.StateNews.{StateNews}
 use Rattle.board_tallies.specs.declared.states.TreeState.{TreeState}
 use Rattle.board_tallies.proofs.Closing.{closes}
 use Rattle.board_tallies.proofs.Numbering.{SetsNone, nodes_next, placed_at, sets_at_node, swept_on, sweeps_next}
@@ -30,7 +30,7 @@ use Rattle.board_tallies.proofs.Standing.{passed_next}
 use Rattle.board_tallies.proofs.Telling.{IsWithin, states_next}
 use Rattle.board_tallies.proofs.Within.{within}
 
-told_many : (told : Option (TreeNo × News)) (states : List TreeState) → length (states_told told states) ≡ length states
+told_many : (told : Option (TreeNo × StateNews)) (states : List TreeState) → length (states_told told states) ≡ length states
 told_many None states = refl
 told_many (Some one) states = length-set states one.0.0 (state_with one.1 (state_at states one.0.0))
 

@@ -10,7 +10,7 @@ use Rattle.std.proofs.lemmas.Option.{slice_get_within}
 use Rattle.tv_base.proofs.ByPlace.{slice_get_last, slice_get_left, slice_get_split}
 use Rattle.script_parts.specs.declared.parts.ScriptRow.{ScriptRow}
 use Rattle.board_tallies.specs.GateRows.{AreGatesFor, gate_behind, rows_passing}
-use Rattle.board_tallies.specs.declared.gates.Gate.{Gate}
+use Rattle.board_tallies.specs.declared.gates.RowGate.{RowGate}
 use Rattle.board_tallies.proofs.Marks.{one_when}
 
 -- how many rows pass a test, with one more
@@ -22,7 +22,7 @@ passing_more test (x ∷ rs) r b is = let rest = passing_more test rs r b is in 
 take_front : (rs : List ScriptRow) (r : ScriptRow) (i : ℕ) → i ≤ length rs → take i (rs ++ r ∷ []) ≡ take i rs
 take_front rs r i le = take-append-le i rs (r ∷ []) le
 
-front_there : (test : ScriptRow → Bool) (rs : List ScriptRow) (gates : List Gate) (r : ScriptRow) (i : ℕ) (x : ScriptRow)
+front_there : (test : ScriptRow → Bool) (rs : List ScriptRow) (gates : List RowGate) (r : ScriptRow) (i : ℕ) (x : ScriptRow)
     → AreGatesFor test rs gates → slice_get rs i ≡ Some x → test x ≡ true
     → slice_get gates (rows_passing test (take i (rs ++ r ∷ []))) ≡ Some (gate_behind (take i (rs ++ r ∷ [])))
 front_there test rs gates r i x are at is =
@@ -30,7 +30,7 @@ front_there test rs gates r i x are at is =
     subst (λ (front : List ScriptRow). slice_get gates (rows_passing test front) ≡ Some (gate_behind front)) (sym same)
     (are.there i x at is)
 
-front_each : (test : ScriptRow → Bool) (rs : List ScriptRow) (gates : List Gate) (r : ScriptRow) (k : ℕ) (gate : Gate)
+front_each : (test : ScriptRow → Bool) (rs : List ScriptRow) (gates : List RowGate) (r : ScriptRow) (k : ℕ) (gate : RowGate)
     → AreGatesFor test rs gates → slice_get gates k ≡ Some gate
     → (i : ℕ) × (x : ScriptRow) × (slice_get (rs ++ r ∷ []) i ≡ Some x) × (test x ≡ true)
     × (rows_passing test (take i (rs ++ r ∷ [])) ≡ k)
@@ -40,7 +40,7 @@ front_each test rs gates r k gate are here =
     (i, x, slice_get_left rs (r ∷ []) i x at, is, ap (rows_passing test) same ∙ number)
 
 -- a row that doesn't pass the test
-pub gates_skip : (test : ScriptRow → Bool) (rs : List ScriptRow) (gates : List Gate) (r : ScriptRow) → test r ≡ false
+pub gates_skip : (test : ScriptRow → Bool) (rs : List ScriptRow) (gates : List RowGate) (r : ScriptRow) → test r ≡ false
     → AreGatesFor test rs gates → AreGatesFor test (rs ++ r ∷ []) gates
 gates_skip test rs gates r is are = record {
   there = λ i x at passes. there i x passes (slice_get_split rs r i x at);
@@ -55,7 +55,7 @@ gates_skip test rs gates r is are = record {
       absurd (let both : true ≡ false = sym passes ∙ ap test (sym last.1) ∙ is in cc both)
 
 -- and one that does
-pub gates_push : (test : ScriptRow → Bool) (rs : List ScriptRow) (gates : List Gate) (r : ScriptRow) (gate : Gate) → test r ≡ true
+pub gates_push : (test : ScriptRow → Bool) (rs : List ScriptRow) (gates : List RowGate) (r : ScriptRow) (gate : RowGate) → test r ≡ true
     → gate ≡ gate_behind rs → AreGatesFor test rs gates → AreGatesFor test (rs ++ r ∷ []) (gates ++ gate ∷ [])
 gates_push test rs gates r gate is behind are = record {
   there = λ i x at passes. there i x passes (slice_get_split rs r i x at);
@@ -76,9 +76,9 @@ gates_push test rs gates r gate is behind are = record {
       let front : take i (rs ++ r ∷ []) ≡ rs = ap (λ (j : ℕ). take j (rs ++ r ∷ [])) last.0 ∙ all in
       let place : rows_passing test (take i (rs ++ r ∷ [])) ≡ length gates = ap (rows_passing test) front ∙ sym are.many in
       ap (slice_get (gates ++ gate ∷ [])) place ∙ slice_get_last gates gate
-      ∙ ap (λ (one : Gate). Some one) (behind ∙ ap gate_behind (sym front))
+      ∙ ap (λ (one : RowGate). Some one) (behind ∙ ap gate_behind (sym front))
 
-  each : (k : ℕ) (one : Gate) → ((k < length gates) × (slice_get gates k ≡ Some one)) ⊎ ((k ≡ length gates) × (gate ≡ one))
+  each : (k : ℕ) (one : RowGate) → ((k < length gates) × (slice_get gates k ≡ Some one)) ⊎ ((k ≡ length gates) × (gate ≡ one))
       → (i : ℕ) × (x : ScriptRow) × (slice_get (rs ++ r ∷ []) i ≡ Some x) × (test x ≡ true)
       × (rows_passing test (take i (rs ++ r ∷ [])) ≡ k)
   each k one (inl front) = front_each test rs gates r k one are front.1

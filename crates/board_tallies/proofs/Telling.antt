@@ -21,8 +21,8 @@ use Rattle.board_rules.specs.Stands.{frees, votes, votes_yes}
 use Rattle.board_rules.proofs.Places.{version_in-append}
 use Rattle.board_tallies.specs.Board.{AreMarks, ShowsTree, first_state, state_at}
 use Rattle.board_tallies.specs.inside.Noting.{is_yes, news_by, state_with, states_told, states_with}
-use Rattle.board_tallies.specs.declared.states.News.{News}
-use Rattle.board_tallies.specs.declared.states.News.TheVariants as news
+use Rattle.board_tallies.specs.declared.states.StateNews.{StateNews}
+use Rattle.board_tallies.specs.declared.states.StateNews.TheVariants as news
 use Rattle.board_tallies.specs.declared.states.TreeState.{TreeState}
 use Rattle.board_tallies.proofs.Numbering.{placed_at}
 
@@ -342,7 +342,7 @@ decision_told t p u commit xs st is shows =
     }
 
 -- One tree's state is changed.
-changed_at : (states : List TreeState) (u : TreeNo) (n : News) (t : ℕ) (P : TreeState → Type 0) → u.0 < length states
+changed_at : (states : List TreeState) (u : TreeNo) (n : StateNews) (t : ℕ) (P : TreeState → Type 0) → u.0 < length states
     → ((u.0 == t) ≡ true → P (state_with n (state_at states t))) → ((u.0 == t) ≡ false → P (state_at states t))
     → P (state_at (states_told (Some (u, n)) states) t)
 changed_at states u n t P lt own other = by (u.0 == t) refl where

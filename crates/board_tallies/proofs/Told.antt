@@ -11,15 +11,15 @@ use Rattle.board_tallies.specs.TakenBack.{state_back}
 use Rattle.board_tallies.specs.inside.Noting.{pending_at, reads_at, state_was, state_with}
 use Rattle.board_tallies.specs.inside.Pending.{MayRecount}
 use Rattle.board_tallies.specs.declared.pending.Pending.{Pending}
-use Rattle.board_tallies.specs.declared.states.News.{News}
-use Rattle.board_tallies.specs.declared.states.News.TheVariants as news
+use Rattle.board_tallies.specs.declared.states.StateNews.{StateNews}
+use Rattle.board_tallies.specs.declared.states.StateNews.TheVariants as news
 use Rattle.board_tallies.specs.declared.states.StateWas.{StateWas}
 use Rattle.board_tallies.specs.declared.states.TreeState.{TreeState}
 use Rattle.board_tallies.proofs.Counted.{pends_none}
 use Rattle.board_tallies.proofs.Marks.{set_back}
 
 -- what was told is taken back from a state
-pub told_back : (n : News) (st : TreeState) → state_back (state_was n st) (state_with n st) ≡ st
+pub told_back : (n : StateNews) (st : TreeState) → state_back (state_was n st) (state_with n st) ≡ st
 told_back (news.Born v) st = refl
 told_back (news.Done k) st = λ i. record st { done = set_back st.done k.0 true false i }
 told_back (news.Voted k said) st =
@@ -31,17 +31,17 @@ told_back (news.Applied p) st = λ i. record st { applied = set_back st.applied 
 told_back (news.Freed p) st = λ i. record st { freed = set_back st.freed p.0 true false i }
 told_back (news.Decided commit) st = refl
 
-back_by : (n : News) (old y : TreeState) (was : StateWas) → y ≡ state_with n old → was ≡ state_was n old → state_back was y ≡ old
+back_by : (n : StateNews) (old y : TreeState) (was : StateWas) → y ≡ state_with n old → was ≡ state_was n old → state_back was y ≡ old
 back_by n old y was is so = (λ i. state_back (so i) (is i)) ∙ told_back n old
 
 -- and from the states of all trees
-told_state_back : (n : News) (states : List TreeState) (t : ℕ) (old y : TreeState) (was : StateWas)
+told_state_back : (n : StateNews) (states : List TreeState) (t : ℕ) (old y : TreeState) (was : StateWas)
     → old ≡ get_or states t old → y ≡ state_with n old → was ≡ state_was n old
     → slice_set (slice_set states t y) t (state_back was y) ≡ states
 told_state_back n states t old y was here is so =
     ap (λ (one : TreeState). slice_set (slice_set states t y) t one) (back_by n old y was is so ∙ here) ∙ set_back states t y old
 
-pub told_states_back : (n : News) (states : List TreeState) (t : ℕ) (old y : TreeState) (was : StateWas) → t < length states
+pub told_states_back : (n : StateNews) (states : List TreeState) (t : ℕ) (old y : TreeState) (was : StateWas) → t < length states
     → old ≡ get_or states t old → y ≡ state_with n old → was ≡ state_was n old
     → slice_set (slice_set states t y) t (state_back was (state_at (slice_set states t y) t)) ≡ states
 told_states_back n states t old y was lt here is so =
@@ -49,7 +49,7 @@ told_states_back n states t old y was lt here is so =
     ∙ told_state_back n states t old y was here is so
 
 -- the version with which a tree was born stays
-born_stays : (n : News) (st : TreeState) (v : Version) → st.born ≡ Some v → (state_with n st).born ≡ Some v
+born_stays : (n : StateNews) (st : TreeState) (v : Version) → st.born ≡ Some v → (state_with n st).born ≡ Some v
 born_stays (news.Born w) st v is = ap (λ (o : Option Version). option_or o (Some w)) is
 born_stays (news.Done k) st v is = is
 born_stays (news.Voted k said) st v is = is
@@ -61,7 +61,7 @@ pending_born : (through : Bool) (born : Option Version) (v : Version) → (if th
 pending_born true born v is = absurd (cc is)
 pending_born false born v is = is
 
-one_version : (n : News) (tree : Tree) (old y : TreeState) (v w : Version) → y ≡ state_with n old → pending_version tree old ≡ Some v
+one_version : (n : StateNews) (tree : Tree) (old y : TreeState) (v w : Version) → y ≡ state_with n old → pending_version tree old ≡ Some v
     → pending_version tree y ≡ Some w → v ≡ w
 one_version n tree old y v w is first last =
     let one : y.born ≡ Some v
@@ -99,13 +99,13 @@ there_same xs t d e lt =
 abbrev pending_found : Option Tree → TreeState → Option Version
 pending_found found st = elim found [ Some tree ↦ pending_version tree st | None ↦ None ]
 
-one_version_at : (n : News) (found : Option Tree) (old y : TreeState) (v w : Version) → y ≡ state_with n old
+one_version_at : (n : StateNews) (found : Option Tree) (old y : TreeState) (v w : Version) → y ≡ state_with n old
     → pending_found found old ≡ Some v → pending_found found y ≡ Some w → v ≡ w
 one_version_at n None old y v w is first last = absurd (cc first)
 one_version_at n (Some tree) old y v w is first last = one_version n tree old y v w is first last
 
 -- the counts stay right
-pub told_counts : (n : News) (trees : List Tree) (states : List TreeState) (t : ℕ) (old y : TreeState) (own : Bool)
+pub told_counts : (n : StateNews) (trees : List Tree) (states : List TreeState) (t : ℕ) (old y : TreeState) (own : Bool)
     (before after : Option Version) (ps qs : List Pending) → t < length states
     → old ≡ get_or states t old → y ≡ state_with n old → own ≡ reads_at trees t → before ≡ pending_at trees states t
     → after ≡ pending_at trees (slice_set states t y) t
@@ -132,7 +132,7 @@ told_counts n trees states t old y own before after ps qs lt here is reads first
     omega (arith, eq, set, same, next, counted r v)
 
 -- a state that was told and taken back, where another change failed
-pub told_failed : (n : News) (states : List TreeState) (t : ℕ) (old y again z : TreeState) (was : StateWas) → t < length states
+pub told_failed : (n : StateNews) (states : List TreeState) (t : ℕ) (old y again z : TreeState) (was : StateWas) → t < length states
     → old ≡ get_or states t old → y ≡ state_with n old → was ≡ state_was n old
     → again ≡ get_or (slice_set states t y) t again → z ≡ state_back was again
     → slice_set (slice_set states t y) t z ≡ states

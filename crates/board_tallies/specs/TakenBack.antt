@@ -2,7 +2,7 @@
 use Rattle.std.specs.Prelude.{List, Option, Some, None, slice_set, take}
 use Rattle.tv_base.specs.declared.numbers.TreeNo.{TreeNo}
 use Rattle.board_tallies.specs.Board.{BoardData, state_at}
-use Rattle.board_tallies.specs.declared.board.Noted.{Noted}
+use Rattle.board_tallies.specs.declared.board.NotedAct.{NotedAct}
 use Rattle.board_tallies.specs.declared.pending.Pending.{Pending}
 use Rattle.board_tallies.specs.declared.pending.PendingWas.{PendingWas}
 use Rattle.board_tallies.specs.declared.pending.PendingWas.TheVariants as counts
@@ -31,7 +31,7 @@ pending_back (counts.Put place one) ps = slice_set ps place one
 pending_back (counts.Added most) ps = take most ps
 
 -- all tallies
-abbrev pub taken_back : Noted → BoardData → BoardData
+abbrev pub taken_back : NotedAct → BoardData → BoardData
 taken_back n b = record {
   nodes = slice_set b.nodes n.node.0 n.numbers;
   trees = states_back n.told.state b.trees;

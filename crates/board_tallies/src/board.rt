@@ -8,10 +8,10 @@ ghost use Rattle.board_rules.specs.ButCause.{IsMoveButCause};
 ghost use Rattle.board_rules.specs.Gates.{KeepsTo};
 ghost use Rattle.board_rules.specs.Histories.{Place};
 
-use crate::gates::{Gate, Gates};
+use crate::gates::{Gates, RowGate};
 use crate::keeping::{all_gone, all_swept, is_client};
 use crate::moves::{may_by_node, may_with, tree_of};
-use crate::noting::{Told, closed_by, finished_by, note_tree, passed_on, take_back};
+use crate::noting::{ToldWas, closed_by, finished_by, note_tree, passed_on, take_back};
 use crate::numbers::{Numbers, first_numbers, note_numbers, numbers_at, put_numbers};
 use crate::pending::{Pending, drop_zeros};
 use crate::states::{TreeState, first_state};
@@ -49,13 +49,13 @@ impl Model for Board {
 
 /// What an act has changed, by which it is taken back.
 #[derive(Clone, Copy)]
-pub struct Noted {
+pub struct NotedAct {
     /// The tree that became a member of the serial order by the act: an update tree that is whole by it, or a strict tree
     /// that it decides to commit.
     pub closed: Option<TreeNo>,
     node: ActorNo,
     numbers: Numbers,
-    told: Told,
+    told: ToldWas,
     passed: usize,
     finished: bool,
 }
@@ -149,7 +149,7 @@ impl Board {
     }
 
     // Whether a gate is there, and is open.
-    fn is_open(&self, gate: Option<Gate>) -> bool
+    fn is_open(&self, gate: Option<RowGate>) -> bool
         ensures { result ≡ is_open_gate gate self.now }
     {
         match gate {
@@ -170,7 +170,7 @@ impl Board {
 
     /// Notes an act of this actor, which has to be a move but for the cause of a vote, and gives by what it is taken back.
     /// `NoMemory` leaves the Board as it was; it also comes where a count stands at its type's greatest number.
-    pub fn note(&mut self, script: &Script, node: ActorNo, act: &Act) -> Result<Noted, NoMemory>
+    pub fn note(&mut self, script: &Script, node: ActorNo, act: &Act) -> Result<NotedAct, NoMemory>
         ensures noted { OnOk result ((before : List Entry) (xs : List Place) → IsBoardOf script.now xs self.old
             → IsMoveButCause script.now before xs (record { node = node.0; act = act.now })
             → IsBoardOf script.now (xs ++ record { node = node.0; act = act.now } ∷ []) self.new) }
@@ -187,7 +187,7 @@ impl Board {
     }
 
     // Notes an act on each of the tallies.
-    fn note_act(&mut self, trees: &[Tree], node: ActorNo, act: &Act) -> Result<Noted, NoMemory>
+    fn note_act(&mut self, trees: &[Tree], node: ActorNo, act: &Act) -> Result<NotedAct, NoMemory>
         ensures noted { OnOk result (IsNoted trees.now node.0 act.now self.old self.new) }
         ensures closed { IfOk result (λ n. n.closed ≡ closed_by trees.now self.new.trees act.now) }
         ensures back { IfOk result (λ n. taken_back n self.new ≡ self.old) }
@@ -200,7 +200,7 @@ impl Board {
         self.passed = passed_on(trees, &self.trees, passed);
         self.finished = finished_by(finished, act);
         let closed = closed_by(trees, &self.trees, act);
-        Ok(Noted {
+        Ok(NotedAct {
             closed,
             node,
             numbers,
@@ -212,7 +212,7 @@ impl Board {
 
     /// Takes back an act that was noted, if all that was noted after it has been taken back: then the Board is what it was
     /// before.
-    pub fn undo(&mut self, noted: Noted)
+    pub fn undo(&mut self, noted: NotedAct)
         ensures { self.new ≡ taken_back noted self.old }
     {
         put_numbers(&mut self.nodes, noted.node, noted.numbers);

@@ -9,7 +9,7 @@ use tx_trees::{Script, ScriptRow};
 
 // How many trees, and how many advancements, stand before the last `settle` above a row.
 #[derive(Clone, Copy)]
-pub(crate) struct Gate {
+pub(crate) struct RowGate {
     pub(crate) trees: usize,
     pub(crate) advances: usize,
 }
@@ -18,8 +18,8 @@ pub(crate) struct Gate {
 /// `settle` above it. Contracts see it as these numbers, row by row; that they are those of a script is `AreGatesOf`.
 #[derive(Drop)]
 pub struct Gates {
-    trees: Vec<Gate>,
-    advances: Vec<Gate>,
+    trees: Vec<RowGate>,
+    advances: Vec<RowGate>,
 }
 
 impl Model for Gates {
@@ -39,7 +39,7 @@ impl Gates {
     {
         let mut trees = Vec::new(alloc);
         let mut advances = Vec::new(alloc);
-        let mut gate = Gate {
+        let mut gate = RowGate {
             trees: 0,
             advances: 0,
         };
@@ -48,7 +48,7 @@ impl Gates {
                 ScriptRow::Tree(_) => trees.push(gate)?,
                 ScriptRow::Advance => advances.push(gate)?,
                 ScriptRow::Settle => {
-                    gate = Gate {
+                    gate = RowGate {
                         trees: trees.len(),
                         advances: advances.len(),
                     };
@@ -60,14 +60,14 @@ impl Gates {
     }
 
     // The gate of a tree's row.
-    pub(crate) fn of_tree(&self, tree: TreeNo) -> Option<Gate>
+    pub(crate) fn of_tree(&self, tree: TreeNo) -> Option<RowGate>
         ensures { result ≡ slice_get self.now.trees tree.0 }
     {
         self.trees.get(tree.0 as usize).copied()
     }
 
     // The gate of the row that asks for the advancement to the version before this one.
-    pub(crate) fn of_turn(&self, version: Version) -> Option<Gate>
+    pub(crate) fn of_turn(&self, version: Version) -> Option<RowGate>
         ensures { result ≡ gate_to self.now.advances version.0 }
     {
         if version.0 < 2 {

@@ -13,5 +13,5 @@ mod numbers;
 mod pending;
 mod states;
 
-pub use board::{Board, Noted};
+pub use board::{Board, NotedAct};
 pub use gates::Gates;

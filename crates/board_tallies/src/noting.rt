@@ -8,7 +8,7 @@ ghost use Rattle.board_tallies.specs.inside.Noting.{GoesOn, closed_by, kind_pass
 
 use crate::pending::{Pending, PendingWas, recount, recount_back};
 use crate::states::{
-    News, StateWas, TreeState, news_by, pending_version, tell, tell_back, whole_at,
+    StateNews, StateWas, TreeState, news_by, pending_version, tell, tell_back, whole_at,
 };
 use letter_types::Act;
 use script_parts::kinds::{is_read, is_strict, is_update};
@@ -17,7 +17,7 @@ use tx_trees::Tree;
 
 // What an act has changed: the state of a tree, if of one, and a count.
 #[derive(Clone, Copy)]
-pub(crate) struct Told {
+pub(crate) struct ToldWas {
     pub(crate) state: Option<(TreeNo, StateWas)>,
     pub(crate) pending: PendingWas,
 }
@@ -29,7 +29,7 @@ pub(crate) fn note_tree(
     trees: &[Tree],
     node: ActorNo,
     act: &Act,
-) -> Result<Told, NoMemory>
+) -> Result<ToldWas, NoMemory>
     ensures states { OnOk result (states.new.items ≡ states_with node.0 act.now states.old.items) }
     ensures counted { OnOk result (AreCounted trees.now states.old.items pending.old.items
         → AreCounted trees.now states.new.items pending.new.items) }
@@ -45,7 +45,7 @@ pub(crate) fn note_tree(
 }
 
 // Takes back what an act has changed.
-pub(crate) fn take_back(states: &mut Vec<TreeState>, pending: &mut Vec<Pending>, told: Told)
+pub(crate) fn take_back(states: &mut Vec<TreeState>, pending: &mut Vec<Pending>, told: ToldWas)
     ensures states { states.new.items ≡ states_back told.state states.old.items }
     ensures pending { pending.new.items ≡ pending_back told.pending pending.old.items }
 {
@@ -59,10 +59,10 @@ pub(crate) fn take_back(states: &mut Vec<TreeState>, pending: &mut Vec<Pending>,
 }
 
 // Nothing is changed.
-fn nothing() -> Told
+fn nothing() -> ToldWas
     ensures { result ≡ (record { state = None; pending = PendingWas.Same }) }
 {
-    Told {
+    ToldWas {
         state: None,
         pending: PendingWas::Same,
     }
@@ -74,8 +74,8 @@ fn note_news(
     pending: &mut Vec<Pending>,
     trees: &[Tree],
     tree: TreeNo,
-    news: News,
-) -> Result<Told, NoMemory>
+    news: StateNews,
+) -> Result<ToldWas, NoMemory>
     ensures states { OnOk result (states.new.items ≡ states_told (Some (tree, news)) states.old.items) }
     ensures counted { OnOk result (AreCounted trees.now states.old.items pending.old.items
         → AreCounted trees.now states.new.items pending.new.items) }
@@ -92,7 +92,7 @@ fn note_news(
     let was = tell(&mut states[place], news);
     let after = pending_at(trees, states, place);
     match recount(pending, reads_at(trees, place), before, after) {
-        Ok(counted) => Ok(Told {
+        Ok(counted) => Ok(ToldWas {
             state: Some((tree, was)),
             pending: counted,
         }),

@@ -25,7 +25,7 @@ pub(crate) struct TreeState {
 
 // What an act tells of a tree.
 #[derive(Clone, Copy)]
-pub(crate) enum News {
+pub(crate) enum StateNews {
     Born(Version),
     Done(SubNo),
     // Whether it is a yes.
@@ -77,20 +77,20 @@ pub(crate) fn first_state() -> TreeState
 }
 
 // What an act tells, and of which tree.
-pub(crate) fn news_by(node: ActorNo, act: &Act) -> Option<(TreeNo, News)>
+pub(crate) fn news_by(node: ActorNo, act: &Act) -> Option<(TreeNo, StateNews)>
     ensures { result ≡ news_by node.0 act.now }
 {
     match act {
-        Act::Born { tree, version } => Some((*tree, News::Born(*version))),
+        Act::Born { tree, version } => Some((*tree, StateNews::Born(*version))),
         Act::Did {
             tree,
             sub,
             values: _,
-        } => Some((*tree, News::Done(*sub))),
-        Act::Voted { tree, sub, vote } => Some((*tree, News::Voted(*sub, is_yes(vote.get())))),
-        Act::Freed { tree } => Some((*tree, News::Freed(node))),
-        Act::Decided { tree, commit } => Some((*tree, News::Decided(*commit))),
-        Act::Applied { tree, commit: _ } => Some((*tree, News::Applied(node))),
+        } => Some((*tree, StateNews::Done(*sub))),
+        Act::Voted { tree, sub, vote } => Some((*tree, StateNews::Voted(*sub, is_yes(vote.get())))),
+        Act::Freed { tree } => Some((*tree, StateNews::Freed(node))),
+        Act::Decided { tree, commit } => Some((*tree, StateNews::Decided(*commit))),
+        Act::Applied { tree, commit: _ } => Some((*tree, StateNews::Applied(node))),
         _ => None,
     }
 }
@@ -106,27 +106,30 @@ fn is_yes(vote: &Vote) -> bool
 }
 
 // Notes what is told of a tree, and gives what was there.
-pub(crate) fn tell(state: &mut TreeState, news: News) -> StateWas
+pub(crate) fn tell(state: &mut TreeState, news: StateNews) -> StateWas
     ensures state { state.new ≡ state_with news state.old }
     ensures was { result ≡ state_was news state.old }
 {
     match news {
-        News::Born(version) => {
+        StateNews::Born(version) => {
             let born = state.born;
             state.born = born.or(Some(version));
             StateWas::Born(born)
         }
-        News::Done(sub) => StateWas::Done(sub, mark(&mut state.done, sub.0 as usize, true)),
-        News::Voted(sub, yes) => {
+        StateNews::Done(sub) => StateWas::Done(sub, mark(&mut state.done, sub.0 as usize, true)),
+        StateNews::Voted(sub, yes) => {
             let place = sub.0 as usize;
             let voted = mark(&mut state.voted, place, true);
             StateWas::Voted(sub, voted, mark(&mut state.yes, place, yes))
         }
-        News::Applied(node) => {
+        StateNews::Applied(node) => {
             StateWas::Applied(node, mark(&mut state.applied, node.0 as usize, true))
         }
-        News::Freed(node) => StateWas::Freed(node, mark(&mut state.freed, node.0 as usize, true)),
-        News::Decided(commit) => {
+        StateNews::Freed(node) => StateWas::Freed(
+            node,
+            mark(&mut state.freed, node.0 as usize, true),
+        ),
+        StateNews::Decided(commit) => {
             let was = StateWas::Decided(state.committed, state.aborted);
             state.committed = state.committed || commit;
             state.aborted = state.aborted || !commit;

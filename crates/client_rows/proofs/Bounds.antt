@@ -12,7 +12,7 @@ use Rattle.client_rows.specs.Changes.{IsClientStepOf}
 use Rattle.client_rows.specs.declared.change.ClientChange.TheVariants.{Submit}
 use Rattle.client_rows.specs.Kept.{Kept, IsKeptOf, kept_of}
 use Rattle.client_rows.specs.inside.Places.{place_at}
-use Rattle.client_rows.specs.declared.places.Place.{Place}
+use Rattle.client_rows.specs.declared.places.RowPlace.{RowPlace}
 use Rattle.client_rows.specs.News.{answered_after, client_with_news}
 use Rattle.client_rows.specs.inside.Heard.{heard_of, heard_row, submit_at}
 use Rattle.client_rows.specs.declared.news.News.{News}
@@ -74,14 +74,14 @@ pub kept_of-kept : (s : ScriptData) (c : Client) → c.next ≤ length s.rows �
 kept_of-kept s c next answered = record { numbers = refl; next = next; answered = answered }
 
 -- what is prepared at news submits what it may, and keeps the client
-pub submission-step : (s : ScriptData) (k : Kept) (news : News) (at : Place) (ends : Bool) (out : StepOut)
+pub submission-step : (s : ScriptData) (k : Kept) (news : News) (at : RowPlace) (ends : Bool) (out : StepOut)
     → IsKeptOf s k → at.next ≤ length s.rows → Submission s news k.client at ends out
     → IsClientStepOf s (submit_at s news k.client) k (record { change = Submit news at ends; out = out })
 submission-step s k news at ends out kept within made_here =
     let known : List Bool = answered_after news k.client.answered in
     let here : at ≡ place_at s.rows known at.next =
-    made_here.place ∙ ap (place_at s.rows known) (sym (ap (λ (p : Place). p.next) made_here.place)) in
-    let held : Place → Kept = λ (p : Place).
+    made_here.place ∙ ap (place_at s.rows known) (sym (ap (λ (p : RowPlace). p.next) made_here.place)) in
+    let held : RowPlace → Kept = λ (p : RowPlace).
     record { client = state_after news k.client at ends; sent = p.sent; unanswered = p.unanswered; asked = p.asked } in
     record {
       row = submission-row s news k.client at ends out made_here;

@@ -7,7 +7,7 @@ use Rattle.tx_trees.specs.declared.parts.ScriptRow.TheVariants.{Tree as TreeRow,
 use Rattle.tx_trees.proofs.Rebuilding.{advances_in-append, asked_most}
 use Rattle.client_rows.specs.Kept.{trees_in, unanswered_in}
 use Rattle.client_rows.specs.inside.Places.{place_at}
-use Rattle.client_rows.specs.declared.places.Place.{Place}
+use Rattle.client_rows.specs.declared.places.RowPlace.{RowPlace}
 
 pub trees_in-append : (xs ys : List ScriptRow) → trees_in (xs ++ ys) ≡ trees_in xs + trees_in ys
 trees_in-append [] ys = omega arith
@@ -64,7 +64,7 @@ few_more_asked n m rows = omega (
 )
 
 -- the numbers of a place are at most that of its rows
-pub record IsWithin (at : Place) : Type 0 where
+pub record IsWithin (at : RowPlace) : Type 0 where
   pub sent : at.sent ≤ at.next
   pub unanswered : at.unanswered ≤ at.next
   pub asked : at.asked ≤ at.next
@@ -91,35 +91,35 @@ place_more rows answered next d row lt is =
     rw more (rw (trees_in-append, unanswered_in-append, advances_in-append) refl)
 
 -- a place whose numbers count one row more is the place after it
-pub place_behind : (rows : List ScriptRow) (answered : List Bool) (at : Place) (d row : ScriptRow) (sent unanswered asked : ℕ)
+pub place_behind : (rows : List ScriptRow) (answered : List Bool) (at : RowPlace) (d row : ScriptRow) (sent unanswered asked : ℕ)
     → at.next < length rows → get_or rows at.next d ≡ row → at ≡ place_at rows answered at.next
     → sent ≡ at.sent + trees_in (row ∷ []) → unanswered ≡ at.unanswered + unanswered_in answered (row ∷ [])
     → asked ≡ at.asked + advances_in (row ∷ [])
-    → ◌≡◌ {A = Place} (record { next = at.next + 1; sent = sent; unanswered = unanswered; asked = asked })
+    → ◌≡◌ {A = RowPlace} (record { next = at.next + 1; sent = sent; unanswered = unanswered; asked = asked })
     (place_at rows answered (at.next + 1))
 place_behind rows answered at d row sent unanswered asked lt is here s u a =
-    let further : Place → Place = λ (p : Place). record {
+    let further : RowPlace → RowPlace = λ (p : RowPlace). record {
       next = at.next + 1;
       sent = p.sent + trees_in (row ∷ []);
       unanswered = p.unanswered + unanswered_in answered (row ∷ []);
       asked = p.asked + advances_in (row ∷ []);
     } in
-    let counts : ◌≡◌ {A = Place} (record { next = at.next + 1; sent = sent; unanswered = unanswered; asked = asked }) (further at) = cc in
+    let counts : ◌≡◌ {A = RowPlace} (record { next = at.next + 1; sent = sent; unanswered = unanswered; asked = asked }) (further at) = cc in
     counts ∙ ap further here ∙ sym (place_more rows answered at.next d row lt is)
 
 -- one row that asks for an advancement more asks for no more than all
-pub asked_next : (rows : List ScriptRow) (answered : List Bool) (at : Place) (d : ScriptRow)
+pub asked_next : (rows : List ScriptRow) (answered : List Bool) (at : RowPlace) (d : ScriptRow)
     → at.next < length rows → get_or rows at.next d ≡ AdvanceRow → at ≡ place_at rows answered at.next
     → at.asked + 1 ≤ advances_in rows
 asked_next rows answered at d lt is here =
-    let further : ◌≡◌ {A = Place} (record { next = at.next + 1; sent = at.sent; unanswered = at.unanswered; asked = at.asked + 1 })
+    let further : ◌≡◌ {A = RowPlace} (record { next = at.next + 1; sent = at.sent; unanswered = at.unanswered; asked = at.asked + 1 })
     (place_at rows answered (at.next + 1)) =
     place_behind rows answered at d AdvanceRow at.sent at.unanswered (at.asked + 1) lt is here (omega arith) (omega arith) (omega arith) in
-    omega (arith, ap (λ (p : Place). p.asked) further, asked_most (at.next + 1) rows)
+    omega (arith, ap (λ (p : RowPlace). p.asked) further, asked_most (at.next + 1) rows)
 
 -- the numbers of a place fit where the next row's does
-pub below_next : (rows : List ScriptRow) (answered : List Bool) (at : Place) → at ≡ place_at rows answered at.next → IsWithin at
+pub below_next : (rows : List ScriptRow) (answered : List Bool) (at : RowPlace) → at ≡ place_at rows answered at.next → IsWithin at
 below_next rows answered at here =
     let inside : IsWithin (place_at rows answered at.next) = within rows answered at.next in
-    let numbers : IsWithin at = subst (λ (p : Place). IsWithin p) (sym here) inside in
+    let numbers : IsWithin at = subst (λ (p : RowPlace). IsWithin p) (sym here) inside in
     numbers

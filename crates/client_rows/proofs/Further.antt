@@ -10,7 +10,7 @@ use Rattle.world_model.specs.Client.{Client, all_answered, have_ended, submitted
 use Rattle.client_rows.specs.Kept.{unanswered_in}
 use Rattle.client_rows.specs.inside.Places.{is_over}
 use Rattle.client_rows.specs.inside.Places.{place_at, waits, knowing, furthest}
-use Rattle.client_rows.specs.declared.places.Place.{Place}
+use Rattle.client_rows.specs.declared.places.RowPlace.{RowPlace}
 
 -- one answered tree before others
 answered-tree : (b : Bool) (u : ℕ) (all : Bool) → all ≡ (u == 0) → (b && all) ≡ ((if b then 0 else 1) + u == 0)
@@ -44,7 +44,7 @@ unsettled true true n same stops = cc
 unsettled true false n same stops = cc
 
 -- a row at which the client doesn't wait is submitted
-submitted-goes : (c : Client) (before : List ScriptRow) (row : ScriptRow) (rows : List ScriptRow) (at : Place)
+submitted-goes : (c : Client) (before : List ScriptRow) (row : ScriptRow) (rows : List ScriptRow) (at : RowPlace)
     → have_ended c before ≡ is_over at c.ended → waits at c.ended row ≡ false
     → submitted c before (row ∷ rows) ≡ submitted c (before ++ row ∷ []) rows + 1
 submitted-goes c before (TreeRow t) rows at over goes = refl
@@ -54,7 +54,7 @@ submitted-goes c before SettleRow rows at over goes =
     settled (have_ended c before) (is_over at c.ended) (submitted c (before ++ SettleRow ∷ []) rows + 1) over goes
 
 -- where it waits none is
-submitted-waits : (c : Client) (before : List ScriptRow) (row : ScriptRow) (rows : List ScriptRow) (at : Place)
+submitted-waits : (c : Client) (before : List ScriptRow) (row : ScriptRow) (rows : List ScriptRow) (at : RowPlace)
     → have_ended c before ≡ is_over at c.ended → waits at c.ended row ≡ true → submitted c before (row ∷ rows) ≡ 0
 submitted-waits c before (TreeRow t) rows at over stops = cc
 submitted-waits c before AdvanceRow rows at over stops = cc
@@ -63,13 +63,13 @@ submitted-waits c before SettleRow rows at over stops =
     unsettled (have_ended c before) (is_over at c.ended) (submitted c (before ++ SettleRow ∷ []) rows + 1) over stops
 
 -- the numbers of a place say whether all before it has ended
-over : (answered : List Bool) (ended : ℕ) (rows : List ScriptRow) (at : Place) → at ≡ place_at rows answered at.next
+over : (answered : List Bool) (ended : ℕ) (rows : List ScriptRow) (at : RowPlace) → at ≡ place_at rows answered at.next
     → have_ended (knowing answered ended) (take at.next rows) ≡ is_over at ended
 over answered ended rows at here =
-    over-ended (knowing answered ended) rows at.next ∙ ap (λ (p : Place). is_over p ended) (sym here)
+    over-ended (knowing answered ended) rows at.next ∙ ap (λ (p : RowPlace). is_over p ended) (sym here)
 
 -- past a row at which it doesn't wait, the client comes just as far
-pub furthest-goes : (answered : List Bool) (ended : ℕ) (rows : List ScriptRow) (at : Place) (d : ScriptRow)
+pub furthest-goes : (answered : List Bool) (ended : ℕ) (rows : List ScriptRow) (at : RowPlace) (d : ScriptRow)
     → at.next < length rows → at ≡ place_at rows answered at.next → waits at ended (get_or rows at.next d) ≡ false
     → furthest answered ended rows (at.next + 1) ≡ furthest answered ended rows at.next
 furthest-goes answered ended rows at d lt here goes =
@@ -81,7 +81,7 @@ furthest-goes answered ended rows at d lt here goes =
     rw (take_more rows at.next d lt, drop_more rows at.next d lt, one) (omega arith)
 
 -- where it waits, it has come as far as it may
-pub furthest-waits : (answered : List Bool) (ended : ℕ) (rows : List ScriptRow) (at : Place) (d : ScriptRow)
+pub furthest-waits : (answered : List Bool) (ended : ℕ) (rows : List ScriptRow) (at : RowPlace) (d : ScriptRow)
     → at.next < length rows → at ≡ place_at rows answered at.next → waits at ended (get_or rows at.next d) ≡ true
     → furthest answered ended rows at.next ≡ at.next
 furthest-waits answered ended rows at d lt here stops =

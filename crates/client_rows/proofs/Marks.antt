@@ -9,7 +9,7 @@ use Rattle.tx_trees.specs.declared.parts.ScriptRow.{ScriptRow}
 use Rattle.tx_trees.specs.declared.parts.ScriptRow.TheVariants.{Tree as TreeRow, Advance as AdvanceRow, Settle as SettleRow, Lose as LoseRow}
 use Rattle.client_rows.specs.Kept.{trees_in, unanswered_in}
 use Rattle.client_rows.specs.inside.Places.{place_at}
-use Rattle.client_rows.specs.declared.places.Place.{Place}
+use Rattle.client_rows.specs.declared.places.RowPlace.{RowPlace}
 
 -- the rows before a place name their trees in order too
 pub names-take : (k n m : ℕ) (rows : List ScriptRow) → NamesInOrder k n rows
@@ -75,46 +75,46 @@ unanswered-here answered t k n (SettleRow ∷ rows) names low high lt = unanswer
 unanswered-here answered t k n (LoseRow ∷ rows) names low high lt = unanswered-here answered t k n rows names low high lt
 
 -- fewer trees are submitted than are known
-pub sent_known : (rows : List ScriptRow) (answered : List Bool) (at : Place) → NamesInOrder 0 (length answered) rows
+pub sent_known : (rows : List ScriptRow) (answered : List Bool) (at : RowPlace) → NamesInOrder 0 (length answered) rows
     → at ≡ place_at rows answered at.next → at.sent ≤ length answered
 sent_known rows answered at names is =
-    let sent : at.sent ≡ trees_in (take at.next rows) = ap (λ (p : Place). p.sent) is in
+    let sent : at.sent ≡ trees_in (take at.next rows) = ap (λ (p : RowPlace). p.sent) is in
     omega (arith, trees-take at.next rows, trees-named 0 (length answered) rows names)
 
 -- places with equal numbers are equal
-place_is : (rows : List ScriptRow) (answered other : List Bool) (at : Place) (n : ℕ) → at ≡ place_at rows answered at.next
+place_is : (rows : List ScriptRow) (answered other : List Bool) (at : RowPlace) (n : ℕ) → at ≡ place_at rows answered at.next
     → n ≡ unanswered_in other (take at.next rows)
-    → ◌≡◌ {A = Place} (record { next = at.next; sent = at.sent; unanswered = n; asked = at.asked }) (place_at rows other at.next)
+    → ◌≡◌ {A = RowPlace} (record { next = at.next; sent = at.sent; unanswered = n; asked = at.asked }) (place_at rows other at.next)
 place_is rows answered other at n is e =
-    let sent : at.sent ≡ trees_in (take at.next rows) = ap (λ (p : Place). p.sent) is in
-    let asked : at.asked ≡ advances_in (take at.next rows) = ap (λ (p : Place). p.asked) is in
+    let sent : at.sent ≡ trees_in (take at.next rows) = ap (λ (p : RowPlace). p.sent) is in
+    let asked : at.asked ≡ advances_in (take at.next rows) = ap (λ (p : RowPlace). p.asked) is in
     cc
 
 -- an answer to a tree that isn't submitted changes no number
-pub place-later : (rows : List ScriptRow) (answered : List Bool) (at : Place) (t : ℕ) → NamesInOrder 0 (length answered) rows
+pub place-later : (rows : List ScriptRow) (answered : List Bool) (at : RowPlace) (t : ℕ) → NamesInOrder 0 (length answered) rows
     → at ≡ place_at rows answered at.next → at.sent ≤ t → at ≡ place_at rows (slice_set answered t true) at.next
 place-later rows answered at t names is later =
-    let sent : at.sent ≡ trees_in (take at.next rows) = ap (λ (p : Place). p.sent) is in
-    let unanswered : at.unanswered ≡ unanswered_in answered (take at.next rows) = ap (λ (p : Place). p.unanswered) is in
+    let sent : at.sent ≡ trees_in (take at.next rows) = ap (λ (p : RowPlace). p.sent) is in
+    let unanswered : at.unanswered ≡ unanswered_in answered (take at.next rows) = ap (λ (p : RowPlace). p.unanswered) is in
     let away : 0 + trees_in (take at.next rows) ≤ t = omega arith in
     let same : unanswered_in (slice_set answered t true) (take at.next rows) ≡ unanswered_in answered (take at.next rows) =
     unanswered-other answered t 0 (0 + trees_in (take at.next rows)) (take at.next rows) (names-take 0 (length answered) at.next rows names) (inr away) in
     place_is rows answered (slice_set answered t true) at at.unanswered is (unanswered ∙ sym same)
 
 -- a second answer to a tree changes nothing
-pub place-again : (rows : List ScriptRow) (answered : List Bool) (at : Place) (t : ℕ)
+pub place-again : (rows : List ScriptRow) (answered : List Bool) (at : RowPlace) (t : ℕ)
     → at ≡ place_at rows answered at.next → get_or answered t false ≡ true → at ≡ place_at rows (slice_set answered t true) at.next
 place-again rows answered at t is known =
     let same : slice_set answered t true ≡ answered = ap (λ (b : Bool). slice_set answered t b) (sym known) ∙ set-get_or answered t false in
     rw same is
 
 -- with the first answer to a tree that is submitted one fewer is unanswered
-pub one_fewer : (rows : List ScriptRow) (answered : List Bool) (at : Place) (t : ℕ) → NamesInOrder 0 (length answered) rows
+pub one_fewer : (rows : List ScriptRow) (answered : List Bool) (at : RowPlace) (t : ℕ) → NamesInOrder 0 (length answered) rows
     → at ≡ place_at rows answered at.next → t < at.sent → get_or answered t false ≡ false
     → unanswered_in (slice_set answered t true) (take at.next rows) + 1 ≡ at.unanswered
 one_fewer rows answered at t names is submitted new =
-    let sent : at.sent ≡ trees_in (take at.next rows) = ap (λ (p : Place). p.sent) is in
-    let unanswered : at.unanswered ≡ unanswered_in answered (take at.next rows) = ap (λ (p : Place). p.unanswered) is in
+    let sent : at.sent ≡ trees_in (take at.next rows) = ap (λ (p : RowPlace). p.sent) is in
+    let unanswered : at.unanswered ≡ unanswered_in answered (take at.next rows) = ap (λ (p : RowPlace). p.unanswered) is in
     let there : t < length answered = omega (arith, sent_known rows answered at names is) in
     let named : t < 0 + trees_in (take at.next rows) = omega arith in
     let fewer : unanswered_in (slice_set answered t true) (take at.next rows) + (if get_or answered t false then 0 else 1)
@@ -123,9 +123,9 @@ one_fewer rows answered at t names is submitted new =
     (names-take 0 (length answered) at.next rows names) (omega arith) named there in
     rw new at fewer ∙ sym unanswered
 
-pub place-answered : (rows : List ScriptRow) (answered : List Bool) (at : Place) (t : ℕ) → NamesInOrder 0 (length answered) rows
+pub place-answered : (rows : List ScriptRow) (answered : List Bool) (at : RowPlace) (t : ℕ) → NamesInOrder 0 (length answered) rows
     → at ≡ place_at rows answered at.next → t < at.sent → get_or answered t false ≡ false
-    → ◌≡◌ {A = Place} (record { next = at.next; sent = at.sent; unanswered = at.unanswered - 1; asked = at.asked })
+    → ◌≡◌ {A = RowPlace} (record { next = at.next; sent = at.sent; unanswered = at.unanswered - 1; asked = at.asked })
     (place_at rows (slice_set answered t true) at.next)
 place-answered rows answered at t names is submitted new =
     place_is rows answered (slice_set answered t true) at (at.unanswered - 1) is (omega (arith, one_fewer rows answered at t names is submitted new))

@@ -22,7 +22,7 @@ use Rattle.client_rows.specs.inside.Places.{place_at, knowing, furthest}
 use Rattle.client_rows.specs.declared.news.News.{News}
 use Rattle.client_rows.specs.declared.news.News.TheVariants.{Answered, Ended, EndedTo}
 use Rattle.client_rows.specs.declared.news.Heard.TheVariants.{Nothing, Told, Asked}
-use Rattle.client_rows.specs.declared.places.Place.{Place}
+use Rattle.client_rows.specs.declared.places.RowPlace.{RowPlace}
 use Rattle.client_rows.proofs.Further.{over-ended}
 
 -- each row of the table is that of what the client hears
@@ -53,7 +53,7 @@ next_after-furthest : (s : ScriptData) (c : Client) → next_after s c ≡ furth
 next_after-furthest s c = ap (λ (n : ℕ). c.next + n) (submitted-knowing c (take c.next s.rows) (drop c.next s.rows))
 
 -- the numbers of a place say whether the client finishes there
-finishes-place : (s : ScriptData) (c : Client) (at : Place) → at ≡ place_at s.rows c.answered at.next
+finishes-place : (s : ScriptData) (c : Client) (at : RowPlace) → at ≡ place_at s.rows c.answered at.next
     → (last : Bool) → (at.next == length s.rows) ≡ last
     → ((at.next == length s.rows) && (is_over at c.ended && not c.finished)) ≡ client_finishes s at.next c
 finishes-place s c at here false is = rw is refl
@@ -61,7 +61,7 @@ finishes-place s c at here true is =
     let end : length s.rows ≤ at.next = grind (arith, nat_tests) in
     let over : have_ended c s.rows ≡ is_over at c.ended =
     ap (λ (rows : List ScriptRow). have_ended c rows) (sym (take_all at.next s.rows end)) ∙ over-ended c s.rows at.next
-    ∙ ap (λ (p : Place). is_over p c.ended) (sym here) in
+    ∙ ap (λ (p : RowPlace). is_over p c.ended) (sym here) in
     ap (λ (b : Bool). (at.next == length s.rows) && (b && not c.finished)) (sym over)
 
 -- states, letters and acts that are equal make equal rows
@@ -73,7 +73,7 @@ same_row : (answered : List Bool) (ended n m : ℕ) (f g : Bool) (sent sent' : L
 same_row answered ended n m f g sent sent' acts acts' next finished letters deeds = cc
 
 -- what a call made of news: where the client came to from `c`, and what goes out
-pub record Submission (s : ScriptData) (news : News) (c : Client) (at : Place) (ends : Bool) (out : StepOut) : Type 0 where
+pub record Submission (s : ScriptData) (news : News) (c : Client) (at : RowPlace) (ends : Bool) (out : StepOut) : Type 0 where
   pub place : at
       ≡ place_at s.rows (answered_after news c.answered)
       (furthest (answered_after news c.answered) (ended_after news c.ended) s.rows c.next)
@@ -83,7 +83,7 @@ pub record Submission (s : ScriptData) (news : News) (c : Client) (at : Place) (
   pub acts : out.acts ≡ (if ends then Finished ∷ [] else [])
 
 -- the state that the call leaves
-abbrev pub state_after : News → Client → Place → Bool → Client
+abbrev pub state_after : News → Client → RowPlace → Bool → Client
 state_after news c at ends = record {
   next = at.next;
   answered = answered_after news c.answered;
@@ -91,13 +91,13 @@ state_after news c at ends = record {
   finished = c.finished || ends;
 }
 
-pub submission-row : (s : ScriptData) (news : News) (c : Client) (at : Place) (ends : Bool) (out : StepOut)
+pub submission-row : (s : ScriptData) (news : News) (c : Client) (at : RowPlace) (ends : Bool) (out : StepOut)
     → Submission s news c at ends out → made (state_after news c at ends) out ≡ submit_at s news c
 submission-row s news c at ends out made_here =
     let after : Client = client_with_news news c in
-    let next : at.next ≡ next_after s after = ap (λ (p : Place). p.next) made_here.place ∙ sym (next_after-furthest s after) in
+    let next : at.next ≡ next_after s after = ap (λ (p : RowPlace). p.next) made_here.place ∙ sym (next_after-furthest s after) in
     let here : at ≡ place_at s.rows after.answered at.next =
-    made_here.place ∙ ap (place_at s.rows after.answered) (sym (ap (λ (p : Place). p.next) made_here.place)) in
+    made_here.place ∙ ap (place_at s.rows after.answered) (sym (ap (λ (p : RowPlace). p.next) made_here.place)) in
     let finish : ends ≡ client_finishes s (next_after s after) after =
     made_here.finish ∙ finishes-place s after at here (at.next == length s.rows) refl
     ∙ ap (λ (n : ℕ). client_finishes s n after) next in
@@ -123,7 +123,7 @@ same_place news {rows} {rows'} {known} {known'} {ended} {ended'} {next} {next'} 
     ∙ ap (λ (x : ℕ). place_at rows' (answered_after news known') (furthest (answered_after news known') ended' rows' x)) n
 
 -- with equal rows and ends the client finishes alike
-pub same_finish : (at : Place) (finished : Bool) {rows rows' : List ScriptRow} {ended ended' : ℕ} → rows ≡ rows' → ended ≡ ended'
+pub same_finish : (at : RowPlace) (finished : Bool) {rows rows' : List ScriptRow} {ended ended' : ℕ} → rows ≡ rows' → ended ≡ ended'
     → ((at.next == length rows) && (is_over at ended && not finished)) ≡ ((at.next == length rows') && (is_over at ended' && not finished))
 same_finish at finished {rows} {rows'} {ended} {ended'} r e =
     ap (λ (x : List ScriptRow). (at.next == length x) && (is_over at ended && not finished)) r

@@ -3,7 +3,7 @@ ghost use Rattle.std.specs.Prelude.{◌≡◌, []};
 ghost use Rattle.client_rows.specs.declared.change.ClientChange.TheVariants.{Still};
 
 use crate::news::News;
-use crate::places::Place;
+use crate::places::RowPlace;
 use letter_types::StepOut;
 use std::alloc::Global;
 
@@ -15,7 +15,7 @@ pub enum ClientChange {
     /// It has news, submits the rows up to a place, and may finish.
     Submit {
         news: News,
-        at: Place,
+        at: RowPlace,
         finishes: bool,
     },
 }

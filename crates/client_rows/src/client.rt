@@ -10,7 +10,7 @@ ghost use Rattle.client_rows.specs.inside.Places.{is_over};
 use crate::change::{ClientChange, ClientPrepared};
 use crate::letters;
 use crate::news::{Heard, News, ended_after, heard_of, mark};
-use crate::places::{Place, furthest, is_over, with_news};
+use crate::places::{RowPlace, furthest, is_over, with_news};
 use letter_types::{Letter, Step, StepOut};
 use std::alloc::Global;
 use std::marker::Model;
@@ -20,7 +20,7 @@ use tx_trees::{Script, ScriptRow};
 /// The client's state. It counts what it has submitted, so that no step goes over those rows again.
 #[derive(Drop)]
 pub struct Client {
-    at: Place,
+    at: RowPlace,
     answered: Vec<bool>,
     ended: u64,
     finished: bool,
@@ -37,7 +37,7 @@ impl Model for Client {
 }
 
 /// Whether the client finishes at a place: no row is left, all has ended, and it hasn't finished before.
-fn finishes(rows: &[ScriptRow], at: Place, ended: u64, finished: bool) -> bool
+fn finishes(rows: &[ScriptRow], at: RowPlace, ended: u64, finished: bool) -> bool
     ensures { result ≡ ((at.next == length rows.now) && (is_over at ended && not finished)) }
 {
     at.next == rows.len() && is_over(at, ended) && !finished
@@ -50,7 +50,7 @@ impl Client {
         ensures kept { IfOk result (IsKeptOf script.now) }
     {
         let answered = vec![in alloc; false; script.trees().len()]?;
-        let at = Place {
+        let at = RowPlace {
             next: 0,
             sent: 0,
             unanswered: 0,

@@ -10,4 +10,4 @@ mod places;
 pub use change::{ClientChange, ClientPrepared};
 pub use client::Client;
 pub use news::News;
-pub use places::Place;
+pub use places::RowPlace;

@@ -11,7 +11,7 @@ use tx_trees::ScriptRow;
 
 /// How far the client is among the script's rows.
 #[derive(Clone, Copy)]
-pub struct Place {
+pub struct RowPlace {
     /// How many rows are submitted.
     pub next: usize,
     /// How many of them are trees.
@@ -23,14 +23,14 @@ pub struct Place {
 }
 
 /// Whether all that was submitted up to a place has ended.
-pub(crate) fn is_over(at: Place, ended: u64) -> bool
+pub(crate) fn is_over(at: RowPlace, ended: u64) -> bool
     ensures { result ≡ is_over at ended }
 {
     at.unanswered == 0 && u64::from(at.asked) <= ended
 }
 
 /// The same place once the news is known: a tree that is answered by it counts as open no more.
-pub(crate) fn with_news(rows: &[ScriptRow], answered: &[bool], news: News, at: Place) -> Place
+pub(crate) fn with_news(rows: &[ScriptRow], answered: &[bool], news: News, at: RowPlace) -> RowPlace
     requires names { NamesInOrder 0 (length answered.now) rows.now }
     requires at { at ≡ place_at rows.now answered.now at.next }
     ensures { result ≡ place_at rows.now (answered_after news answered.now) at.next }
@@ -41,14 +41,14 @@ pub(crate) fn with_news(rows: &[ScriptRow], answered: &[bool], news: News, at: P
     if tree.0 as usize >= at.sent || answered[tree.0 as usize] {
         return at;
     }
-    Place {
+    RowPlace {
         unanswered: at.unanswered - 1,
         ..at
     }
 }
 
 /// The place after the next row.
-fn behind_next(rows: &[ScriptRow], answered: &[bool], news: News, at: Place) -> Place
+fn behind_next(rows: &[ScriptRow], answered: &[bool], news: News, at: RowPlace) -> RowPlace
     requires more { at.next < length rows.now }
     requires few { advances_in rows.now < 2 ^ 32 }
     requires at { at ≡ place_at rows.now (answered_after news answered.now) at.next }
@@ -56,29 +56,29 @@ fn behind_next(rows: &[ScriptRow], answered: &[bool], news: News, at: Place) -> 
 {
     let next = at.next + 1;
     match rows[at.next] {
-        ScriptRow::Tree(tree) if is_answered(answered, news, tree) => Place {
+        ScriptRow::Tree(tree) if is_answered(answered, news, tree) => RowPlace {
             next,
             sent: at.sent + 1,
             ..at
         },
-        ScriptRow::Tree(_) => Place {
+        ScriptRow::Tree(_) => RowPlace {
             next,
             sent: at.sent + 1,
             unanswered: at.unanswered + 1,
             ..at
         },
-        ScriptRow::Advance => Place {
+        ScriptRow::Advance => RowPlace {
             next,
             asked: at.asked + 1,
             ..at
         },
-        ScriptRow::Settle => Place { next, ..at },
-        ScriptRow::Lose => Place { next, ..at },
+        ScriptRow::Settle => RowPlace { next, ..at },
+        ScriptRow::Lose => RowPlace { next, ..at },
     }
 }
 
 /// Whether the client waits at a row: at a settle row, until all before it has ended.
-fn waits(row: ScriptRow, at: Place, ended: u64) -> bool
+fn waits(row: ScriptRow, at: RowPlace, ended: u64) -> bool
     ensures { result ≡ waits at ended row }
 {
     match row {
@@ -93,8 +93,8 @@ pub(crate) fn furthest(
     answered: &[bool],
     news: News,
     ended: u64,
-    from: Place,
-) -> Place
+    from: RowPlace,
+) -> RowPlace
     requires next { from.next ≤ length rows.now }
     requires few { advances_in rows.now < 2 ^ 32 }
     requires from { from ≡ place_at rows.now (answered_after news answered.now) from.next }

@@ -8,7 +8,7 @@ use Rattle.command_words.specs.Grammar.{Given, given, line_of_given, line_of_opt
 use Rattle.command_words.specs.Lines.{IsInRange, HasReadLine, is_given_in, line_of_mode, line_with, mode_of}
 use Rattle.command_words.specs.declared.Line.{Line}
 use Rattle.command_words.specs.declared.Line.TheVariants as lines
-use Rattle.command_words.specs.declared.Mode.TheVariants as modes
+use Rattle.command_words.specs.declared.ScriptMode.TheVariants as modes
 use Rattle.command_words.specs.declared.ModeName.{ModeName}
 use Rattle.command_words.specs.declared.ModeName.TheVariants as names
 use Rattle.command_words.specs.declared.WordsError.{WordsError}

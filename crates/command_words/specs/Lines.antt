@@ -6,8 +6,8 @@ use Rattle.tv_base.specs.Digits.{decimal_value}
 use Rattle.command_words.specs.Numbers.{is_option_number}
 use Rattle.command_words.specs.declared.ModeName.{ModeName}
 use Rattle.command_words.specs.declared.ModeName.TheVariants as names
-use Rattle.command_words.specs.declared.Mode.{Mode}
-use Rattle.command_words.specs.declared.Mode.TheVariants as modes
+use Rattle.command_words.specs.declared.ScriptMode.{ScriptMode}
+use Rattle.command_words.specs.declared.ScriptMode.TheVariants as modes
 use Rattle.command_words.specs.declared.Line.{Line}
 use Rattle.command_words.specs.declared.Line.TheVariants as lines
 use Rattle.command_words.specs.declared.WordsError.{WordsError}
@@ -48,7 +48,7 @@ line_with (Some name) workers seed trees history =
     else None
 
 -- a mode that runs threads has from 1 to 32 workers
-abbrev pub HasWorkers : Mode → Type 0
+abbrev pub HasWorkers : ScriptMode → Type 0
 HasWorkers (modes.Run workers history) = (1 ≤ workers) × (workers ≤ 32)
 HasWorkers _ = Unit {0}
 

@@ -26,7 +26,7 @@ const MOST_TREES: u32 = 20_000;
 
 /// What is made of a script that is read.
 #[derive(Clone, Copy, Debug, PartialEq, Eq)]
-pub enum Mode {
+pub enum ScriptMode {
     /// Mode `check`, with no other option: the line that counts the script's parts.
     Check,
     /// Mode `sim`: a run on one thread, and its report. The letters are taken by the script's picks, then with a seed
@@ -52,7 +52,7 @@ pub enum Mode {
 #[derive(Clone, Copy, Debug, PartialEq, Eq)]
 pub enum Line {
     /// A script is read, and this is made of it.
-    OfScript(Mode),
+    OfScript(ScriptMode),
     /// Mode `audit`, with no other option: a script and a printed history are read, and the history is judged.
     Audit,
     /// Mode `soak`: a script is made from a seed, run on threads and summed up. Nothing is read.
@@ -155,11 +155,11 @@ fn line_by_mode(
     ensures { result ≡ line_of_mode mode workers seed trees history }
 {
     match (mode, workers, seed, trees, history) {
-        (ModeName::Check, None, None, None, false) => Some(Line::OfScript(Mode::Check)),
+        (ModeName::Check, None, None, None, false) => Some(Line::OfScript(ScriptMode::Check)),
         (ModeName::Sim, None, seed, None, history) => {
-            Some(Line::OfScript(Mode::Sim { seed, history }))
+            Some(Line::OfScript(ScriptMode::Sim { seed, history }))
         }
-        (ModeName::Run, workers, None, None, history) => Some(Line::OfScript(Mode::Run {
+        (ModeName::Run, workers, None, None, history) => Some(Line::OfScript(ScriptMode::Run {
             workers: workers.unwrap_or(DEFAULT_WORKERS),
             history,
         })),
@@ -168,7 +168,7 @@ fn line_by_mode(
             seed,
             trees,
         }),
-        (ModeName::Upgrade, None, None, None, false) => Some(Line::OfScript(Mode::Upgrade)),
+        (ModeName::Upgrade, None, None, None, false) => Some(Line::OfScript(ScriptMode::Upgrade)),
         (ModeName::Audit, None, None, None, false) => Some(Line::Audit),
         _ => None,
     }

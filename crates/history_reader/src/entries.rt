@@ -15,7 +15,7 @@ use tx_trees::Script;
 /// An entry that was read, and how many bytes its lines have. Of the letter that it took the lines say the id alone: the
 /// body is Go.
 #[derive(Drop)]
-pub struct Heard {
+pub struct ReadEntry {
     pub entry: Entry,
     pub length: usize,
 }
@@ -24,7 +24,11 @@ pub struct Heard {
 /// text ends or at the next line that begins an entry. None exactly where there is no such entry. Running out of memory
 /// is the only error. Takes time in proportion to the entry's lines, with a look-up for each name.
 #[tactic(auto, using(crate::proofs::WholeEntries::heard_length))]
-pub fn read_entry(alloc: Global, script: &Script, text: &[u8]) -> Result<Option<Heard>, NoMemory>
+pub fn read_entry(
+    alloc: Global,
+    script: &Script,
+    text: &[u8],
+) -> Result<Option<ReadEntry>, NoMemory>
     ensures some { IfOk result (λ heard. IfSome heard (λ h. (h.length ≤ length text.now)
         × Begins script.now text.now h.entry (drop h.length text.now))) }
     ensures none { IfOk result (λ heard. IsNone heard → (e : Entry) (rest : List ℕ)
@@ -35,7 +39,7 @@ pub fn read_entry(alloc: Global, script: &Script, text: &[u8]) -> Result<Option<
         return Ok(None);
     };
     let length = text.len() - lines.left();
-    Ok(Some(Heard { entry, length }))
+    Ok(Some(ReadEntry { entry, length }))
 }
 
 // The next entry of a text.

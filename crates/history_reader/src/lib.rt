@@ -16,7 +16,7 @@ mod reading;
 mod votes;
 mod walk;
 
-pub use entries::{Heard, read_entry};
+pub use entries::{ReadEntry, read_entry};
 pub use laws::{a_text_begins_with_one_entry, a_text_has_one_reading};
 pub use reading::{HistoryRefusal, read_history};
 pub use walk::{Fault, Walk};

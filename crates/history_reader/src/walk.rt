@@ -5,7 +5,7 @@ ghost use Rattle.tx_trees.specs.Valid.{IsValid};
 ghost use Rattle.history_reader.specs.Walks.{IsUnpostedAt, IsUnread, IsWalked, ComesBehind};
 ghost use Rattle.history_reader.specs.inside.Finding.{entry_with};
 
-use crate::entries::{Heard, read_entry};
+use crate::entries::{ReadEntry, read_entry};
 use crate::in_flight::InFlight;
 use letter_types::{Entry, Letter};
 use std::alloc::Global;
@@ -101,7 +101,7 @@ impl<'a> Walk<'a> {
         let Some(heard) = read_entry(self.alloc, self.script, self.rest)? else {
             return Err(Fault::Text);
         };
-        let Heard { entry, length } = heard;
+        let ReadEntry { entry, length } = heard;
         let client = client(self.script);
         let Some(letter) = self.letters.go_on(self.alloc, client, &entry)? else {
             return Err(Fault::Postal);

@@ -15,13 +15,13 @@ use tv_base::NoMemory;
 /// Contracts see the items, the oldest first, and the room: how many more may be put without failing. Items are put
 /// into a queue. Once it fills a block it becomes one, behind the older ones, and a new queue is begun.
 #[derive(Drop)]
-pub struct Bag<T> {
+pub struct OrderedBag<T> {
     older: Blocks<T>,
     newer: VecDeque<T>,
     room: usize,
 }
 
-impl<T> Model for Bag<T> {
+impl<T> Model for OrderedBag<T> {
     ghost use Rattle.std.specs.Prelude.{◌+◌, ◌<◌, ◌≤◌, ◌^◌, ◌++◌, length};
     ghost use Rattle.std.specs.VecDeque.{deque_len, deque_capacity};
     ghost use Rattle.letter_bag.specs.Bag.{BagData, bag_code};
@@ -36,12 +36,12 @@ impl<T> Model for Bag<T> {
         × (length b.older + (deque_len b.newer + b.room) < 2 ^ 64) };
 }
 
-impl<T: Drop> Bag<T> {
+impl<T: Drop> OrderedBag<T> {
     /// An empty bag, with no room.
-    pub fn new(alloc: Global) -> Bag<T>
+    pub fn new(alloc: Global) -> OrderedBag<T>
         ensures { result ≡ record { items = []; room = 0 } }
     {
-        Bag {
+        OrderedBag {
             older: Blocks::new(alloc),
             newer: VecDeque::new(alloc),
             room: 0,

@@ -6,4 +6,4 @@ mod bag;
 mod block;
 mod blocks;
 
-pub use bag::Bag;
+pub use bag::OrderedBag;

@@ -9,7 +9,7 @@ use Rattle.letter_types.specs.declared.entries.Letter.{Letter}
 use Rattle.letter_types.specs.declared.entries.Outgoing.{Outgoing}
 use Rattle.letter_types.specs.declared.bodies.Body.TheVariants.{Wake}
 use Rattle.letter_types.specs.declared.kept.KeptLetter.{KeptLetter}
-use Rattle.letter_types.specs.declared.kept.Why.{Why}
+use Rattle.letter_types.specs.declared.kept.KeepReason.{KeepReason}
 use Rattle.letter_types.specs.Kept.{wakes}
 use Rattle.letter_types.specs.declared.entries.Posting.{Posting}
 use Rattle.letter_types.specs.Postal.{letters_sent}
@@ -24,7 +24,7 @@ id_is i j is =
     let b : i.place ≡ j.place = grind (arith, nat_tests) in
     ap (λ (n : ℕ). record { stamp = record { 0 = n }; place = i.place }) a ∙ ap (λ (n : ℕ). record { stamp = j.stamp; place = n }) b
 
-pub none_woken : (test : Why → Bool) (xs : List KeptLetter) → ((why : Why) → test why ≡ false) → wakes test xs ≡ []
+pub none_woken : (test : KeepReason → Bool) (xs : List KeptLetter) → ((why : KeepReason) → test why ≡ false) → wakes test xs ≡ []
 none_woken test [] none = refl
 none_woken test (x ∷ xs) none =
     ap (λ (b : Bool). cond b (record { to = x.letter.to; body = Wake x.tree x.sub } ∷ wakes test xs) (wakes test xs))

@@ -8,11 +8,11 @@ use Rattle.letter_types.specs.declared.bodies.Body.TheVariants.{Show, Decide, Wa
 use Rattle.letter_types.specs.declared.entries.Letter.{Letter}
 use Rattle.letter_types.specs.declared.entries.Outgoing.{Outgoing}
 use Rattle.letter_types.specs.declared.kept.KeptLetter.{KeptLetter}
-use Rattle.letter_types.specs.declared.kept.Why.{Why}
-use Rattle.letter_types.specs.declared.kept.Why.TheVariants.{ForShow, ForHolder, Called}
+use Rattle.letter_types.specs.declared.kept.KeepReason.{KeepReason}
+use Rattle.letter_types.specs.declared.kept.KeepReason.TheVariants.{ForShow, ForHolder, Called}
 
 -- a kept letter of this subtransaction whose Wake is in flight
-abbrev pub is_called : Why → Bool
+abbrev pub is_called : KeepReason → Bool
 is_called Called = true
 is_called ForShow = false
 is_called (ForHolder h) = false
@@ -40,17 +40,17 @@ kept_without kept (Wake t k) = without_called t k kept
 kept_without kept _ = kept
 
 -- a letter of this body wakes what is kept for this reason: a version is shown, or the holder has decided
-abbrev pub wakes_by : Body → Why → Bool
+abbrev pub wakes_by : Body → KeepReason → Bool
 wakes_by (Show v) ForShow = true
 wakes_by (Decide t v commit) (ForHolder h) = h.0 == t.0
 wakes_by _ _ = false
 
 -- a Wake for each letter that is woken
-abbrev pub wakes : (Why → Bool) → List KeptLetter → List Outgoing
+abbrev pub wakes : (KeepReason → Bool) → List KeptLetter → List Outgoing
 wakes test [] = []
 wakes test (x ∷ xs) =
     if test x.why then record { to = x.letter.to; body = Wake x.tree x.sub } ∷ wakes test xs else wakes test xs
 
-abbrev pub with_called : (Why → Bool) → List KeptLetter → List KeptLetter
+abbrev pub with_called : (KeepReason → Bool) → List KeptLetter → List KeptLetter
 with_called test [] = []
 with_called test (x ∷ xs) = (if test x.why then record x { why = Called } else x) ∷ with_called test xs

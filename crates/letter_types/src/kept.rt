@@ -5,7 +5,7 @@ use tv_base::{SubNo, TreeNo};
 
 /// Why a node keeps a letter.
 #[derive(Clone, Copy, Debug, PartialEq, Eq)]
-pub enum Why {
+pub enum KeepReason {
     /// Until the node shows a version.
     ForShow,
     /// Until this tree lets go of its locks there.
@@ -20,5 +20,5 @@ pub struct KeptLetter {
     pub letter: Letter,
     pub tree: TreeNo,
     pub sub: SubNo,
-    pub why: Why,
+    pub why: KeepReason,
 }

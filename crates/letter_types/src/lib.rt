@@ -16,5 +16,5 @@ pub use entries::{
     Entry, History, Letter, LetterId, Letters, Outgoing, Posting, Step, StepOut, copy_letters, go,
     one_letter,
 };
-pub use kept::{KeptLetter, Why};
+pub use kept::{KeepReason, KeptLetter};
 pub use votes::{Cause, Vote};

@@ -21,7 +21,7 @@ use tx_trees::Refusal;
 
 /// Why there is no ledger.
 #[derive(Debug, Drop, Error)]
-pub(crate) enum Fault {
+pub(crate) enum LedgerFault {
     /// A name has no byte, or more than 32.
     #[error("a name is empty or too long")]
     Name,
@@ -36,14 +36,14 @@ pub(crate) enum Fault {
     NoMemory,
 }
 
-impl From<NoMemory> for Fault {
+impl From<NoMemory> for LedgerFault {
     fn from(_: NoMemory) -> Self {
-        Fault::NoMemory
+        LedgerFault::NoMemory
     }
 }
 
 // Runs the script in two ways, and prints the ledger of each run. They are the same (see `booked_month`).
-fn ledgers<R: Threads + Wait + Sync + Print>(rt: &R, alloc: Global) -> Result<(), Fault> {
+fn ledgers<R: Threads + Wait + Sync + Print>(rt: &R, alloc: Global) -> Result<(), LedgerFault> {
     let Month { script, report } = booked_month(alloc)?;
     let history = run_middle_first(alloc, &script)?;
     println!(rt; "the letter in the middle first, on one thread")?;

@@ -1,6 +1,6 @@
 // The script, built by calls.
 
-use crate::Fault;
+use crate::LedgerFault;
 use commute_ops::{Amount, Kind, Op};
 use std::alloc::Global;
 use tv_base::{Name, NodeNo, TreeNo};
@@ -26,7 +26,7 @@ pub(crate) struct Month {
 /// (`add_settle`), so all of them are of version 1; and it has ended before the report and June's reading are sent, so
 /// the report reads version 1, and June's reading is of version 2. And the updates of one version commute: in any order
 /// their sums are the same.
-pub(crate) fn booked_month(alloc: Global) -> Result<Month, Fault> {
+pub(crate) fn booked_month(alloc: Global) -> Result<Month, LedgerFault> {
     let mut script = Script::new(alloc, Form::One, 2);
     add_meter(&mut script, NORTH, 0, 1200)?;
     add_meter(&mut script, SOUTH, 1, 900)?;
@@ -42,12 +42,17 @@ pub(crate) fn booked_month(alloc: Global) -> Result<Month, Fault> {
     Ok(Month { script, report })
 }
 
-fn name(bytes: &[u8]) -> Result<Name, Fault> {
-    Name::new(bytes).ok_or(Fault::Name)
+fn name(bytes: &[u8]) -> Result<Name, LedgerFault> {
+    Name::new(bytes).ok_or(LedgerFault::Name)
 }
 
 // Adds a sum at a node.
-fn add_meter(script: &mut Script, meter: &[u8], node: u8, initial: Amount) -> Result<(), Fault> {
+fn add_meter(
+    script: &mut Script,
+    meter: &[u8],
+    node: u8,
+    initial: Amount,
+) -> Result<(), LedgerFault> {
     let row = ItemRow {
         name: name(meter)?,
         node: NodeNo(node),
@@ -59,7 +64,7 @@ fn add_meter(script: &mut Script, meter: &[u8], node: u8, initial: Amount) -> Re
 }
 
 // Adds to a meter, in the subtransaction that was added last.
-fn add_more(script: &mut Script, meter: &[u8], amount: Amount) -> Result<(), Fault> {
+fn add_more(script: &mut Script, meter: &[u8], amount: Amount) -> Result<(), LedgerFault> {
     script.add_op(&name(meter)?, Deed::Apply(Op::Add(amount)))?;
     Ok(())
 }
@@ -71,7 +76,7 @@ fn add_reading(
     north: Amount,
     south: Amount,
     hours: Amount,
-) -> Result<(), Fault> {
+) -> Result<(), LedgerFault> {
     let _tree = script.add_tree(name(tree)?, TreeKind::Update, NodeNo(0))?;
     add_more(script, NORTH, north)?;
     let _child = script.add_sub(0, NodeNo(1))?;
@@ -80,7 +85,7 @@ fn add_reading(
 }
 
 // Adds a read tree: its root gets the south meter and the hours, and a child at the other node the north one.
-fn add_report(script: &mut Script, tree: &[u8]) -> Result<TreeNo, Fault> {
+fn add_report(script: &mut Script, tree: &[u8]) -> Result<TreeNo, LedgerFault> {
     let report = script.add_tree(name(tree)?, TreeKind::Read, NodeNo(1))?;
     script.add_op(&name(SOUTH)?, Deed::Get)?;
     script.add_op(&name(NIGHT)?, Deed::Get)?;

@@ -1,7 +1,7 @@
 // The ledger's lines.
 ghost use Rattle.headline.specs.Headline.{HasHeadline};
 
-use crate::Fault;
+use crate::LedgerFault;
 use crate::report::reported;
 use board_model::worths_at;
 use commute_ops::Value;
@@ -11,7 +11,12 @@ use tv_base::{ItemNo, SubNo, TreeNo, Version};
 use tx_trees::Script;
 
 // Prints an item's name and its value, where that is a sum.
-fn print_item(rt: &impl Print, script: &Script, item: ItemNo, value: &Value) -> Result<(), Fault> {
+fn print_item(
+    rt: &impl Print,
+    script: &Script,
+    item: ItemNo,
+    value: &Value,
+) -> Result<(), LedgerFault> {
     let Some(row) = script.items().get(item.0 as usize) else {
         return Ok(());
     };
@@ -30,7 +35,7 @@ fn print_reported(
     history: &History,
     report: TreeNo,
     sub: SubNo,
-) -> Result<(), Fault>
+) -> Result<(), LedgerFault>
     requires { HasHeadline script.now history.now }
 {
     if let Some(values) = reported(script, history, report, sub) {
@@ -48,7 +53,7 @@ fn print_balances(
     script: &Script,
     history: &History,
     version: Version,
-) -> Result<(), Fault> {
+) -> Result<(), LedgerFault> {
     let values = worths_at(alloc, script, history, version)?;
     for (number, value) in values.items().iter().enumerate() {
         print_item(rt, script, ItemNo(number as u32), value)?;
@@ -63,7 +68,7 @@ pub(crate) fn print_ledger(
     script: &Script,
     history: &History,
     report: TreeNo,
-) -> Result<(), Fault>
+) -> Result<(), LedgerFault>
     requires { HasHeadline script.now history.now }
 {
     println!(rt; "  the report of May read")?;

@@ -2,7 +2,7 @@
 ghost use Rattle.std.specs.Prelude.{◌/◌, IfOk, length};
 ghost use Rattle.headline.specs.Headline.{HasHeadline};
 
-use crate::Fault;
+use crate::LedgerFault;
 use headline::every_finished_run_has_the_headline;
 use letter_types::History;
 use node_threads::run;
@@ -30,7 +30,7 @@ impl Picker for Middle {
 }
 
 /// The script run on one thread by that picker. Its history has what is promised of every run (`HasHeadline`).
-pub(crate) fn run_middle_first(alloc: Global, script: &Script) -> Result<History, Fault>
+pub(crate) fn run_middle_first(alloc: Global, script: &Script) -> Result<History, LedgerFault>
     ensures { IfOk result (λ history. HasHeadline script.now history) }
 {
     let history = simulate_by(alloc, script, &mut Middle)?;
@@ -42,7 +42,7 @@ pub(crate) fn run_on_threads<R: Threads + Wait + Sync>(
     rt: &R,
     alloc: Global,
     script: &Script,
-) -> Result<History, Fault>
+) -> Result<History, LedgerFault>
     ensures { IfOk result (λ history. HasHeadline script.now history) }
 {
     // Both are called for their clauses alone: a script is valid, and every run that has finished has the promise.

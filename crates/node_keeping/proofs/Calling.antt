@@ -16,12 +16,12 @@ use Rattle.letter_types.specs.declared.bodies.Body.{Body}
 use Rattle.letter_types.specs.declared.bodies.Body.TheVariants.{Wake, Show as Shows, Decide as Decides}
 use Rattle.letter_types.specs.declared.entries.Outgoing.{Outgoing}
 use Rattle.letter_types.specs.declared.kept.KeptLetter.{KeptLetter}
-use Rattle.letter_types.specs.declared.kept.Why.{Why}
-use Rattle.letter_types.specs.declared.kept.Why.TheVariants.{Called}
+use Rattle.letter_types.specs.declared.kept.KeepReason.{KeepReason}
+use Rattle.letter_types.specs.declared.kept.KeepReason.TheVariants.{Called}
 use Rattle.letter_types.specs.Kept.{wakes, wakes_by, with_called}
 use Rattle.node_keeping.specs.declared.places.Key.{Key}
 use Rattle.node_keeping.specs.declared.places.Key.TheVariants.{Sub, Show, Holder}
-use Rattle.node_keeping.specs.declared.places.Place.{Place}
+use Rattle.node_keeping.specs.declared.places.KeptPlace.{KeptPlace}
 use Rattle.node_keeping.specs.inside.Arrivals.{ArePlaced, Arrived, came, is_found, wake_of, wakes_in}
 use Rattle.node_keeping.specs.inside.Places.{HasNone, has_place, is_reason, is_this, is_why, key_of_why, key_order, place_by, place_order, woken_key}
 use Rattle.node_keeping.proofs.Finding.{each_came, part_is, part_of, places_of}
@@ -56,10 +56,10 @@ wakes-walk q (e ∷ es) all reason there =
     ∙ ap (λ (f : Bool). cond f (record { to = e.1.letter.to; body = Wake e.1.tree e.1.sub } ∷ wakes (is_why q)
     (values_of es)) (wakes (is_why q) (values_of es))) (finds_why e.1 q reason)
 
-pub wakes_found : (q : Key) (next : ℕ) (es : Arrived) (ps part : List Place) → ArePlaced next es ps
+pub wakes_found : (q : Key) (next : ℕ) (es : Arrived) (ps part : List KeptPlace) → ArePlaced next es ps
     → is_reason q ≡ true → part ≡ part_of q next ps → wakes_in es part ≡ wakes (is_why q) (values_of es)
 wakes_found q next es ps part kept reason is =
-    ap (λ (ps : List Place). wakes_in es ps) (is ∙ part_is q next es ps kept)
+    ap (λ (ps : List KeptPlace). wakes_in es ps) (is ∙ part_is q next es ps kept)
     ∙ wakes-walk q es es reason (each_came es es kept.ascending (λ a there. refl))
 
 -- the first place with this key is one that came before the next
@@ -75,18 +75,18 @@ to-end q a next less = ap (λ (r : Ordering). ordering_then r (nat_cmp a next)) 
     below : (a b : ℕ) → a < b → nat_cmp a b ≡ Less
     below a b less = grind (arith, nat_tests)
 
-pub has_none : (q : Key) (next : ℕ) (ps part : List Place)
+pub has_none : (q : Key) (next : ℕ) (ps part : List KeptPlace)
     → IsKeyRangeOf place_order (Included (place_by q 0)) (Excluded (place_by q next)) (record { keys = ps }) part
     → part ≡ [] → HasNone q next ps
 has_none q next ps part is empty a less = is.5 empty (place_by q a) (from-start q a, to-end q a next less)
 
 -- where none waits, all stay as they are
-unless-found : (q : Key) (next a : ℕ) (ps : List Place) (o : Option KeptLetter) → HasNone q next ps
+unless-found : (q : Key) (next a : ℕ) (ps : List KeptPlace) (o : Option KeptLetter) → HasNone q next ps
     → has_place (place_by q a) ps ≡ is_found q o → (IsSome o → a < next) → is_found q o ≡ false
 unless-found q next a ps None none found before = refl
 unless-found q next a ps (Some x) none found before = sym found ∙ none a (before refl)
 
-none-found : (q : Key) (next : ℕ) (es : Arrived) (ps : List Place) → ArePlaced next es ps → HasNone q next ps → (a : ℕ)
+none-found : (q : Key) (next : ℕ) (es : Arrived) (ps : List KeptPlace) → ArePlaced next es ps → HasNone q next ps → (a : ℕ)
     → is_found q (came a es) ≡ false
 none-found q next es ps kept none a =
     unless-found q next a ps (came a es) none (kept.found (place_by q a)) (kept.before a)
@@ -101,7 +101,7 @@ stay-walk q (e ∷ es) all reason there none =
     ap (λ (b : Bool). cond b (record e.1 { why = Called }) e.1 ∷ with_called (is_why q) (values_of es)) off
     ∙ ap (λ (xs : List KeptLetter). e.1 ∷ xs) (stay-walk q es all reason there.1 none)
 
-pub all_called : (q : Key) (next : ℕ) (es : Arrived) (ps : List Place) → ArePlaced next es ps → is_reason q ≡ true
+pub all_called : (q : Key) (next : ℕ) (es : Arrived) (ps : List KeptPlace) → ArePlaced next es ps → is_reason q ≡ true
     → HasNone q next ps → with_called (is_why q) (values_of es) ≡ values_of es
 all_called q next es ps kept reason none =
     stay-walk q es es reason (each_came es es kept.ascending (λ a there. refl)) (none-found q next es ps kept none)
@@ -131,7 +131,7 @@ called_one q a x (e ∷ es) is waits =
     called-by q a x e es (is_eq (nat_cmp a e.0)) is waits (λ is. called_one q a x es is waits)
 
 -- that it waits says its place
-pub waits_there : (q : Key) (a next : ℕ) (x : KeptLetter) (es : Arrived) (ps : List Place) → ArePlaced next es ps
+pub waits_there : (q : Key) (a next : ℕ) (x : KeptLetter) (es : Arrived) (ps : List KeptPlace) → ArePlaced next es ps
     → is_reason q ≡ true → has_place (place_by q a) ps ≡ true → came a es ≡ Some x → is_why q x.why ≡ true
 waits_there q a next x es ps kept reason there is =
     sym (finds_why x q reason) ∙ sym (ap (λ (o : Option KeptLetter). is_found q o) is)
@@ -141,7 +141,7 @@ some-there : (q : Key) (o : Option KeptLetter) → is_found q o ≡ true → IsS
 some-there q None found = found
 some-there q (Some x) found = refl
 
-pub came_there : (q : Key) (a next : ℕ) (es : Arrived) (ps : List Place) → ArePlaced next es ps
+pub came_there : (q : Key) (a next : ℕ) (es : Arrived) (ps : List KeptPlace) → ArePlaced next es ps
     → has_place (place_by q a) ps ≡ true → IsSome (came a es)
 came_there q a next es ps kept there =
     some-there q (came a es) (sym (kept.found (place_by q a)) ∙ there)
@@ -171,9 +171,9 @@ some-called : (x : KeptLetter) (o : Option KeptLetter) (e : Bool) → (e ≡ tru
 some-called x o true here some = here refl
 some-called x o false here some = some
 
-pub kept_called : (q : Key) (a next : ℕ) (x : KeptLetter) (es es' : Arrived) (ps ps' : List Place)
+pub kept_called : (q : Key) (a next : ℕ) (x : KeptLetter) (es es' : Arrived) (ps ps' : List KeptPlace)
     → ArePlaced next es ps → is_reason q ≡ true → came a es ≡ Some x → is_why q x.why ≡ true
-    → ((p : Place) → has_place p ps' ≡ cond (is_eq (place_order (place_by q a) p)) false (has_place p ps))
+    → ((p : KeptPlace) → has_place p ps' ≡ cond (is_eq (place_order (place_by q a) p)) false (has_place p ps))
     → Came-set a (Some (record x { why = Called })) es es' → IsStrictlySortedBy nat_cmp (keys_of es')
     → IsStrictlySortedBy place_order ps' → ArePlaced next es' ps'
 kept_called q a next x es es' ps ps' kept reason is waits set came' up up' =
@@ -207,12 +207,12 @@ abbrev nothing : Option Key
 nothing = None
 
 -- a letter of any other body wakes none
-pub wakes_none : (b : Body) → woken_key b ≡ None → (why : Why) → wakes_by b why ≡ false
+pub wakes_none : (b : Body) → woken_key b ≡ None → (why : KeepReason) → wakes_by b why ≡ false
 wakes_none (Shows v) is why = let no : Some Show ≡ nothing = is in cc
 wakes_none (Decides t v c) is why = let no : Some (Holder t) ≡ nothing = is in cc
 wakes_none _ is why = refl
 
-pub none_called : (test : Why → Bool) (xs : List KeptLetter) → ((why : Why) → test why ≡ false)
+pub none_called : (test : KeepReason → Bool) (xs : List KeptLetter) → ((why : KeepReason) → test why ≡ false)
     → with_called test xs ≡ xs
 none_called test [] none = refl
 none_called test (x ∷ xs) none =

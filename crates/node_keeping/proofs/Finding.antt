@@ -16,14 +16,14 @@ use Rattle.std.proofs.lemmas.Map.Lookups.{btree_set_from_contains}
 use Rattle.std.proofs.lemmas.Map.Views.{any-filter_same}
 use Rattle.letter_types.specs.declared.kept.KeptLetter.{KeptLetter}
 use Rattle.node_keeping.specs.declared.places.Key.{Key}
-use Rattle.node_keeping.specs.declared.places.Place.{Place}
+use Rattle.node_keeping.specs.declared.places.KeptPlace.{KeptPlace}
 use Rattle.node_keeping.specs.inside.Arrivals.{ArePlaced, Arrived, came, is_found}
 use Rattle.node_keeping.specs.inside.Places.{has_place, key_order, place_order, place_by}
 use Rattle.node_keeping.proofs.Orders.{is_eq-place, key_itself, number_itself, place_exact, place_total, same_key, same_number, same_place}
 use Rattle.node_keeping.proofs.Entries.{AllAfter}
 
 -- the places of the letters that a key finds
-abbrev pub places_of : Key → Arrived → List Place
+abbrev pub places_of : Key → Arrived → List KeptPlace
 places_of q [] = []
 places_of q (e ∷ es) = cond (is_found q (Some e.1)) (place_by q e.0 ∷ places_of q es) (places_of q es)
 
@@ -43,7 +43,7 @@ behind : (q : Key) (a : ℕ) (es : Arrived) → AllAfter a (keys_of es)
 behind q a [] after = tt
 behind q a (e ∷ es) after = behind-by q a e es (is_found q (Some e.1)) after.0 (behind q a es after.1)
 
-sorted-cons : (p : Place) (ps : List Place) → AllByRecursion (λ r. place_order p r ≡ Less) ps
+sorted-cons : (p : KeptPlace) (ps : List KeptPlace) → AllByRecursion (λ r. place_order p r ≡ Less) ps
     → IsStrictlySortedBy place_order ps → IsStrictlySortedBy place_order (p ∷ ps)
 unfolding IsStrictlySortedBy
 sorted-cons p ps behind up = (behind, up)
@@ -98,7 +98,7 @@ has-own q a (e ∷ es) up =
     (λ same. none-after a e.0 es same (sorted_head nat_cmp e.0 (keys_of es) up))
     (has-own q a es (sorted_tail nat_cmp e.0 (keys_of es) up))
 
-other-by : (p : Place) (q : Key) (b : ℕ) (ps : List Place) (f : Bool) → is_eq (key_order p.key q) ≡ false
+other-by : (p : KeptPlace) (q : Key) (b : ℕ) (ps : List KeptPlace) (f : Bool) → is_eq (key_order p.key q) ≡ false
     → has_place p ps ≡ false → has_place p (cond f (place_by q b ∷ ps) ps) ≡ false
 other-by p q b ps true apart rest =
     ap (λ (t : Bool). t || has_place p ps)
@@ -106,18 +106,18 @@ other-by p q b ps true apart rest =
     ∙ rest
 other-by p q b ps false apart rest = rest
 
-has-other : (p : Place) (q : Key) (es : Arrived) → is_eq (key_order p.key q) ≡ false
+has-other : (p : KeptPlace) (q : Key) (es : Arrived) → is_eq (key_order p.key q) ≡ false
     → has_place p (places_of q es) ≡ false
 has-other p q [] apart = refl
 has-other p q (e ∷ es) apart =
     other-by p q e.0 (places_of q es) (is_found q (Some e.1)) apart (has-other p q es apart)
 
 -- the place has this key and came before the next
-abbrev in_part : Key → ℕ → Place → Bool
+abbrev in_part : Key → ℕ → KeptPlace → Bool
 in_part q next p = range_contains place_order (Included (place_by q 0)) (Excluded (place_by q next)) p
 
 -- the part of a set of places with one key, of all that came before the next
-abbrev pub part_of : Key → ℕ → List Place → List Place
+abbrev pub part_of : Key → ℕ → List KeptPlace → List KeptPlace
 part_of q next ps = filter (in_part q next) ps
 
 in-range : (r : Ordering) (a next : ℕ) → a < next
@@ -126,7 +126,7 @@ in-range Less a next less = refl
 in-range Equal a next less = grind (arith, nat_tests)
 in-range Greater a next less = refl
 
-part-by : (q : Key) (next : ℕ) (p : Place) (o : Option KeptLetter) → (IsSome o → p.arrival < next)
+part-by : (q : Key) (next : ℕ) (p : KeptPlace) (o : Option KeptLetter) → (IsSome o → p.arrival < next)
     → (in_part q next p && is_found p.key o) ≡ (is_eq (key_order q p.key) && is_found p.key o)
 part-by q next p None before = both-none (in_part q next p) (is_eq (key_order q p.key))
   where
@@ -150,7 +150,7 @@ turned p q = turned-by p q (is_eq (key_order q p)) (is_eq (key_order p q)) refl 
         sym e ∙ ap (λ (k : Key). is_eq (key_order k p)) (sym same) ∙ ap is_eq (key_itself p)
     turned-by p q false false e f = refl
 
-own-by : (p : Place) (q : Key) (es : Arrived) (b : Bool) → IsStrictlySortedBy nat_cmp (keys_of es)
+own-by : (p : KeptPlace) (q : Key) (es : Arrived) (b : Bool) → IsStrictlySortedBy nat_cmp (keys_of es)
     → is_eq (key_order p.key q) ≡ b
     → has_place p (places_of q es) ≡ (b && is_found p.key (came p.arrival es))
 own-by p q es true up same =
@@ -159,7 +159,7 @@ own-by p q es true up same =
     (has-own p.key p.arrival es up)
 own-by p q es false up apart = has-other p q es apart
 
-part-has : (q : Key) (next : ℕ) (es : Arrived) (ps : List Place) → ArePlaced next es ps → (p : Place)
+part-has : (q : Key) (next : ℕ) (es : Arrived) (ps : List KeptPlace) → ArePlaced next es ps → (p : KeptPlace)
     → has_place p (part_of q next ps) ≡ has_place p (places_of q es)
 part-has q next es ps kept p =
     any-filter_same (λ r. is_eq (place_order p r)) (in_part q next) (in_part q next p)
@@ -169,7 +169,7 @@ part-has q next es ps kept p =
     ∙ ap (λ (b : Bool). b && is_found p.key (came p.arrival es)) (turned p.key q)
     ∙ sym (own-by p q es (is_eq (key_order p.key q)) kept.ascending refl)
 
-pub part_is : (q : Key) (next : ℕ) (es : Arrived) (ps : List Place) → ArePlaced next es ps
+pub part_is : (q : Key) (next : ℕ) (es : Arrived) (ps : List KeptPlace) → ArePlaced next es ps
     → part_of q next ps ≡ places_of q es
 part_is q next es ps kept =
     btree_set_from_contains place_total (record { keys = part_of q next ps }) (record { keys = places_of q es })

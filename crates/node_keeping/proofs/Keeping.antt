@@ -9,11 +9,11 @@ use Rattle.std.proofs.lemmas.Bool.Decides.{nat_tests}
 use Rattle.tv_base.specs.declared.numbers.SubNo.{SubNo}
 use Rattle.tv_base.specs.declared.numbers.TreeNo.{TreeNo}
 use Rattle.letter_types.specs.declared.kept.KeptLetter.{KeptLetter}
-use Rattle.letter_types.specs.declared.kept.Why.{Why}
-use Rattle.letter_types.specs.declared.kept.Why.TheVariants.{ForShow, ForHolder, Called}
+use Rattle.letter_types.specs.declared.kept.KeepReason.{KeepReason}
+use Rattle.letter_types.specs.declared.kept.KeepReason.TheVariants.{ForShow, ForHolder, Called}
 use Rattle.letter_types.specs.Kept.{is_called, is_called_for}
 use Rattle.node_keeping.specs.declared.places.Key.{Key}
-use Rattle.node_keeping.specs.declared.places.Place.{Place}
+use Rattle.node_keeping.specs.declared.places.KeptPlace.{KeptPlace}
 use Rattle.node_keeping.specs.inside.Arrivals.{ArePlaced, Arrived, came, is_found}
 use Rattle.node_keeping.specs.inside.Places.{ArePlacesAdded, ArePlacesSame, ArePlacesTaken, IsFree, finds, has_place, place_order}
 use Rattle.node_keeping.proofs.Entries.{IsFirstCalled}
@@ -31,10 +31,10 @@ none-unless n None before = refl
 none-unless n (Some x) before = absurd (itself_apart n (before refl))
 
 -- nothing came yet at the next arrival
-pub none_yet : (next : ℕ) (es : Arrived) (ps : List Place) → ArePlaced next es ps → came next es ≡ None
+pub none_yet : (next : ℕ) (es : Arrived) (ps : List KeptPlace) → ArePlaced next es ps → came next es ≡ None
 none_yet next es ps kept = none-unless next (came next es) (kept.before next)
 
-pub free_yet : (next : ℕ) (es : Arrived) (ps : List Place) → ArePlaced next es ps → IsFree next ps
+pub free_yet : (next : ℕ) (es : Arrived) (ps : List KeptPlace) → ArePlaced next es ps → IsFree next ps
 free_yet next es ps kept q =
     kept.found (record { key = q; arrival = next })
     ∙ ap (λ (o : Option KeptLetter). is_found q o) (none_yet next es ps kept)
@@ -55,7 +55,7 @@ pub is_some-as : (o p : Option KeptLetter) → o ≡ p → IsSome o → IsSome p
 is_some-as o p is some = subst (λ (o : Option KeptLetter). IsSome o) is some
 
 -- a letter is kept at the next arrival
-pub kept_more : (next : ℕ) (x : KeptLetter) (es es' : Arrived) (ps ps' : List Place) → ArePlaced next es ps
+pub kept_more : (next : ℕ) (x : KeptLetter) (es es' : Arrived) (ps ps' : List KeptPlace) → ArePlaced next es ps
     → ArePlacesAdded next x.tree x.sub x.why ps ps' → Came-set next (Some x) es es'
     → IsStrictlySortedBy nat_cmp (keys_of es') → IsStrictlySortedBy place_order ps' → ArePlaced (next + 1) es' ps'
 kept_more next x es es' ps ps' kept added came' up up' = record {
@@ -73,7 +73,7 @@ kept_more next x es es' ps ps' kept added came' up up' = record {
       ∙ ap (λ (o : Option KeptLetter). is_found p.key o) (sym (came' p.arrival));
 }
 
-pub kept_same : (next : ℕ) (es es' : Arrived) (ps ps' : List Place) → ArePlaced next es ps → es' ≡ es
+pub kept_same : (next : ℕ) (es es' : Arrived) (ps ps' : List KeptPlace) → ArePlaced next es ps → es' ≡ es
     → ArePlacesSame ps ps'
     → IsStrictlySortedBy place_order ps' → ArePlaced next es' ps'
 kept_same next es es' ps ps' kept stays same up' =
@@ -92,7 +92,7 @@ undone true false h free = refl
 undone false e h free = refl
 
 -- what was added is taken back
-pub same_again : (a : ℕ) (t : TreeNo) (k : SubNo) (why : Why) (old mid new : List Place) → IsFree a old
+pub same_again : (a : ℕ) (t : TreeNo) (k : SubNo) (why : KeepReason) (old mid new : List KeptPlace) → IsFree a old
     → ArePlacesAdded a t k why old mid → ArePlacesTaken a t k why mid new → ArePlacesSame old new
 same_again a t k why old mid new free added taken = record {
   at = λ p.
@@ -105,7 +105,7 @@ same_again a t k why old mid new free added taken = record {
 }
 
 -- a called letter is found by its subtransaction alone
-called-why : (why : Why) → is_called why ≡ true → why ≡ Called
+called-why : (why : KeepReason) → is_called why ≡ true → why ≡ Called
 called-why Called is = refl
 called-why ForShow is = let no : false ≡ true = is in cc
 called-why (ForHolder h) is = let no : false ≡ true = is in cc
@@ -135,7 +135,7 @@ before-less n b o true before some = let no : false ≡ true = some in cc
 before-less n b o false before some = before some
 
 -- the first called letter of a subtransaction is taken
-pub kept_less : (next : ℕ) (t : TreeNo) (k : SubNo) (a : ℕ) (es es' : Arrived) (ps ps' : List Place)
+pub kept_less : (next : ℕ) (t : TreeNo) (k : SubNo) (a : ℕ) (es es' : Arrived) (ps ps' : List KeptPlace)
     → ArePlaced next es ps → IsFirstCalled t k a es → ArePlacesTaken a t k Called ps ps' → Came-set a None es es'
     → IsStrictlySortedBy nat_cmp (keys_of es') → IsStrictlySortedBy place_order ps' → ArePlaced next es' ps'
 kept_less next t k a es es' ps ps' kept first taken came' up up' = record {

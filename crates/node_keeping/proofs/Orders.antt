@@ -10,9 +10,9 @@ use Rattle.std.proofs.lemmas.Map.Lookups.{CmpEqualImpliesEq, exact_unsigned}
 use Rattle.tv_base.proofs.Orderings.{is_eq-then, is_eq-true, then_first, then_second}
 use Rattle.node_keeping.specs.declared.places.Key.{Key}
 use Rattle.node_keeping.specs.declared.places.Key.TheVariants.{Sub, Show, Holder}
-use Rattle.node_keeping.specs.declared.places.Place.{Place}
+use Rattle.node_keeping.specs.declared.places.KeptPlace.{KeptPlace}
 use Rattle.node_keeping.specs.contracts.places.KeyOrd.TheImpl.Laws as key
-use Rattle.node_keeping.specs.contracts.places.PlaceOrd.TheImpl.Laws as place
+use Rattle.node_keeping.specs.contracts.places.KeptPlaceOrd.TheImpl.Laws as place
 use Rattle.node_keeping.specs.inside.Places.{key_order, place_order}
 
 pub key_total : IsTotalOrder key_order
@@ -48,7 +48,7 @@ same_number a b e = exact_unsigned a b (is_eq-true (nat_cmp a b) e)
 pub same_key : (a b : Key) → is_eq (key_order a b) ≡ true → a ≡ b
 same_key a b e = key_exact a b (is_eq-true (key_order a b) e)
 
-pub same_place : (a b : Place) → is_eq (place_order a b) ≡ true → a ≡ b
+pub same_place : (a b : KeptPlace) → is_eq (place_order a b) ≡ true → a ≡ b
 same_place a b e = place_exact a b (is_eq-true (place_order a b) e)
 
 pub number_itself : (a : ℕ) → nat_cmp a a ≡ Equal
@@ -57,6 +57,6 @@ number_itself a = tied_itself nat_cmp_total a
 pub key_itself : (a : Key) → key_order a a ≡ Equal
 key_itself a = tied_itself key_total a
 
-pub is_eq-place : (a b : Place)
+pub is_eq-place : (a b : KeptPlace)
     → is_eq (place_order a b) ≡ (is_eq (key_order a.key b.key) && is_eq (nat_cmp a.arrival b.arrival))
 is_eq-place a b = is_eq-then (key_order a.key b.key) (nat_cmp a.arrival b.arrival)

@@ -3,18 +3,18 @@ use Rattle.std.proofs.Common.{◌≡◌, ℕ, Bool, true, false, not, ◌&&◌, 
 use Rattle.std.specs.Ordering.{is_eq, nat_cmp}
 use Rattle.tv_base.specs.declared.numbers.SubNo.{SubNo}
 use Rattle.tv_base.specs.declared.numbers.TreeNo.{TreeNo}
-use Rattle.letter_types.specs.declared.kept.Why.{Why}
+use Rattle.letter_types.specs.declared.kept.KeepReason.{KeepReason}
 use Rattle.node_keeping.specs.declared.places.Key.{Key}
 use Rattle.node_keeping.specs.declared.places.Key.TheVariants.{Sub}
-use Rattle.node_keeping.specs.declared.places.Place.{Place}
+use Rattle.node_keeping.specs.declared.places.KeptPlace.{KeptPlace}
 use Rattle.node_keeping.specs.inside.Places.{ArePlacesAdded, ArePlacesSame, ArePlacesTaken, IsFree, has_place, is_this, key_of_why, key_order, place_order, place_by}
 use Rattle.node_keeping.proofs.Orders.{is_eq-place, same_number}
 
 -- the place is or not, and every other as before
-abbrev pub Place-set : Place → Bool → List Place → List Place → Type 0
-Place-set a b old new = (q : Place) → has_place q new ≡ cond (is_eq (place_order a q)) b (has_place q old)
+abbrev pub Place-set : KeptPlace → Bool → List KeptPlace → List KeptPlace → Type 0
+Place-set a b old new = (q : KeptPlace) → has_place q new ≡ cond (is_eq (place_order a q)) b (has_place q old)
 
-set-parts : (a : Place) (b : Bool) (old new : List Place) → Place-set a b old new → (q : Place)
+set-parts : (a : KeptPlace) (b : Bool) (old new : List KeptPlace) → Place-set a b old new → (q : KeptPlace)
     → has_place q new
     ≡ cond (is_eq (key_order a.key q.key) && is_eq (nat_cmp a.arrival q.arrival)) b (has_place q old)
 set-parts a b old new at q = at q ∙ ap (λ (s : Bool). cond s b (has_place q old)) (is_eq-place a q)
@@ -46,7 +46,7 @@ undo_one false true h free = refl
 undo_one false false h free = refl
 
 -- a letter that waits for more than its Wake has two places
-pub added_two : (a : ℕ) (t : TreeNo) (k : SubNo) (why : Why) (q : Key) (old mid new : List Place)
+pub added_two : (a : ℕ) (t : TreeNo) (k : SubNo) (why : KeepReason) (q : Key) (old mid new : List KeptPlace)
     → key_of_why why ≡ Some q → Place-set (place_by (Sub t k) a) true old mid → Place-set (place_by q a) true mid new
     → ArePlacesAdded a t k why old new
 added_two a t k why q old mid new some set set' = record {
@@ -60,7 +60,7 @@ added_two a t k why q old mid new some set set' = record {
       ∙ ap (λ (o : Option Key). ((first || is_this o p.key) && then) || has_place p old) (sym some);
 }
 
-pub taken_two : (a : ℕ) (t : TreeNo) (k : SubNo) (why : Why) (q : Key) (old mid new : List Place)
+pub taken_two : (a : ℕ) (t : TreeNo) (k : SubNo) (why : KeepReason) (q : Key) (old mid new : List KeptPlace)
     → key_of_why why ≡ Some q → Place-set (place_by (Sub t k) a) false old mid → Place-set (place_by q a) false mid new
     → ArePlacesTaken a t k why old new
 taken_two a t k why q old mid new some set set' = record {
@@ -75,11 +75,11 @@ taken_two a t k why q old mid new some set set' = record {
 }
 
 -- what was added alone is taken back
-pub added_back : (a : ℕ) (t : TreeNo) (k : SubNo) (old mid last new : List Place) → IsFree a old
+pub added_back : (a : ℕ) (t : TreeNo) (k : SubNo) (old mid last new : List KeptPlace) → IsFree a old
     → Place-set (place_by (Sub t k) a) true old mid → last ≡ mid → Place-set (place_by (Sub t k) a) false last new
     → ArePlacesSame old new
 added_back a t k old mid last new free set stays set' =
-    let P : List Place → Type 0 = λ ps. Place-set (place_by (Sub t k) a) false ps new in
+    let P : List KeptPlace → Type 0 = λ ps. Place-set (place_by (Sub t k) a) false ps new in
     let undone = subst P stays set' in
     record {
       at = λ p.

@@ -6,17 +6,17 @@ use Rattle.tv_base.specs.declared.numbers.SubNo.{SubNo}
 use Rattle.tv_base.specs.declared.numbers.TreeNo.{TreeNo}
 use Rattle.tv_base.proofs.Orderings.{is_eq-back, is_eq-then}
 use Rattle.letter_types.specs.declared.kept.KeptLetter.{KeptLetter}
-use Rattle.letter_types.specs.declared.kept.Why.{Why}
-use Rattle.letter_types.specs.declared.kept.Why.TheVariants.{ForShow, ForHolder, Called}
+use Rattle.letter_types.specs.declared.kept.KeepReason.{KeepReason}
+use Rattle.letter_types.specs.declared.kept.KeepReason.TheVariants.{ForShow, ForHolder, Called}
 use Rattle.letter_types.specs.Kept.{is_called}
 use Rattle.node_keeping.specs.declared.places.Key.TheVariants.{Sub}
-use Rattle.node_keeping.specs.declared.places.Place.{Place}
+use Rattle.node_keeping.specs.declared.places.KeptPlace.{KeptPlace}
 use Rattle.node_keeping.specs.inside.Arrivals.{ArePlaced, Arrived, called_at, called_in, came, is_called_now, is_found}
 use Rattle.node_keeping.specs.inside.Places.{finds, is_why, key_order, place_by}
 use Rattle.node_keeping.proofs.Finding.{each_came, part_is, part_of, places_of}
 
 -- by its subtransaction a letter is found whatever it is kept for
-no-reason : (t : TreeNo) (k : SubNo) (why : Why) → is_why (Sub t k) why ≡ false
+no-reason : (t : TreeNo) (k : SubNo) (why : KeepReason) → is_why (Sub t k) why ≡ false
 no-reason t k ForShow = refl
 no-reason t k (ForHolder h) = refl
 no-reason t k Called = refl
@@ -25,7 +25,7 @@ or-none : (a b : Bool) → b ≡ false → (a || b) ≡ a
 or-none true b none = refl
 or-none false b none = none
 
-sub_finds : (u : TreeNo) (l : SubNo) (why : Why) (t : TreeNo) (k : SubNo)
+sub_finds : (u : TreeNo) (l : SubNo) (why : KeepReason) (t : TreeNo) (k : SubNo)
     → finds u l why (Sub t k) ≡ (eqb u.0 t.0 && eqb l.0 k.0)
 sub_finds u l why t k =
     or-none (is_eq (key_order (Sub u l) (Sub t k))) (is_why (Sub t k) why) (no-reason t k why)
@@ -55,25 +55,25 @@ called-walk t k (e ∷ es) all there =
     (sub_finds e.1.tree e.1.sub e.1.why t k)
 
 -- the first called letter is found by a walk over the places of its subtransaction
-pub called_found : (t : TreeNo) (k : SubNo) (next : ℕ) (es : Arrived) (ps part : List Place) → ArePlaced next es ps
+pub called_found : (t : TreeNo) (k : SubNo) (next : ℕ) (es : Arrived) (ps part : List KeptPlace) → ArePlaced next es ps
     → part ≡ part_of (Sub t k) next ps → called_in es part ≡ called_at t k es
 called_found t k next es ps part kept is =
-    ap (λ (ps : List Place). called_in es ps) (is ∙ part_is (Sub t k) next es ps kept)
+    ap (λ (ps : List KeptPlace). called_in es ps) (is ∙ part_is (Sub t k) next es ps kept)
     ∙ called-walk t k es es (each_came es es kept.ascending (λ a there. refl))
 
 -- a turn of this walk: it stops at a place, or passes it
-abbrev chosen : Arrived → Place → List Place → Bool → Option ℕ
+abbrev chosen : Arrived → KeptPlace → List KeptPlace → Bool → Option ℕ
 chosen es p ps b = cond b (Some p.arrival) (called_in es ps)
 
-pub stopped : (es : Arrived) (p : Place) (ps all : List Place) (r : Option ℕ) → called_in es all ≡ r → all ≡ p ∷ ps
+pub stopped : (es : Arrived) (p : KeptPlace) (ps all : List KeptPlace) (r : Option ℕ) → called_in es all ≡ r → all ≡ p ∷ ps
     → is_called_now (came p.arrival es) ≡ true → Some p.arrival ≡ r
 stopped es p ps all r is starts here =
-    sym (ap (chosen es p ps) here) ∙ sym (ap (λ (ps : List Place). called_in es ps) starts) ∙ is
+    sym (ap (chosen es p ps) here) ∙ sym (ap (λ (ps : List KeptPlace). called_in es ps) starts) ∙ is
 
-pub passed : (es : Arrived) (p : Place) (ps all : List Place) (r : Option ℕ) → called_in es all ≡ r → all ≡ p ∷ ps
+pub passed : (es : Arrived) (p : KeptPlace) (ps all : List KeptPlace) (r : Option ℕ) → called_in es all ≡ r → all ≡ p ∷ ps
     → is_called_now (came p.arrival es) ≡ false → called_in es ps ≡ r
 passed es p ps all r is starts off =
-    sym (ap (chosen es p ps) off) ∙ sym (ap (λ (ps : List Place). called_in es ps) starts) ∙ is
+    sym (ap (chosen es p ps) off) ∙ sym (ap (λ (ps : List KeptPlace). called_in es ps) starts) ∙ is
 
-pub ended : (es : Arrived) (all : List Place) (r : Option ℕ) → called_in es all ≡ r → all ≡ [] → r ≡ None
-ended es all r is empty = sym is ∙ ap (λ (ps : List Place). called_in es ps) empty
+pub ended : (es : Arrived) (all : List KeptPlace) (r : Option ℕ) → called_in es all ≡ r → all ≡ [] → r ≡ None
+ended es all r is empty = sym is ∙ ap (λ (ps : List KeptPlace). called_in es ps) empty

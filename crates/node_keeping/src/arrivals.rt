@@ -7,15 +7,15 @@ ghost use Rattle.std.specs.Ordering.{nat_cmp};
 ghost use Rattle.letter_types.specs.Kept.{first_called, without_called};
 ghost use Rattle.node_keeping.specs.inside.Arrivals.{ArePlaced, FindsSame, IsKeptAgain, called_at, came, is_called_now, with_letter_at, without_first};
 
-use crate::places::{Key, Place, add_places, take_places};
-use letter_types::{Body, KeptLetter, Letter, LetterId, Why};
+use crate::places::{KeptPlace, Key, add_places, take_places};
+use letter_types::{Body, KeepReason, KeptLetter, Letter, LetterId};
 use std::collections::{BTreeMap, BTreeSet};
 use tv_base::{ActorNo, NoMemory, Stamp, SubNo, TreeNo};
 
 /// When the first called letter of this subtransaction came.
 pub(crate) fn called(
     letters: &BTreeMap<u64, KeptLetter>,
-    places: &BTreeSet<Place>,
+    places: &BTreeSet<KeptPlace>,
     next: u64,
     tree: TreeNo,
     sub: SubNo,
@@ -24,8 +24,8 @@ pub(crate) fn called(
     ensures { result ≡ called_at tree sub letters.now.entries }
 {
     let key = Key::Sub(tree, sub);
-    let first = Place { key, arrival: 0 };
-    for place in places.range(first..Place { key, arrival: next }) {
+    let first = KeptPlace { key, arrival: 0 };
+    for place in places.range(first..KeptPlace { key, arrival: next }) {
         if is_called(letters, place.arrival) {
             return Some(place.arrival);
         }
@@ -39,7 +39,7 @@ fn is_called(letters: &BTreeMap<u64, KeptLetter>, arrival: u64) -> bool
 {
     match letters.get(&arrival) {
         Some(kept) => match kept.why {
-            Why::Called => true,
+            KeepReason::Called => true,
             _ => false,
         },
         None => false,
@@ -49,7 +49,7 @@ fn is_called(letters: &BTreeMap<u64, KeptLetter>, arrival: u64) -> bool
 /// The first called letter of this subtransaction.
 pub(crate) fn called_letter<'a>(
     letters: &'a BTreeMap<u64, KeptLetter>,
-    places: &BTreeSet<Place>,
+    places: &BTreeSet<KeptPlace>,
     next: u64,
     tree: TreeNo,
     sub: SubNo,
@@ -65,7 +65,7 @@ pub(crate) fn called_letter<'a>(
 /// Keeps a letter that came last. It comes back where no memory is found, and then what is kept is as it was.
 pub(crate) fn insert(
     letters: &mut BTreeMap<u64, KeptLetter>,
-    places: &mut BTreeSet<Place>,
+    places: &mut BTreeSet<KeptPlace>,
     next: u64,
     kept: KeptLetter,
 ) -> Result<(), (NoMemory, KeptLetter)>
@@ -94,7 +94,7 @@ pub(crate) fn insert(
 /// Takes the first called letter of this subtransaction away, if there is one.
 pub(crate) fn take_called(
     letters: &mut BTreeMap<u64, KeptLetter>,
-    places: &mut BTreeSet<Place>,
+    places: &mut BTreeSet<KeptPlace>,
     next: u64,
     tree: TreeNo,
     sub: SubNo,
@@ -106,14 +106,14 @@ pub(crate) fn take_called(
 {
     let arrival = called(letters, places, next, tree, sub)?;
     let kept = letters.remove(&arrival)?;
-    take_places(places, arrival, tree, sub, Why::Called);
+    take_places(places, arrival, tree, sub, KeepReason::Called);
     Some(kept.letter)
 }
 
 /// Lets the first called letter of this subtransaction go, if there is one.
 pub(crate) fn let_called_go(
     letters: &mut BTreeMap<u64, KeptLetter>,
-    places: &mut BTreeSet<Place>,
+    places: &mut BTreeSet<KeptPlace>,
     next: u64,
     tree: TreeNo,
     sub: SubNo,
@@ -129,11 +129,11 @@ pub(crate) fn let_called_go(
 /// is as it was.
 pub(crate) fn insert_again(
     letters: &mut BTreeMap<u64, KeptLetter>,
-    places: &mut BTreeSet<Place>,
+    places: &mut BTreeSet<KeptPlace>,
     next: u64,
     tree: TreeNo,
     sub: SubNo,
-    why: Why,
+    why: KeepReason,
 ) -> Result<(), NoMemory>
     requires kept { ArePlaced next letters.old.entries places.old.keys }
     requires called { IsSome (first_called tree sub (values_of letters.old.entries)) }

@@ -1,5 +1,5 @@
 // A step that is prepared.
-use letter_types::{Body, Boxed, KeptLetter, StepOut, Why};
+use letter_types::{Body, Boxed, KeepReason, KeptLetter, StepOut};
 use tree_step::CorePrepared;
 use tv_base::{SubNo, TreeNo, Version};
 
@@ -9,7 +9,11 @@ pub enum Keep {
     /// It came now.
     New(KeptLetter),
     /// It is the called letter of this subtransaction, and is kept again for this reason.
-    Again { tree: TreeNo, sub: SubNo, why: Why },
+    Again {
+        tree: TreeNo,
+        sub: SubNo,
+        why: KeepReason,
+    },
 }
 
 /// What becomes of the kept letters where a letter is done.

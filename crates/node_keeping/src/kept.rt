@@ -5,9 +5,9 @@ ghost use Rattle.letter_types.specs.Kept.{brought, first_called, kept_without, w
 ghost use Rattle.node_keeping.specs.Again.{kept_again};
 
 use crate::arrivals::{called_letter, insert, insert_again, let_called_go};
-use crate::places::{Key, Place};
+use crate::places::{KeptPlace, Key};
 use crate::wakes::{call_all, wakes_of};
-use letter_types::{Body, KeptLetter, Letter, Letters, Why};
+use letter_types::{Body, KeepReason, KeptLetter, Letter, Letters};
 use std::alloc::Global;
 use std::collections::{BTreeMap, BTreeSet};
 use std::marker::Model;
@@ -24,7 +24,7 @@ use tv_base::{NoMemory, SubNo, TreeNo};
 pub struct KeptLetters {
     next: u64,
     letters: BTreeMap<u64, KeptLetter>,
-    places: BTreeSet<Place>,
+    places: BTreeSet<KeptPlace>,
 }
 
 impl Model for KeptLetters {
@@ -105,7 +105,7 @@ impl KeptLetters {
 
     /// The called letter of this subtransaction is kept again, last, for this reason. If memory runs out what is kept
     /// is as it was.
-    pub fn keep_again(&mut self, tree: TreeNo, sub: SubNo, why: Why) -> Result<(), NoMemory>
+    pub fn keep_again(&mut self, tree: TreeNo, sub: SubNo, why: KeepReason) -> Result<(), NoMemory>
         requires { IsSome (first_called tree sub self.old) }
         ensures ok { OnOk result (self.new ≡ kept_again tree sub why self.old) }
         ensures err { OnErr result (self.new ≡ self.old) }

@@ -7,7 +7,7 @@ ghost use Rattle.tree_step.specs.Node.{data_of};
 ghost use Rattle.tree_step.specs.Core.{core_of};
 ghost use Rattle.node_keeping.specs.Meeting.{asked_sub, op_marks, parked_kept, raises_to, root_kept, turned_by, waits_for_show};
 
-use letter_types::{Act, Acts, Body, Letter, Why};
+use letter_types::{Act, Acts, Body, KeepReason, Letter};
 use nc_locks::{Locks, Met, Mode};
 use node_versions::Turns;
 use std::alloc::Global;
@@ -21,7 +21,7 @@ use tx_trees::{Script, SubOp};
 pub struct CoreKept {
     pub tree: TreeNo,
     pub sub: SubNo,
-    pub why: Why,
+    pub why: KeepReason,
     pub raises: Option<Version>,
     pub acts: Acts,
 }
@@ -112,7 +112,7 @@ pub fn parked(
     Ok(CoreKept {
         tree,
         sub,
-        why: Why::ForHolder(met.holder),
+        why: KeepReason::ForHolder(met.holder),
         raises,
         acts,
     })
@@ -149,7 +149,7 @@ pub fn root_waiting(alloc: Global, turns: &Turns, tree: TreeNo) -> Result<CoreKe
     Ok(CoreKept {
         tree,
         sub: SubNo(0),
-        why: Why::ForShow,
+        why: KeepReason::ForShow,
         raises: None,
         acts,
     })

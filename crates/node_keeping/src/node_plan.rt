@@ -4,7 +4,7 @@ ghost use Rattle.tree_step.specs.Meant.{IsEmpty, out_in};
 ghost use Rattle.node_keeping.specs.Meant.{keep_meant, kept_meant, node_meant};
 
 use crate::change::{Keep, KeepingPrepared, KeptChange};
-use letter_types::{KeptLetter, StepOut, Why};
+use letter_types::{KeepReason, KeptLetter, StepOut};
 use std::mem::size_of;
 use tree_step::{Plan, Scratch, flatten};
 use tv_base::{SubNo, TreeNo, Version};
@@ -15,7 +15,7 @@ use tv_base::{SubNo, TreeNo, Version};
 pub struct KeepPlan {
     pub tree: TreeNo,
     pub sub: SubNo,
-    pub why: Why,
+    pub why: KeepReason,
     /// The update version that the node raises then, if it must.
     pub raises: Option<Version>,
 }

@@ -3,7 +3,7 @@ ghost use Rattle.std.specs.Prelude.{◌≡◌, OnErr, OnOk};
 ghost use Rattle.std.specs.List.Sorted.{IsStrictlySortedBy};
 ghost use Rattle.node_keeping.specs.inside.Places.{ArePlacesAdded, ArePlacesSame, ArePlacesTaken, IsFree, key_of_why, place_order, woken_key};
 
-use letter_types::{Body, Why};
+use letter_types::{Body, KeepReason};
 use std::collections::BTreeSet;
 use tv_base::{NoMemory, SubNo, TreeNo};
 
@@ -20,13 +20,13 @@ pub(crate) enum Key {
 
 impl Key {
     /// The key of what a kept letter waits for, but for its Wake.
-    fn of_why(why: Why) -> Option<Key>
+    fn of_why(why: KeepReason) -> Option<Key>
         ensures { result ≡ key_of_why why }
     {
         match why {
-            Why::ForShow => Some(Key::Show),
-            Why::ForHolder(tree) => Some(Key::Holder(tree)),
-            Why::Called => None,
+            KeepReason::ForShow => Some(Key::Show),
+            KeepReason::ForHolder(tree) => Some(Key::Holder(tree)),
+            KeepReason::Called => None,
         }
     }
 
@@ -44,25 +44,25 @@ impl Key {
 
 /// A kept letter by a key, and by when it came.
 #[derive(Clone, Copy, PartialEq, Eq, PartialOrd, Ord)]
-pub(crate) struct Place {
+pub(crate) struct KeptPlace {
     pub(crate) key: Key,
     pub(crate) arrival: u64,
 }
 
 /// Adds the places of a letter that came then. Where no memory is found the same places are as before.
 pub(crate) fn add_places(
-    places: &mut BTreeSet<Place>,
+    places: &mut BTreeSet<KeptPlace>,
     arrival: u64,
     tree: TreeNo,
     sub: SubNo,
-    why: Why,
+    why: KeepReason,
 ) -> Result<(), NoMemory>
     requires { IsFree arrival places.old.keys }
     ensures ok { OnOk result (ArePlacesAdded arrival tree sub why places.old.keys places.new.keys) }
     ensures err { OnErr result (ArePlacesSame places.old.keys places.new.keys) }
     ensures in_order { IsStrictlySortedBy place_order places.new.keys }
 {
-    let first = Place {
+    let first = KeptPlace {
         key: Key::Sub(tree, sub),
         arrival,
     };
@@ -70,7 +70,7 @@ pub(crate) fn add_places(
     let Some(key) = Key::of_why(why) else {
         return Ok(());
     };
-    match places.insert(Place { key, arrival }) {
+    match places.insert(KeptPlace { key, arrival }) {
         Ok(_) => Ok(()),
         Err(_) => {
             places.remove(&first);
@@ -81,20 +81,20 @@ pub(crate) fn add_places(
 
 /// Takes the places of a letter that came then away.
 pub(crate) fn take_places(
-    places: &mut BTreeSet<Place>,
+    places: &mut BTreeSet<KeptPlace>,
     arrival: u64,
     tree: TreeNo,
     sub: SubNo,
-    why: Why,
+    why: KeepReason,
 )
     ensures taken { ArePlacesTaken arrival tree sub why places.old.keys places.new.keys }
     ensures in_order { IsStrictlySortedBy place_order places.new.keys }
 {
-    places.remove(&Place {
+    places.remove(&KeptPlace {
         key: Key::Sub(tree, sub),
         arrival,
     });
     if let Some(key) = Key::of_why(why) {
-        places.remove(&Place { key, arrival });
+        places.remove(&KeptPlace { key, arrival });
     }
 }

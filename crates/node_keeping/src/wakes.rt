@@ -5,8 +5,8 @@ ghost use Rattle.letter_types.specs.Kept.{wakes, with_called};
 ghost use Rattle.node_keeping.specs.inside.Arrivals.{ArePlaced, CallSame, came, wake_of};
 ghost use Rattle.node_keeping.specs.inside.Places.{HasNone, has_place, is_reason, is_why, place_by};
 
-use crate::places::{Key, Place};
-use letter_types::{Body, KeptLetter, Letters, Outgoing, Why};
+use crate::places::{KeptPlace, Key};
+use letter_types::{Body, KeepReason, KeptLetter, Letters, Outgoing};
 use std::alloc::Global;
 use std::collections::{BTreeMap, BTreeSet};
 use tv_base::NoMemory;
@@ -15,7 +15,7 @@ use tv_base::NoMemory;
 pub(crate) fn wakes_of(
     alloc: Global,
     letters: &BTreeMap<u64, KeptLetter>,
-    places: &BTreeSet<Place>,
+    places: &BTreeSet<KeptPlace>,
     next: u64,
     key: Key,
 ) -> Result<Letters, NoMemory>
@@ -24,8 +24,8 @@ pub(crate) fn wakes_of(
     ensures { IfOk result (λ sent. sent ≡ wakes (is_why key) (values_of letters.now.entries)) }
 {
     let mut sent = Letters::new(alloc);
-    let first = Place { key, arrival: 0 };
-    for place in places.range(first..Place { key, arrival: next }) {
+    let first = KeptPlace { key, arrival: 0 };
+    for place in places.range(first..KeptPlace { key, arrival: next }) {
         push_wake(letters, place.arrival, &mut sent)?;
     }
     Ok(sent)
@@ -54,7 +54,7 @@ fn push_wake(
 /// Each letter that waits for this is called from now on.
 pub(crate) fn call_all(
     letters: &mut BTreeMap<u64, KeptLetter>,
-    places: &mut BTreeSet<Place>,
+    places: &mut BTreeSet<KeptPlace>,
     next: u64,
     key: Key,
 )
@@ -69,19 +69,21 @@ pub(crate) fn call_all(
 }
 
 /// When the first letter with this key came, of those that came before the next.
-fn first_arrival(places: &BTreeSet<Place>, key: Key, next: u64) -> Option<u64>
+fn first_arrival(places: &BTreeSet<KeptPlace>, key: Key, next: u64) -> Option<u64>
     ensures none { IfNone result (HasNone key next places.now.keys) }
     ensures some { IfSome result (λ arrival. has_place (place_by key arrival) places.now.keys ≡ true) }
 {
-    let first = Place { key, arrival: 0 };
-    let place = places.range(first..Place { key, arrival: next }).next()?;
+    let first = KeptPlace { key, arrival: 0 };
+    let place = places
+        .range(first..KeptPlace { key, arrival: next })
+        .next()?;
     Some(place.arrival)
 }
 
 /// The letter that came then, and waits for this, is called from now on.
 fn call_one(
     letters: &mut BTreeMap<u64, KeptLetter>,
-    places: &mut BTreeSet<Place>,
+    places: &mut BTreeSet<KeptPlace>,
     next: u64,
     key: Key,
     arrival: u64,
@@ -93,7 +95,7 @@ fn call_one(
     ensures fewer { length places.new.keys < length places.old.keys }
     ensures kept { ArePlaced next letters.new.entries places.new.keys }
 {
-    places.remove(&Place { key, arrival });
+    places.remove(&KeptPlace { key, arrival });
     let kept = letters.get_mut(&arrival).unwrap();
-    kept.why = Why::Called;
+    kept.why = KeepReason::Called;
 }

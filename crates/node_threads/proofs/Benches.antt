@@ -4,8 +4,8 @@ use Rattle.std.specs.List.{last_or, list_any}
 use Rattle.letter_types.specs.declared.entries.Entry.{Entry}
 use Rattle.board_rules.specs.Right.{finishes}
 use Rattle.stamp_post.specs.Shown.{EnvelopeData, PostId}
-use Rattle.actor_schedule.specs.declared.stop.Held.{Held}
-use Rattle.actor_schedule.specs.declared.stop.Held.TheVariants.{Nothing}
+use Rattle.actor_schedule.specs.declared.stop.InHand.{InHand}
+use Rattle.actor_schedule.specs.declared.stop.InHand.TheVariants.{Nothing}
 use Rattle.actor_schedule.specs.Stops.{KeepsLetter}
 use Rattle.node_threads.specs.Benches.{KeepsOne, ends_last, ends_with}
 
@@ -28,10 +28,10 @@ ends_nowhere (e ∷ es) none = absurd (omega (arith, none))
 pub ruleset ending = (ends_at, ends_nowhere)
 
 -- what keeps a letter of the post keeps one
-pub keeps_letter : (post : PostId) (e : EnvelopeData) (held : Held) → e.post ≡ post → KeepsLetter post e held → KeepsOne post held
+pub keeps_letter : (post : PostId) (e : EnvelopeData) (held : InHand) → e.post ≡ post → KeepsLetter post e held → KeepsOne post held
 keeps_letter post e held is keeps = inr (e, is, keeps)
 
-pub keeps_none : (post : PostId) (held : Held) → held ≡ Nothing → KeepsOne post held
+pub keeps_none : (post : PostId) (held : InHand) → held ≡ Nothing → KeepsOne post held
 keeps_none post held none = inl none
 
 pub ruleset keeping = (keeps_letter, keeps_none)

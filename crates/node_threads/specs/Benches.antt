@@ -6,8 +6,8 @@ use Rattle.letter_types.specs.declared.entries.Letter.{Letter}
 use Rattle.tx_trees.specs.ScriptData.{ScriptData}
 use Rattle.stamp_post.specs.Shown.{EnvelopeData, OutboxData, PostId}
 use Rattle.board_rules.specs.Right.{finishes}
-use Rattle.actor_schedule.specs.declared.stop.Held.{Held}
-use Rattle.actor_schedule.specs.declared.stop.Held.TheVariants.{Nothing}
+use Rattle.actor_schedule.specs.declared.stop.InHand.{InHand}
+use Rattle.actor_schedule.specs.declared.stop.InHand.TheVariants.{Nothing}
 use Rattle.actor_schedule.specs.Desks.{DeskData, all_sorted_in, desk_data, empty_trays, left_in}
 use Rattle.actor_schedule.specs.Stops.{KeepsLetter}
 use Rattle.history_merge.specs.OwnLogs.{Delivered}
@@ -38,5 +38,5 @@ abbrev pub AreAllOrNone : List Entry → List Entry → Type 0
 AreAllOrNone old new = (new ≡ old) ⊎ (new ≡ [])
 
 -- nothing is held, or a letter of the post that wasn't delivered, or what no tray took of what came of one
-abbrev pub KeepsOne : PostId → Held → Type 0
+abbrev pub KeepsOne : PostId → InHand → Type 0
 KeepsOne post held = (held ≡ Nothing) ⊎ ((e : EnvelopeData) × (e.post ≡ post) × KeepsLetter post e held)

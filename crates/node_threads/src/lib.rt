@@ -8,7 +8,7 @@ mod finishing;
 mod running;
 mod workers;
 
-pub use actor_schedule::{Desk, Held};
+pub use actor_schedule::{Desk, InHand};
 pub use cell::ActorCell;
 pub use cluster::Cluster;
 pub use history_merge::{ClusterName, Made};

@@ -2,11 +2,11 @@
 ghost use Rattle.std.specs.Prelude.{◌≡◌, ◌<◌, ◌⊎◌, [], IfErr, IfOk, IfSome, IsOk, OnErr, OnOk};
 ghost use Rattle.actor_schedule.specs.Desks.{desk_data, empty_trays};
 ghost use Rattle.actor_schedule.specs.Stops.{KeepsLetter};
-ghost use Rattle.actor_schedule.specs.declared.stop.Held.TheVariants as helds;
+ghost use Rattle.actor_schedule.specs.declared.stop.InHand.TheVariants as helds;
 ghost use Rattle.node_threads.specs.Benches.{AreAllOrNone, AreFlushed, IsDelivered, KeepsOne, ends_last};
 
 use crate::cluster::Cluster;
-use actor_schedule::{Desk, Ending, Held};
+use actor_schedule::{Desk, Ending, InHand};
 use history_merge::{ClusterName, Made, ends};
 use stamp_post::Envelope;
 use std::collections::VecDeque;
@@ -37,13 +37,13 @@ impl<K: ClusterName> Drop for Bench<K> {
 }
 
 // Where no memory was found, nothing is held.
-fn or_stop(found: Result<(), NoMemory>) -> Result<(), (NoMemory, Held)>
+fn or_stop(found: Result<(), NoMemory>) -> Result<(), (NoMemory, InHand)>
     ensures ok { OnOk result (IsOk found) }
     ensures err { IfErr result (λ e. e.1 ≡ helds.Nothing) }
 {
     match found {
         Ok(()) => Ok(()),
-        Err(NoMemory) => Err((NoMemory, Held::Nothing)),
+        Err(NoMemory) => Err((NoMemory, InHand::Nothing)),
     }
 }
 
@@ -76,7 +76,7 @@ impl<'a, K: ClusterName, G: Gate> Cluster<'a, K, G> {
         rt: &R,
         envelope: Envelope,
         bench: &mut Bench<K>,
-    ) -> Result<bool, (NoMemory, Held)>
+    ) -> Result<bool, (NoMemory, InHand)>
         requires { envelope.post ≡ K.post }
         ensures delivered { IfOk result (IsDelivered K.post K.script envelope.letter bench.old.made.items
             bench.new.made.items bench.old.desk bench.new.desk) }
@@ -84,7 +84,7 @@ impl<'a, K: ClusterName, G: Gate> Cluster<'a, K, G> {
     {
         let out = match self.deliver(rt, envelope, &mut bench.made) {
             Ok(out) => out,
-            Err((NoMemory, envelope)) => return Err((NoMemory, Held::Undelivered(envelope))),
+            Err((NoMemory, envelope)) => return Err((NoMemory, InHand::Undelivered(envelope))),
         };
         let finished = bench.has_finished();
         if let Err(held) = bench.desk.sort(self.post(), out) {
@@ -119,7 +119,7 @@ impl<'a, K: ClusterName, G: Gate> Cluster<'a, K, G> {
         rt: &R,
         envelope: Envelope,
         bench: &mut Bench<K>,
-    ) -> Result<(), (NoMemory, Held)>
+    ) -> Result<(), (NoMemory, InHand)>
         requires { envelope.post ≡ K.post }
         ensures trays { OnOk result (bench.new.desk.trays ≡ empty_trays K.post.actors) }
         ensures held { IfErr result (λ e. (e.1 ≡ helds.Nothing) ⊎ KeepsLetter K.post envelope e.1) }
@@ -147,7 +147,7 @@ impl<'a, K: ClusterName, G: Gate> Cluster<'a, K, G> {
         rt: &R,
         actor: u8,
         bench: &mut Bench<K>,
-    ) -> Result<(), (NoMemory, Held)>
+    ) -> Result<(), (NoMemory, InHand)>
         requires { actor < K.post.actors }
         ensures trays { OnOk result (bench.new.desk.trays ≡ empty_trays K.post.actors) }
         ensures held { IfErr result (λ e. KeepsOne K.post e.1) }
@@ -177,7 +177,7 @@ impl<'a, K: ClusterName, G: Gate> Cluster<'a, K, G> {
         rt: &R,
         actor: u8,
         bench: &mut Bench<K>,
-    ) -> Result<(), (NoMemory, Held)>
+    ) -> Result<(), (NoMemory, InHand)>
         requires { actor < K.post.actors }
         ensures trays { OnOk result (bench.new.desk.trays ≡ empty_trays K.post.actors) }
         ensures held { IfErr result (λ e. KeepsOne K.post e.1) }
@@ -191,7 +191,7 @@ impl<'a, K: ClusterName, G: Gate> Cluster<'a, K, G> {
 
     // A worker for which no actor is ready hands in what it made, so that nobody waits for that, and sleeps. Where no
     // memory is found it tells the others.
-    fn rest<R: Wait>(&self, rt: &R, bench: &mut Bench<K>) -> Result<(), (NoMemory, Held)>
+    fn rest<R: Wait>(&self, rt: &R, bench: &mut Bench<K>) -> Result<(), (NoMemory, InHand)>
         ensures desk { bench.new.desk ≡ bench.old.desk }
         ensures made { OnOk result (bench.new.made.items ≡ []) }
         ensures held { IfErr result (λ e. e.1 ≡ helds.Nothing) }
@@ -199,7 +199,7 @@ impl<'a, K: ClusterName, G: Gate> Cluster<'a, K, G> {
         if !bench.made.is_empty() {
             if let Err(NoMemory) = self.record(rt, &mut bench.made) {
                 self.dispatch.stop(rt);
-                return Err((NoMemory, Held::Nothing));
+                return Err((NoMemory, InHand::Nothing));
             }
         }
         self.dispatch.sleep(rt);
@@ -227,7 +227,7 @@ impl<'a, K: ClusterName, G: Gate> Cluster<'a, K, G> {
         rt: &R,
         worker: u32,
         bench: &mut Bench<K>,
-    ) -> Result<(), (NoMemory, Held)>
+    ) -> Result<(), (NoMemory, InHand)>
         ensures made { OnOk result (bench.new.made.items ≡ []) }
         ensures trays { OnOk result (bench.old.desk.trays ≡ empty_trays K.post.actors
             → bench.new.desk.trays ≡ empty_trays K.post.actors) }
@@ -244,7 +244,7 @@ impl<'a, K: ClusterName, G: Gate> Cluster<'a, K, G> {
                 Err(Ending::Finished) => {
                     return or_stop(self.record(rt, &mut bench.made));
                 }
-                Err(Ending::Stopped) => return Err((NoMemory, Held::Nothing)),
+                Err(Ending::Stopped) => return Err((NoMemory, InHand::Nothing)),
             }
         }
         unreachable!()

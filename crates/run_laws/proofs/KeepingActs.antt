@@ -12,8 +12,8 @@ use Rattle.letter_types.specs.declared.bodies.Notice.{Notice}
 use Rattle.letter_types.specs.declared.bodies.Notice.TheVariants as notices
 use Rattle.letter_types.specs.declared.entries.Entry.{Entry}
 use Rattle.letter_types.specs.declared.entries.Letter.{Letter}
-use Rattle.letter_types.specs.declared.kept.Why.{Why}
-use Rattle.letter_types.specs.declared.kept.Why.TheVariants.{Called, ForHolder, ForShow}
+use Rattle.letter_types.specs.declared.kept.KeepReason.{KeepReason}
+use Rattle.letter_types.specs.declared.kept.KeepReason.TheVariants.{Called, ForHolder, ForShow}
 use Rattle.script_parts.specs.declared.parts.TreeKind.{TreeKind}
 use Rattle.script_parts.specs.declared.parts.TreeKind.TheVariants.{Update, Read, Strict}
 use Rattle.tree_home.specs.declared.homes.Answered.{Answered}
@@ -146,7 +146,7 @@ waits_of t acts.Finished none = refl
 waits_of t _ none = refl
 
 -- a letter that is kept for this reason is parked
-abbrev pub parked_as : ℕ → ℕ → ℕ → ℕ → ℕ → Why → ℕ
+abbrev pub parked_as : ℕ → ℕ → ℕ → ℕ → ℕ → KeepReason → ℕ
 parked_as t k h u j (ForHolder g) = one_if ((u == t) && ((j == k) && (g.0 == h)))
 parked_as t k h u j ForShow = 0
 parked_as t k h u j Called = 0

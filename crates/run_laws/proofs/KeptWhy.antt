@@ -12,8 +12,8 @@ use Rattle.letter_types.specs.declared.bodies.Body.TheVariants.{Decide, Release,
 use Rattle.letter_types.specs.declared.entries.Entry.{Entry}
 use Rattle.letter_types.specs.declared.entries.Letter.{Letter}
 use Rattle.letter_types.specs.declared.kept.KeptLetter.{KeptLetter}
-use Rattle.letter_types.specs.declared.kept.Why.{Why}
-use Rattle.letter_types.specs.declared.kept.Why.TheVariants.{Called, ForHolder, ForShow}
+use Rattle.letter_types.specs.declared.kept.KeepReason.{KeepReason}
+use Rattle.letter_types.specs.declared.kept.KeepReason.TheVariants.{Called, ForHolder, ForShow}
 use Rattle.script_parts.specs.ScriptData.{updates}
 use Rattle.script_parts.specs.declared.parts.TreeKind.{TreeKind}
 use Rattle.script_parts.specs.declared.parts.TreeKind.TheVariants.{Update, Read, Strict}
@@ -50,7 +50,7 @@ use Rattle.run_laws.proofs.Holders.{holders}
 use Rattle.run_laws.proofs.Woken.{Rises, does_rises, holder_woken}
 
 -- why node p keeps a letter of tree t
-abbrev pub Reason : ScriptData → List Entry → ℕ → TreeNo → Why → Type 0
+abbrev pub Reason : ScriptData → List Entry → ℕ → TreeNo → KeepReason → Type 0
 Reason s past p t ForShow = (is_strict_at s t.0 ≡ true) × ((node_in s past p).turns.update.0 ≡ (node_in s past p).turns.read.0 + 2)
 Reason s past p t (ForHolder h) = (updates s t.0 ≡ true) × Holds (keeping_in s past p).core h
 Reason s past p t Called = Unit {0}
@@ -83,7 +83,7 @@ woken_one : (Q : KeptLetter → Type 0) (x : KeptLetter) (test b : Bool) → tes
 woken_one Q x test true is hit miss = rw is (hit is)
 woken_one Q x test false is hit miss = rw is (miss is)
 
-pub each_woken : (P Q : KeptLetter → Type 0) (test : Why → Bool) (xs : List KeptLetter)
+pub each_woken : (P Q : KeptLetter → Type 0) (test : KeepReason → Bool) (xs : List KeptLetter)
     → ((x : KeptLetter) → test x.why ≡ true → P x → Q (record x { why = Called }))
     → ((x : KeptLetter) → test x.why ≡ false → P x → Q x) → Each P xs → Each Q (with_called test xs)
 each_woken P Q test [] hit miss all = tt
@@ -130,7 +130,7 @@ holder_stays s p from h (Release u) meant strict none gone =
     not_both s u.0 (tree_kind_at s u.0) refl meant.update (subst (λ (n : ℕ). is_strict_at s n ≡ true) (sym gone) strict)
 holder_stays s p from h _ meant strict none gone = absurd gone
 
-does_reason : (s : ScriptData) (past : List Entry) (e : Entry) (p : ℕ) (r : Letter) (t : TreeNo) (w : Why) → IsValid s → IsStepRun s (e ∷ past)
+does_reason : (s : ScriptData) (past : List Entry) (e : Entry) (p : ℕ) (r : Letter) (t : TreeNo) (w : KeepReason) → IsValid s → IsStepRun s (e ∷ past)
     → Does s past e p r → woken_by (keeping_in s past p).core r.body w ≡ false → Reason s past p t w → Reason s (e ∷ past) p t w
 does_reason s past e p r t ForShow valid run d none reason =
     (reason.0, two_on s past e p valid run d.brings.below (does_rises s past e p r d none) reason.1)
@@ -171,7 +171,7 @@ keeps_locks s past e p r k t d h =
     let so : IsCoreKeeping c r.body k = subst (OfKeeping (IsCoreKeeping c r.body)) d.keeps (core_keeps s c r.body) in
     same_holds c (keeping_in s (e ∷ past) p).core t (ap (λ (x : Core). x.locks) (d.core ∙ so.turns_alone)) h
 
-keeps_reason : (s : ScriptData) (past : List Entry) (e : Entry) (p : ℕ) (r : Letter) (k : CoreKeeping) (t : TreeNo) (w : Why) → IsValid s
+keeps_reason : (s : ScriptData) (past : List Entry) (e : Entry) (p : ℕ) (r : Letter) (k : CoreKeeping) (t : TreeNo) (w : KeepReason) → IsValid s
     → IsStepRun s (e ∷ past) → Keeps s past e p r k → Reason s past p t w → Reason s (e ∷ past) p t w
 keeps_reason s past e p r k t ForShow valid run d reason =
     (reason.0, two_on s past e p valid run d.brings.below (keeps_rises s past e p r k d) reason.1)
@@ -181,7 +181,7 @@ keeps_reason s past e p r k t Called valid run d reason = tt
 two_late : (update read : ℕ) → (update == read + 1) ≡ false → read + 1 ≤ update → update ≤ read + 2 → update ≡ read + 2
 two_late update read late low high = grind (arith, nat_tests)
 
-pub new_reason : (s : ScriptData) (past : List Entry) (p : ℕ) (t : TreeNo) (k : SubNo) (w : Why) → IsValid s → IsStepRun s past → p < s.nodes
+pub new_reason : (s : ScriptData) (past : List Entry) (p : ℕ) (t : TreeNo) (k : SubNo) (w : KeepReason) → IsValid s → IsStepRun s past → p < s.nodes
     → IsKeptFor s (keeping_in s past p).core t k w → Reason s past p t w
 new_reason s past p t k ForShow valid run lt (strict, zero, late) =
     let at = near s past p valid run lt in
@@ -191,7 +191,7 @@ new_reason s past p t k (ForHolder h) valid run lt (up, m, meets, same) =
     (up, subst (Holds c) same (met_holds s t (ops_of s t.0 k.0) c m meets))
 new_reason s past p t k Called valid run lt is = tt
 
-pub new_root : (s : ScriptData) (c : Core) (t : TreeNo) (k : SubNo) (w : Why) → IsKeptFor s c t k w → is_strict_at s t.0 ≡ true → k.0 ≡ 0
+pub new_root : (s : ScriptData) (c : Core) (t : TreeNo) (k : SubNo) (w : KeepReason) → IsKeptFor s c t k w → is_strict_at s t.0 ≡ true → k.0 ≡ 0
 new_root s c t k ForShow (it, zero, late) strict = zero
 new_root s c t k (ForHolder h) (up, m, meets, same) strict = absurd (not_both s t.0 (tree_kind_at s t.0) refl up strict)
 new_root s c t k Called is strict = absurd is
@@ -214,7 +214,7 @@ keeps_waiting s past e p r k valid run d all =
     ))
 
 -- An entry of another actor.
-other_reason : (s : ScriptData) (past : List Entry) (e : Entry) (p : ℕ) (t : TreeNo) (w : Why) → e.actor.0 ≢ p → Reason s past p t w
+other_reason : (s : ScriptData) (past : List Entry) (e : Entry) (p : ℕ) (t : TreeNo) (w : KeepReason) → e.actor.0 ≢ p → Reason s past p t w
     → Reason s (e ∷ past) p t w
 other_reason s past e p t ForShow ne reason =
     (reason.0, subst (λ (n : KeepingNode). n.core.node.turns.update.0 ≡ n.core.node.turns.read.0 + 2) (sym (keeping_elsewhere s past e p ne)) reason.1)
@@ -250,7 +250,7 @@ waiting s [] p valid run lt = tt
 waiting s (e ∷ past) p valid run lt = waiting_by s past e p valid run lt (waiting s past p valid run.1 lt) (cases_eq e.actor.0 p)
 
 -- What is called has its Wake in flight.
-pub counts_called : (w : Why) (t k : ℕ) → w ≡ Called → one_if (is_called w && ((t == t) && (k == k))) ≡ 1
+pub counts_called : (w : KeepReason) (t k : ℕ) → w ≡ Called → one_if (is_called w && ((t == t) && (k == k))) ≡ 1
 counts_called w t k is = let called : is_called w ≡ true = ap is_called is in rw called (one_if_both t k)
 
 abbrev IsCounted : List KeptLetter → KeptLetter → Type 0
@@ -263,7 +263,7 @@ each_counted all (x ∷ xs) le = (
   each_counted all xs (λ t k. omega (arith, le t k)),
 )
 
-kept_until : (s : ScriptData) (past : List Entry) (p : ℕ) (x : KeptLetter) (w : Why) → x.why ≡ w → IsValid s → IsStepRun s past → p < s.nodes
+kept_until : (s : ScriptData) (past : List Entry) (p : ℕ) (x : KeptLetter) (w : KeepReason) → x.why ≡ w → IsValid s → IsStepRun s past → p < s.nodes
     → IsWaiting s past p x → Reason s past p x.tree w → IsCounted (kept_in s past p) x → IsKeptUntil s past p x w
 kept_until s past p x ForShow is valid run lt at reason counted = (reason.0, (at.root reason.0, reason.1))
 kept_until s past p x (ForHolder h) is valid run lt at reason counted =

@@ -14,8 +14,8 @@ use Rattle.letter_types.specs.declared.bodies.Body.TheVariants.{Go, Root, Sub as
 use Rattle.letter_types.specs.declared.entries.Entry.{Entry}
 use Rattle.letter_types.specs.declared.entries.Letter.{Letter}
 use Rattle.letter_types.specs.declared.kept.KeptLetter.{KeptLetter}
-use Rattle.letter_types.specs.declared.kept.Why.{Why}
-use Rattle.letter_types.specs.declared.kept.Why.TheVariants.{Called, ForHolder, ForShow}
+use Rattle.letter_types.specs.declared.kept.KeepReason.{KeepReason}
+use Rattle.letter_types.specs.declared.kept.KeepReason.TheVariants.{Called, ForHolder, ForShow}
 use Rattle.tx_trees.specs.ScriptData.{ScriptData, node_of}
 use Rattle.tx_trees.specs.Valid.{IsValid}
 use Rattle.world_model.specs.Counts.{one_if, tally}
@@ -69,7 +69,7 @@ woken_one f x test true is pass none = rw is (omega (arith, pass is, none))
 woken_one f x test false is pass none = rw is refl
 
 -- nor does it change them to wake letters that they don't count
-pub woken_same : (f : KeptLetter → ℕ) (test : Why → Bool) (xs : List KeptLetter) → NoneCalled f
+pub woken_same : (f : KeptLetter → ℕ) (test : KeepReason → Bool) (xs : List KeptLetter) → NoneCalled f
     → ((x : KeptLetter) → test x.why ≡ true → f x ≡ 0) → tally f (with_called test xs) ≡ tally f xs
 woken_same f test [] none pass = refl
 woken_same f test (x ∷ xs) none pass =
@@ -83,7 +83,7 @@ woken_same f test (x ∷ xs) none pass =
 abbrev pub is_parked : ℕ → ℕ → ℕ → KeptLetter → ℕ
 is_parked t k h x = parked_as t k h x.tree.0 x.sub.0 x.why
 
-parked_uncalled : (t k h u j : ℕ) (w : Why) → is_called w ≡ true → parked_as t k h u j w ≡ 0
+parked_uncalled : (t k h u j : ℕ) (w : KeepReason) → is_called w ≡ true → parked_as t k h u j w ≡ 0
 parked_uncalled t k h u j Called is = refl
 parked_uncalled t k h u j ForShow is = absurd (cc is)
 parked_uncalled t k h u j (ForHolder g) is = absurd (cc is)
@@ -108,7 +108,7 @@ holder_told t k h u j g (Show v) none is = absurd (cc is)
 holder_told t k h u j g Go none is = absurd (cc is)
 holder_told t k h u j g _ none is = absurd (cc is)
 
-unwoken : (t k h u j : ℕ) (w : Why) (c : Core) (b : Body) → tells_decision h true b + tells_decision h false b ≡ 0 → woken_by c b w ≡ true
+unwoken : (t k h u j : ℕ) (w : KeepReason) (c : Core) (b : Body) → tells_decision h true b + tells_decision h false b ≡ 0 → woken_by c b w ≡ true
     → parked_as t k h u j w ≡ 0
 unwoken t k h u j ForShow c b none is = refl
 unwoken t k h u j Called c b none is = refl
@@ -150,14 +150,14 @@ does_parked s past e p t k h r d ih = by (tells_decision h true r.body + tells_d
   by (suc n) some = record { now = λ free. absurd (omega (arith, free, applied, some)); most = omega (arith, ih.most, acts) }
 
 -- What a kept letter that is counted says.
-record ParkedSo (t k h u j : ℕ) (w : Why) : Type 0 where
+record ParkedSo (t k h u j : ℕ) (w : KeepReason) : Type 0 where
   holder : TreeNo
   why : w ≡ ForHolder holder
   is : holder.0 ≡ h
   tree : u ≡ t
   sub : j ≡ k
 
-parked_so : (t k h u j : ℕ) (w : Why) → 1 ≤ parked_as t k h u j w → ParkedSo t k h u j w
+parked_so : (t k h u j : ℕ) (w : KeepReason) → 1 ≤ parked_as t k h u j w → ParkedSo t k h u j w
 parked_so t k h u j (ForHolder g) some = record {
   holder = g;
   why = refl;
@@ -176,7 +176,7 @@ parked_so t k h u j (ForHolder g) some = record {
 parked_so t k h u j ForShow some = absurd (omega (arith, some))
 parked_so t k h u j Called some = absurd (omega (arith, some))
 
-pub parked_most : (t k h u j : ℕ) (w : Why) → parked_as t k h u j w ≤ one_if ((u == t) && (j == k))
+pub parked_most : (t k h u j : ℕ) (w : KeepReason) → parked_as t k h u j w ≤ one_if ((u == t) && (j == k))
 parked_most t k h u j ForShow = omega arith
 parked_most t k h u j Called = omega arith
 parked_most t k h u j (ForHolder g) = by (u == t) (j == k) (g.0 == h) where
@@ -253,7 +253,7 @@ holder_unapplied s past e p r o h valid run d is =
     let kept : IsKeptFor s (keeping_in s past p).core o.tree o.sub o.why = kept_for_a_reason s (keeping_in s past p).core r.body o d.keeps in
     let why : Reason s past p o.tree (ForHolder h) =
     new_reason s past p o.tree o.sub (ForHolder h) valid run.1 d.brings.below
-    (subst (λ (w : Why). IsKeptFor s (keeping_in s past p).core o.tree o.sub w) is kept) in
+    (subst (λ (w : KeepReason). IsKeptFor s (keeping_in s past p).core o.tree o.sub w) is kept) in
     (holders s past p valid (all_apt s past valid run.1) run.1 d.brings.below h why.1).unapplied
 
 pub keeps_asked : (s : ScriptData) (past : List Entry) (e : Entry) (p : ℕ) (r : Letter) (o : CoreKeeping) → IsValid s → IsStepRun s (e ∷ past)
@@ -311,7 +311,7 @@ keeps_parked s past e p t k h r o valid run d ih = by (parked_as t k h o.tree.0 
       }
 
 -- Another actor parks none.
-parked_far : (t k h u j : ℕ) (w : Why) → (u ≡ t → j ≡ k → ⊥) → parked_as t k h u j w ≡ 0
+parked_far : (t k h u j : ℕ) (w : KeepReason) → (u ≡ t → j ≡ k → ⊥) → parked_as t k h u j w ≡ 0
 parked_far t k h u j w far = by (parked_as t k h u j w) refl where
   by : (n : ℕ) → parked_as t k h u j w ≡ n → parked_as t k h u j w ≡ 0
   by zero is = is

@@ -10,8 +10,8 @@ use Rattle.letter_types.specs.declared.bodies.Body.TheVariants.{Root, Sub as Sub
 use Rattle.letter_types.specs.declared.entries.Entry.{Entry}
 use Rattle.letter_types.specs.declared.entries.Letter.{Letter}
 use Rattle.letter_types.specs.declared.kept.KeptLetter.{KeptLetter}
-use Rattle.letter_types.specs.declared.kept.Why.{Why}
-use Rattle.letter_types.specs.declared.kept.Why.TheVariants.{Called, ForHolder, ForShow}
+use Rattle.letter_types.specs.declared.kept.KeepReason.{KeepReason}
+use Rattle.letter_types.specs.declared.kept.KeepReason.TheVariants.{Called, ForHolder, ForShow}
 use Rattle.tx_trees.specs.ScriptData.{ScriptData, subs_at}
 use Rattle.tx_trees.specs.Valid.{IsValid}
 use Rattle.world_model.specs.AllApt.{AllApt}
@@ -165,7 +165,7 @@ pub record IsRootWaiting (s : ScriptData) (past : List Entry) (p : ℕ) (x : Kep
   pub strict : is_strict_at s x.tree.0 ≡ true
   pub two : (node_in s past p).turns.update.0 ≡ (node_in s past p).turns.read.0 + 2
 
-root_waits : (s : ScriptData) (past : List Entry) (p : ℕ) (x : KeptLetter) (w : Why) → IsValid s → IsStepRun s past → in_flight s past ≡ []
+root_waits : (s : ScriptData) (past : List Entry) (p : ℕ) (x : KeptLetter) (w : KeepReason) → IsValid s → IsStepRun s past → in_flight s past ≡ []
     → p < s.nodes → x.why ≡ w → one_if (is_called_for x.tree x.sub x) ≡ 0 → IsWaiting s past p x → Reason s past p x.tree w
     → IsRootWaiting s past p x
 root_waits s past p x ForShow valid run empty lt is none at reason = record { root = at.root reason.0; strict = reason.0; two = reason.1 }

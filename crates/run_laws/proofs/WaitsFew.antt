@@ -9,8 +9,8 @@ use Rattle.letter_types.specs.declared.bodies.Body.{Body}
 use Rattle.letter_types.specs.declared.entries.Entry.{Entry}
 use Rattle.letter_types.specs.declared.entries.Letter.{Letter}
 use Rattle.letter_types.specs.declared.kept.KeptLetter.{KeptLetter}
-use Rattle.letter_types.specs.declared.kept.Why.{Why}
-use Rattle.letter_types.specs.declared.kept.Why.TheVariants.{Called, ForHolder, ForShow}
+use Rattle.letter_types.specs.declared.kept.KeepReason.{KeepReason}
+use Rattle.letter_types.specs.declared.kept.KeepReason.TheVariants.{Called, ForHolder, ForShow}
 use Rattle.tx_trees.specs.ScriptData.{ScriptData, home_of, node_of}
 use Rattle.tx_trees.specs.Valid.{IsValid}
 use Rattle.world_model.specs.Counts.{one_if, tally}
@@ -36,19 +36,19 @@ use Rattle.run_laws.proofs.Woken.{does_rises, does_shows}
 use Rattle.world_model.specs.Core.{Core}
 
 -- Letters that are kept for a Show.
-shown_uncalled : (t u : ℕ) (w : Why) → is_called w ≡ true → shown_as t u w ≡ 0
+shown_uncalled : (t u : ℕ) (w : KeepReason) → is_called w ≡ true → shown_as t u w ≡ 0
 shown_uncalled t u Called is = refl
 shown_uncalled t u ForShow is = absurd (cc is)
 shown_uncalled t u (ForHolder g) is = absurd (cc is)
 
 -- no other letter than a Show wakes them
-shown_unwoken : (t u : ℕ) (w : Why) (c : Core) (b : Body) → woken_by c b ForShow ≡ false → woken_by c b w ≡ true → shown_as t u w ≡ 0
+shown_unwoken : (t u : ℕ) (w : KeepReason) (c : Core) (b : Body) → woken_by c b ForShow ≡ false → woken_by c b w ≡ true → shown_as t u w ≡ 0
 shown_unwoken t u ForShow c b other is = absurd (cc (other, is))
 shown_unwoken t u Called c b other is = refl
 shown_unwoken t u (ForHolder g) c b other is = refl
 
 -- of one tree at most one is kept so
-shown_root : (t u j : ℕ) (w : Why) → (w ≡ ForShow → j ≡ 0) → shown_as t u w ≤ one_if ((u == t) && (j == 0))
+shown_root : (t u j : ℕ) (w : KeepReason) → (w ≡ ForShow → j ≡ 0) → shown_as t u w ≤ one_if ((u == t) && (j == 0))
 shown_root t u j Called root = omega arith
 shown_root t u j (ForHolder g) root = omega arith
 shown_root t u j ForShow root = let zero : j ≡ 0 = root refl in one u t j zero where
@@ -57,7 +57,7 @@ shown_root t u j ForShow root = let zero : j ≡ 0 = root refl in one u t j zero
 
 pub waiting_root : (s : ScriptData) (past : List Entry) (p : ℕ) (x : KeptLetter) → IsWaiting s past p x → x.why ≡ ForShow → x.sub.0 ≡ 0
 waiting_root s past p x at is =
-    let why : Reason s past p x.tree ForShow = subst (λ (w : Why). Reason s past p x.tree w) is at.why in at.root why.0
+    let why : Reason s past p x.tree ForShow = subst (λ (w : KeepReason). Reason s past p x.tree w) is at.why in at.root why.0
 
 shown_sum : (s : ScriptData) (past : List Entry) (p t : ℕ) (xs : List KeptLetter) → AreWaiting s past p xs
     → tally (is_kept_for_show t) xs ≤ tally (λ (x : KeptLetter). one_if ((x.tree.0 == t) && (x.sub.0 == 0))) xs
@@ -120,7 +120,7 @@ keeps_waited s past e p t r o valid run d ih =
     )
 
 -- another node lets no root of this tree wait
-shown_some : (t u : ℕ) (w : Why) → (w ≡ ForShow → u ≡ t → ⊥) → shown_as t u w ≡ 0
+shown_some : (t u : ℕ) (w : KeepReason) → (w ≡ ForShow → u ≡ t → ⊥) → shown_as t u w ≡ 0
 shown_some t u Called other = refl
 shown_some t u (ForHolder g) other = refl
 shown_some t u ForShow other = none u t (other refl) where
@@ -131,7 +131,7 @@ kept_root : (s : ScriptData) (past : List Entry) (p : ℕ) (r : Letter) (e : Ent
     → o.sub.0 ≡ 0
 kept_root s past p r e o d is =
     let kept : IsKeptFor s (keeping_in s past p).core o.tree o.sub ForShow =
-    subst (λ (w : Why). IsKeptFor s (keeping_in s past p).core o.tree o.sub w) is (kept_for_a_reason s (keeping_in s past p).core r.body o d.keeps) in
+    subst (λ (w : KeepReason). IsKeptFor s (keeping_in s past p).core o.tree o.sub w) is (kept_for_a_reason s (keeping_in s past p).core r.body o d.keeps) in
     kept.1
 
 waits_elsewhere : (s : ScriptData) (past : List Entry) (e : Entry) (t : ℕ) → IsValid s → IsStepRun s (e ∷ past) → e.actor.0 ≢ home_of s t

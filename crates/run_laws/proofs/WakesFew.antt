@@ -13,8 +13,8 @@ use Rattle.letter_types.specs.declared.entries.Entry.{Entry}
 use Rattle.letter_types.specs.declared.entries.Letter.{Letter}
 use Rattle.letter_types.specs.declared.entries.Outgoing.{Outgoing}
 use Rattle.letter_types.specs.declared.kept.KeptLetter.{KeptLetter}
-use Rattle.letter_types.specs.declared.kept.Why.{Why}
-use Rattle.letter_types.specs.declared.kept.Why.TheVariants.{Called, ForHolder, ForShow}
+use Rattle.letter_types.specs.declared.kept.KeepReason.{KeepReason}
+use Rattle.letter_types.specs.declared.kept.KeepReason.TheVariants.{Called, ForHolder, ForShow}
 use Rattle.script_parts.specs.ScriptData.{updates}
 use Rattle.script_parts.specs.Counts.{advances_in}
 use Rattle.script_parts.proofs.SubsOf.{home_below}
@@ -59,7 +59,7 @@ abbrev pub wake_of : ℕ → ℕ → Body → ℕ
 wake_of t k = is_wake_of (record { 0 = t }) (record { 0 = k })
 
 -- Letters that are kept and aren't called.
-abbrev pub uncalled_as : ℕ → ℕ → ℕ → ℕ → Why → ℕ
+abbrev pub uncalled_as : ℕ → ℕ → ℕ → ℕ → KeepReason → ℕ
 uncalled_as t k u j ForShow = one_if ((u == t) && (j == k))
 uncalled_as t k u j (ForHolder g) = one_if ((u == t) && (j == k))
 uncalled_as t k u j Called = 0
@@ -67,25 +67,25 @@ uncalled_as t k u j Called = 0
 abbrev pub is_uncalled : ℕ → ℕ → KeptLetter → ℕ
 is_uncalled t k x = uncalled_as t k x.tree.0 x.sub.0 x.why
 
-called_none : (t k u j : ℕ) (w : Why) → is_called w ≡ true → uncalled_as t k u j w ≡ 0
+called_none : (t k u j : ℕ) (w : KeepReason) → is_called w ≡ true → uncalled_as t k u j w ≡ 0
 called_none t k u j Called is = refl
 called_none t k u j ForShow is = absurd (cc is)
 called_none t k u j (ForHolder g) is = absurd (cc is)
 
-uncalled_one : (t k u j : ℕ) (w : Why) (test : Why → Bool) → test w ≡ true → test Called ≡ false
+uncalled_one : (t k u j : ℕ) (w : KeepReason) (test : KeepReason → Bool) → test w ≡ true → test Called ≡ false
     → uncalled_as t k u j w ≡ one_if ((u == t) && (j == k))
 uncalled_one t k u j ForShow test is never = refl
 uncalled_one t k u j (ForHolder g) test is never = refl
 uncalled_one t k u j Called test is never = absurd (cc (is, never))
 
 -- what is woken has a Wake
-wakes_by_one : (t k : ℕ) (test : Why → Bool) (x : KeptLetter) (xs : List KeptLetter) (b : Bool) → test x.why ≡ b → test Called ≡ false
+wakes_by_one : (t k : ℕ) (test : KeepReason → Bool) (x : KeptLetter) (xs : List KeptLetter) (b : Bool) → test x.why ≡ b → test Called ≡ false
     → tally (on (wake_of t k)) (wakes test xs) + tally (is_uncalled t k) (with_called test xs) ≡ tally (is_uncalled t k) xs
     → tally (on (wake_of t k)) (wakes test (x ∷ xs)) + tally (is_uncalled t k) (with_called test (x ∷ xs)) ≡ tally (is_uncalled t k) (x ∷ xs)
 wakes_by_one t k test x xs true is never rest = rw is (omega (arith, rest, uncalled_one t k x.tree.0 x.sub.0 x.why test is never))
 wakes_by_one t k test x xs false is never rest = rw is (omega (arith, rest))
 
-wakes_all : (t k : ℕ) (test : Why → Bool) (xs : List KeptLetter) → test Called ≡ false
+wakes_all : (t k : ℕ) (test : KeepReason → Bool) (xs : List KeptLetter) → test Called ≡ false
     → tally (on (wake_of t k)) (wakes test xs) + tally (is_uncalled t k) (with_called test xs) ≡ tally (is_uncalled t k) xs
 wakes_all t k test [] never = refl
 wakes_all t k test (x ∷ xs) never = wakes_by_one t k test x xs (test x.why) refl never (wakes_all t k test xs never)
@@ -125,13 +125,13 @@ no_match u t j k far = by (u == t) refl (j == k) refl where
   by true is false at = rw (is, at) refl
   by false is b at = rw is refl
 
-far_wake : (t k : ℕ) (test : Why → Bool) (x : KeptLetter) (xs : List KeptLetter) (b : Bool) → test x.why ≡ b
+far_wake : (t k : ℕ) (test : KeepReason → Bool) (x : KeptLetter) (xs : List KeptLetter) (b : Bool) → test x.why ≡ b
     → one_if ((x.tree.0 == t) && (x.sub.0 == k)) ≡ 0 → tally (on (wake_of t k)) (wakes test xs) ≡ 0
     → tally (on (wake_of t k)) (wakes test (x ∷ xs)) ≡ 0
 far_wake t k test x xs true is far rest = rw is (omega (arith, far, rest))
 far_wake t k test x xs false is far rest = rw is rest
 
-far_wakes : (s : ScriptData) (q t k : ℕ) (test : Why → Bool) (xs : List KeptLetter) → q ≢ node_of s t k → Each (IsOwn s q) xs
+far_wakes : (s : ScriptData) (q t k : ℕ) (test : KeepReason → Bool) (xs : List KeptLetter) → q ≢ node_of s t k → Each (IsOwn s q) xs
     → tally (on (wake_of t k)) (wakes test xs) ≡ 0
 far_wakes s q t k test [] ne all = refl
 far_wakes s q t k test (x ∷ xs) ne all =
@@ -213,7 +213,7 @@ record Quiet (past : List Entry) (e : Entry) (t k : ℕ) : Type 0 where
   sent : tally (on (wake_of t k)) e.sent ≡ 0
   acts : tally (keeps_of t k) e.acts ≡ 0
 
-uncalled_far : (t k u j : ℕ) (w : Why) → (u ≡ t → j ≡ k → ⊥) → uncalled_as t k u j w ≡ 0
+uncalled_far : (t k u j : ℕ) (w : KeepReason) → (u ≡ t → j ≡ k → ⊥) → uncalled_as t k u j w ≡ 0
 uncalled_far t k u j ForShow far = no_match u t j k far
 uncalled_far t k u j (ForHolder g) far = no_match u t j k far
 uncalled_far t k u j Called far = refl
@@ -278,7 +278,7 @@ reason_of : (s : ScriptData) (past : List Entry) (e : Entry) (p : ℕ) (r : Lett
 reason_of s past e p r o d = kept_for_a_reason s (keeping_in s past p).core r.body o d.keeps
 
 pub never_kept : (s : ScriptData) (past : List Entry) (t k : ℕ) → IsValid s → IsStepRun s past
-    → ((c : Core) (u : TreeNo) (j : SubNo) (w : Why) → IsKeptFor s c u j w → u.0 ≡ t → j.0 ≡ k → ⊥) → keepings past t k ≡ 0
+    → ((c : Core) (u : TreeNo) (j : SubNo) (w : KeepReason) → IsKeptFor s c u j w → u.0 ≡ t → j.0 ≡ k → ⊥) → keepings past t k ≡ 0
 never_kept s [] t k valid run never = refl
 never_kept s (e ∷ past) t k valid run never =
     omega (arith, never_kept s past t k valid run.1 never, by (case s past e run.0 (all_apt s (e ∷ past) valid run).0)) where
@@ -294,14 +294,14 @@ update_at : (s : ScriptData) (u t : ℕ) → u ≡ t → updates s u ≡ true �
 update_at s u t is up = subst (λ (n : ℕ). updates s n ≡ true) is up
 
 -- a strict tree's other subtransactions never are, nor is any of a read tree's
-strict_never : (s : ScriptData) (t k : ℕ) → is_strict_at s t ≡ true → 0 < k → (c : Core) (u : TreeNo) (j : SubNo) (w : Why)
+strict_never : (s : ScriptData) (t k : ℕ) → is_strict_at s t ≡ true → 0 < k → (c : Core) (u : TreeNo) (j : SubNo) (w : KeepReason)
     → IsKeptFor s c u j w → u.0 ≡ t → j.0 ≡ k → ⊥
 strict_never s t k strict some c u j ForShow (it, root, late) tree sub = omega (arith, root, sub, some)
 strict_never s t k strict some c u j (ForHolder h) (up, m, meets, same) tree sub =
     not_both s t (tree_kind_at s t) refl (update_at s u.0 t tree up) strict
 strict_never s t k strict some c u j Called kept tree sub = kept
 
-read_never : (s : ScriptData) (t k : ℕ) → is_strict_at s t ≡ false → updates s t ≡ false → (c : Core) (u : TreeNo) (j : SubNo) (w : Why)
+read_never : (s : ScriptData) (t k : ℕ) → is_strict_at s t ≡ false → updates s t ≡ false → (c : Core) (u : TreeNo) (j : SubNo) (w : KeepReason)
     → IsKeptFor s c u j w → u.0 ≡ t → j.0 ≡ k → ⊥
 read_never s t k none other c u j ForShow (it, root, late) tree sub =
     let strict : is_strict_at s t ≡ true = subst (λ (n : ℕ). is_strict_at s n ≡ true) tree it in cc (strict, none)
@@ -310,7 +310,7 @@ read_never s t k none other c u j (ForHolder h) (up, m, meets, same) tree sub =
 read_never s t k none other c u j Called kept tree sub = kept
 
 -- a strict tree's root is kept as often as it waits
-kept_as_waits : (s : ScriptData) (t : ℕ) (c : Core) (u : TreeNo) (j : SubNo) (w : Why) → is_strict_at s t ≡ true → IsKeptFor s c u j w
+kept_as_waits : (s : ScriptData) (t : ℕ) (c : Core) (u : TreeNo) (j : SubNo) (w : KeepReason) → is_strict_at s t ≡ true → IsKeptFor s c u j w
     → uncalled_as t 0 u.0 j.0 w ≤ shown_as t u.0 w
 kept_as_waits s t c u j ForShow strict kept = by (u.0 == t) (j.0 == 0) where
   by : (a b : Bool) → one_if (a && b) ≤ one_if a
@@ -344,7 +344,7 @@ shown_less : (s : ScriptData) (past : List Entry) (p t : ℕ) (xs : List KeptLet
 shown_less s past p t [] all = omega arith
 shown_less s past p t (x ∷ xs) all =
     omega (arith, by x.tree.0 x.sub.0 x.why (waiting_root s past p x all.0), shown_less s past p t xs all.1) where
-      by : (u j : ℕ) (w : Why) → (w ≡ ForShow → j ≡ 0) → shown_as t u w ≤ uncalled_as t 0 u j w
+      by : (u j : ℕ) (w : KeepReason) → (w ≡ ForShow → j ≡ 0) → shown_as t u w ≤ uncalled_as t 0 u j w
       by u j Called root = omega arith
       by u j (ForHolder g) root = omega arith
       by u j ForShow root = one u j (root refl) where
@@ -380,10 +380,10 @@ holder_strict : (s : ScriptData) (past : List Entry) (e : Entry) (p : ℕ) (r : 
 holder_strict s past e p r o h valid run d is =
     let why : Reason s past p o.tree (ForHolder h) =
     new_reason s past p o.tree o.sub (ForHolder h) valid run.1 d.brings.below
-    (subst (λ (w : Why). IsKeptFor s (keeping_in s past p).core o.tree o.sub w) is (reason_of s past e p r o d)) in
+    (subst (λ (w : KeepReason). IsKeptFor s (keeping_in s past p).core o.tree o.sub w) is (reason_of s past e p r o d)) in
     (holders s past p valid (all_apt s past valid run.1) run.1 d.brings.below h why.1).strict
 
-park_strict : (s : ScriptData) (t k h u j : ℕ) (w : Why) → is_strict_at s h ≡ false → ((g : TreeNo) → w ≡ ForHolder g → is_strict_at s g.0 ≡ true)
+park_strict : (s : ScriptData) (t k h u j : ℕ) (w : KeepReason) → is_strict_at s h ≡ false → ((g : TreeNo) → w ≡ ForHolder g → is_strict_at s g.0 ≡ true)
     → parked_as t k h u j w ≡ 0
 park_strict s t k h u j ForShow none strict = refl
 park_strict s t k h u j Called none strict = refl
@@ -423,7 +423,7 @@ hit_one true true g xs lt = over_hit 0 g xs (omega arith) (omega (arith, lt))
 hit_one true false g xs lt = over_none 0 (λ h. 0) xs (λ h. refl)
 hit_one false b g xs lt = over_none 0 (λ h. 0) xs (λ h. refl)
 
-update_parks : (s : ScriptData) (t k : ℕ) (c : Core) (u : TreeNo) (j : SubNo) (w : Why) → updates s t ≡ true → IsKeptFor s c u j w
+update_parks : (s : ScriptData) (t k : ℕ) (c : Core) (u : TreeNo) (j : SubNo) (w : KeepReason) → updates s t ≡ true → IsKeptFor s c u j w
     → ((g : TreeNo) → w ≡ ForHolder g → is_strict_at s g.0 ≡ true)
     → uncalled_as t k u.0 j.0 w ≡ over 0 (λ h. parked_as t k h u.0 j.0 w) s.trees
 update_parks s t k c u j ForShow up (it, root, late) strict =
@@ -476,7 +476,7 @@ update_wakes s past t k valid run lt up =
 
 -- and none where no letter is kept
 pub no_wakes : (s : ScriptData) (past : List Entry) (t k : ℕ) → IsValid s → IsStepRun s past → node_of s t k < s.nodes
-    → ((c : Core) (u : TreeNo) (j : SubNo) (w : Why) → IsKeptFor s c u j w → u.0 ≡ t → j.0 ≡ k → ⊥) → sent_in (wake_of t k) past ≡ 0
+    → ((c : Core) (u : TreeNo) (j : SubNo) (w : KeepReason) → IsKeptFor s c u j w → u.0 ≡ t → j.0 ≡ k → ⊥) → sent_in (wake_of t k) past ≡ 0
 no_wakes s past t k valid run lt never =
     omega (arith, wakes_and_kept s past t k valid run lt, never_kept s past t k valid run never)
 

@@ -4,8 +4,8 @@ use Rattle.letter_types.specs.declared.acts.Act.{Act}
 use Rattle.letter_types.specs.declared.acts.Act.TheVariants.{Parked, Waits}
 use Rattle.letter_types.specs.declared.entries.Entry.{Entry}
 use Rattle.letter_types.specs.declared.kept.KeptLetter.{KeptLetter}
-use Rattle.letter_types.specs.declared.kept.Why.{Why}
-use Rattle.letter_types.specs.declared.kept.Why.TheVariants.{Called, ForHolder, ForShow}
+use Rattle.letter_types.specs.declared.kept.KeepReason.{KeepReason}
+use Rattle.letter_types.specs.declared.kept.KeepReason.TheVariants.{Called, ForHolder, ForShow}
 use Rattle.tx_trees.specs.ScriptData.{ScriptData, home_of}
 use Rattle.tx_trees.specs.Valid.{IsValid}
 use Rattle.world_model.specs.Counts.{one_if, tally}
@@ -33,7 +33,7 @@ waitings [] t = 0
 waitings (e ∷ past) t = tally (waits_for t) e.acts + waitings past t
 
 -- a letter of tree t that is kept for a Show
-abbrev pub shown_as : ℕ → ℕ → Why → ℕ
+abbrev pub shown_as : ℕ → ℕ → KeepReason → ℕ
 shown_as t u ForShow = one_if (u == t)
 shown_as t u (ForHolder g) = 0
 shown_as t u Called = 0

@@ -4,8 +4,8 @@ use Rattle.tv_base.specs.declared.numbers.ItemNo.{ItemNo}
 use Rattle.tv_base.specs.declared.numbers.TreeNo.{TreeNo}
 use Rattle.letter_types.specs.declared.entries.Entry.{Entry}
 use Rattle.letter_types.specs.declared.kept.KeptLetter.{KeptLetter}
-use Rattle.letter_types.specs.declared.kept.Why.{Why}
-use Rattle.letter_types.specs.declared.kept.Why.TheVariants.{Called, ForHolder, ForShow}
+use Rattle.letter_types.specs.declared.kept.KeepReason.{KeepReason}
+use Rattle.letter_types.specs.declared.kept.KeepReason.TheVariants.{Called, ForHolder, ForShow}
 use Rattle.letter_types.specs.declared.votes.Cause.TheVariants.{Conflict}
 use Rattle.script_parts.specs.Counts.{has_strict}
 use Rattle.script_parts.specs.ScriptData.{node_of, updates, visits}
@@ -34,7 +34,7 @@ pub record IsHolder (s : ScriptData) (past : List Entry) (p t : ℕ) : Type 0 wh
 -- until a version is shown the root of a strict tree is kept, where the version that is updated is two above the one that is
 -- read; until a tree lets go a subtransaction of an update tree, where the node has a lock of that tree which is in the way;
 -- and what is called has a Wake in flight
-abbrev pub IsKeptUntil : ScriptData → List Entry → ℕ → KeptLetter → Why → Type 0
+abbrev pub IsKeptUntil : ScriptData → List Entry → ℕ → KeptLetter → KeepReason → Type 0
 IsKeptUntil s past p x ForShow =
     (is_strict_at s x.tree.0 ≡ true) × ((x.sub.0 ≡ 0) × ((node_in s past p).turns.update.0 ≡ (node_in s past p).turns.read.0 + 2))
 IsKeptUntil s past p x (ForHolder h) =

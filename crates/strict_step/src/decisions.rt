@@ -26,7 +26,7 @@ use tree_step::{
 };
 use tv_base::{ActorNo, NoMemory, NodeNo, TreeNo, Version};
 use tx_trees::Script;
-use world_model::Refusal;
+use world_model::NegativeVote;
 
 /// One act.
 fn one_act(alloc: Global, act: Act) -> Result<Acts, NoMemory>
@@ -183,7 +183,7 @@ fn dropped(answered: &Option<Answered>) -> VoteChange
 /// The answer of a strict tree that has this no, if it has one.
 fn answer_by(
     alloc: Global,
-    refusal: Option<Refusal>,
+    refusal: Option<NegativeVote>,
     answered: Answered,
 ) -> Result<Answer, NoMemory>
     ensures { IfOk result (λ answer. answer ≡ answer_by refusal answered) }

@@ -27,10 +27,10 @@ use tree_step::{
 };
 use tv_base::{NoMemory, SubNo, TreeNo, Version};
 use tx_trees::{Script, SubOp};
-use world_model::Refusal;
+use world_model::NegativeVote;
 
 /// Of two noes that of the lesser number.
-fn lesser(old: Option<Refusal>, new: Refusal) -> Refusal
+fn lesser(old: Option<NegativeVote>, new: NegativeVote) -> NegativeVote
     ensures { result ≡ lesser old new }
 {
     match old {
@@ -43,7 +43,7 @@ fn lesser(old: Option<Refusal>, new: Refusal) -> Refusal
 fn note_no(refusals: &Refusals, tree: TreeNo, sub: SubNo, cause: Cause) -> VoteChange
     ensures { result ≡ noted_no tree sub cause (by_tree refusals.now) }
 {
-    let refusal = lesser(refusals.of(tree), Refusal { sub, cause });
+    let refusal = lesser(refusals.of(tree), NegativeVote { sub, cause });
     VoteChange::Note { tree, refusal }
 }
 

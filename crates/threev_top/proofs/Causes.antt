@@ -7,7 +7,7 @@ use Rattle.tv_base.specs.declared.moving.TheConstants.{MOST_BYTES}
 use Rattle.command_words.specs.Lines.{HasReadLine}
 use Rattle.command_words.specs.declared.Line.{Line}
 use Rattle.command_words.specs.declared.Line.TheVariants as lines
-use Rattle.command_words.specs.declared.Mode.{Mode}
+use Rattle.command_words.specs.declared.ScriptMode.{ScriptMode}
 use Rattle.command_words.specs.declared.WordsError.{WordsError}
 use Rattle.command_words.specs.declared.WordsError.TheVariants as errors
 use Rattle.letter_types.specs.declared.entries.Entry.{Entry}
@@ -21,11 +21,11 @@ use Rattle.history_audit.specs.declared.source_audit.AuditStop.TheVariants as au
 use Rattle.threev_top.specs.Calls.{HasCause, IsText, IsTextOf}
 use Rattle.threev_top.specs.inside.Calls.{audit_stop, reading_stop, script_stop, words_stop}
 
-abbrev reads : Mode → Option Line
+abbrev reads : ScriptMode → Option Line
 reads mode = Some (lines.OfScript mode)
 
 -- the bytes that were handed on are those that were read
-pub text_of_source : (mode : Mode) (left now : Option (List ℕ)) (bytes handed : List ℕ) (script : ScriptData)
+pub text_of_source : (mode : ScriptMode) (left now : Option (List ℕ)) (bytes handed : List ℕ) (script : ScriptData)
     (history : List Entry) (text : List ℕ) → ReadsAll left now bytes → handed ≡ bytes → read_of handed ≡ Ok script
     → IsText mode script history text → IsTextOf mode left now history text
 text_of_source mode left now bytes handed script history text all same is is_text = record {
@@ -37,7 +37,7 @@ text_of_source mode left now bytes handed script history text all same is is_tex
 }
 
 -- reading gave no bytes
-pub reading_cause : (mode : Mode) (left now : Option (List ℕ)) (failed never : Type 0) (end : ReadEnd)
+pub reading_cause : (mode : ScriptMode) (left now : Option (List ℕ)) (failed never : Type 0) (end : ReadEnd)
     → (end ≡ ends.TooLong → HasMoreThan MOST_BYTES left) → (end ≡ ends.Failed → failed)
     → HasCause (reads mode) left now failed never (reading_stop end)
 reading_cause mode left now failed never ends.TooLong long fault = (refl, inr (refl, long refl))
@@ -45,7 +45,7 @@ reading_cause mode left now failed never ends.Failed long fault = (refl, fault r
 reading_cause mode left now failed never ends.NoMemory long fault = tt
 
 -- the bytes are no script
-pub script_cause : (mode : Mode) (left now : Option (List ℕ)) (failed never : Type 0) (bytes handed : List ℕ)
+pub script_cause : (mode : ScriptMode) (left now : Option (List ℕ)) (failed never : Type 0) (bytes handed : List ℕ)
     (refusal : ScriptRefusal) → ReadsAll left now bytes → handed ≡ bytes → Gives (Err refusal) (read_of handed)
     → HasCause (reads mode) left now failed never (script_stop refusal)
 script_cause mode left now failed never bytes handed (refusals.Fault f) all same is =

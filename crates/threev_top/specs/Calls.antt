@@ -8,8 +8,8 @@ use Rattle.history_audit.specs.declared.source_audit.HistoryFault.{HistoryFault}
 use Rattle.history_audit.specs.declared.source_audit.TheConstants.{MOST_AUDIT_BYTES}
 use Rattle.command_words.specs.declared.Line.{Line}
 use Rattle.command_words.specs.declared.Line.TheVariants as lines
-use Rattle.command_words.specs.declared.Mode.{Mode}
-use Rattle.command_words.specs.declared.Mode.TheVariants as modes
+use Rattle.command_words.specs.declared.ScriptMode.{ScriptMode}
+use Rattle.command_words.specs.declared.ScriptMode.TheVariants as modes
 use Rattle.letter_types.specs.declared.entries.Entry.{Entry}
 use Rattle.tx_trees.specs.ScriptData.{ScriptData}
 use Rattle.tx_trees.specs.declared.why.Why.TheVariants as why
@@ -37,14 +37,14 @@ report_with true s h = report_of s h ++ history_lines_of s h
 
 -- what a mode writes of a script, and the history that it gives: a run has the headline; on one thread letters are
 -- taken by the script's picks, and then by the draws of a seed, or without one the oldest first
-abbrev pub IsText : Mode → ScriptData → List Entry → List ℕ → Type 0
+abbrev pub IsText : ScriptMode → ScriptData → List Entry → List ℕ → Type 0
 IsText modes.Check s h text = (h ≡ []) × (text ≡ check_line_of s)
 IsText (modes.Sim seed lines) s h text = HasEnded s h × IsScheduled s seed h × (text ≡ report_with lines s h)
 IsText (modes.Run workers lines) s h text = HasHeadline s h × (text ≡ report_with lines s h)
 IsText modes.Upgrade s h text = (h ≡ []) × (text ≡ written (upgraded s))
 
 -- all bytes that the source had are a script, and this is its history and text in this mode
-pub record IsTextOf (mode : Mode) (left now : Option (List ℕ)) (history : List Entry) (text : List ℕ) : Type 0 where
+pub record IsTextOf (mode : ScriptMode) (left now : Option (List ℕ)) (history : List Entry) (text : List ℕ) : Type 0 where
   pub bytes : List ℕ
   pub all : ReadsAll left now bytes
   pub script : ScriptData

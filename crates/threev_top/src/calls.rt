@@ -12,7 +12,7 @@ ghost use Rattle.threev_top.specs.declared.stops.Stop.TheVariants as stops;
 ghost use Rattle.tv_base.specs.Outside.{AppendsFront, Rose};
 
 use crate::making::made_by_words;
-use crate::modes::Made;
+use crate::modes::MadeText;
 use crate::stops::Stop;
 use crate::texts::{entry_line, fault_line};
 use command_words::WordsError;
@@ -70,7 +70,7 @@ struct Outcome {
 }
 
 /// Writes what was made.
-fn write<K: Sink>(made: Made, out: &mut K) -> Outcome
+fn write<K: Sink>(made: MadeText, out: &mut K) -> Outcome
     ensures wrote { result.stop ≡ None → Appends (K.written out.old) (K.written out.new) (bytes_of made.output) }
     ensures front { result.stop ≡ Some stops.Writing
         → AppendsFront (K.written out.old) (K.written out.new) (bytes_of made.output) }
@@ -78,7 +78,7 @@ fn write<K: Sink>(made: Made, out: &mut K) -> Outcome
         → (s ≡ stops.Writing) × Rose (K.faults out.old) (K.faults out.new) }
     ensures history { result.history ≡ made.history }
 {
-    let Made {
+    let MadeText {
         history,
         output,
         script,

@@ -11,9 +11,9 @@ ghost use Rattle.threev_top.specs.inside.Calls.{bytes_of};
 ghost use Rattle.tv_base.specs.Outside.{HasTaken, Rose};
 ghost use Rattle.tv_base.specs.declared.moving.TheConstants.{MOST_BYTES};
 
-use crate::modes::{Made, Output, made_of_script};
+use crate::modes::{MadeText, Output, made_of_script};
 use crate::stops::Stop;
-use command_words::{Line, Mode, read_words};
+use command_words::{Line, ScriptMode, read_words};
 use history_audit::audit_source;
 use node_threads::run;
 use report_text::summary;
@@ -32,7 +32,7 @@ fn soaked<R: Threads + Wait + Sync, G: Gate + Sync>(
     seed: u64,
     trees: u32,
     gate: &G,
-) -> Result<Made, NoMemory>
+) -> Result<MadeText, NoMemory>
     requires workers { (1 ≤ workers) × (workers ≤ 32) }
     requires trees { trees ≤ 20000 }
     ensures headline { IfOk result (λ made. HasHeadline (generated seed trees) made.history) }
@@ -43,7 +43,7 @@ fn soaked<R: Threads + Wait + Sync, G: Gate + Sync>(
     let _valid = script.nodes();
     let history = run(rt, alloc, &script, workers, gate)?;
     let text = summary(alloc, &script, &history, seed)?;
-    Ok(Made {
+    Ok(MadeText {
         history,
         output: Output::Text(text),
         script: Some(script),
@@ -54,10 +54,10 @@ fn soaked<R: Threads + Wait + Sync, G: Gate + Sync>(
 fn made_of_source<R: Threads + Wait + Sync, S: Source, G: Gate + Sync>(
     rt: &R,
     alloc: Global,
-    mode: Mode,
+    mode: ScriptMode,
     source: &mut S,
     gate: &G,
-) -> Result<Made, Stop>
+) -> Result<MadeText, Stop>
     requires { HasWorkers mode }
     ensures made { IfOk result (λ made. IsTextOf mode (S.left source.old) (S.left source.new) made.history
         (bytes_of made.output)) }
@@ -78,7 +78,7 @@ fn made_by_line<R: Threads + Wait + Sync, S: Source, G: Gate + Sync>(
     line: Line,
     source: &mut S,
     gate: &G,
-) -> Result<Made, Stop>
+) -> Result<MadeText, Stop>
     requires { IsInRange line }
     ensures made { IfOk result (λ made. IsTextBy line (S.left source.old) (S.left source.new) made.history
         (bytes_of made.output)) }
@@ -99,10 +99,10 @@ fn made_by_line<R: Threads + Wait + Sync, S: Source, G: Gate + Sync>(
         }
         Line::Audit => {
             let text = audit_source(alloc, source)?;
-            Ok(Made::without_run(alloc, Output::Text(text)))
+            Ok(MadeText::without_run(alloc, Output::Text(text)))
         }
-        Line::Help => Ok(Made::without_run(alloc, Output::Help)),
-        Line::Version => Ok(Made::without_run(alloc, Output::Version)),
+        Line::Help => Ok(MadeText::without_run(alloc, Output::Help)),
+        Line::Version => Ok(MadeText::without_run(alloc, Output::Version)),
     }
 }
 
@@ -113,7 +113,7 @@ pub(crate) fn made_by_words<R: Threads + Wait + Sync, S: Source, G: Gate + Sync>
     words: &[String],
     source: &mut S,
     gate: &G,
-) -> Result<Made, Stop>
+) -> Result<MadeText, Stop>
     ensures made { IfOk result (λ made. WroteBy (λ text. text ≡ bytes_of made.output)
         (line_of (map string_bytes words.now)) (S.left source.old) (S.left source.new) made.history) }
     ensures cause { IfErr result (λ stop. HasCause (line_of (map string_bytes words.now)) (S.left source.old)

@@ -11,7 +11,7 @@ ghost use Rattle.tx_trees.specs.Adding.{upgraded};
 ghost use Rattle.world_model.specs.Scheduled.{IsScheduled};
 
 use crate::texts::{HELP, VERSION};
-use command_words::Mode;
+use command_words::ScriptMode;
 use history_text::history_lines_behind;
 use letter_types::History;
 use node_threads::run;
@@ -47,19 +47,19 @@ impl Output {
 
 /// What is to be written, and the history and script of the run that it is of, if there was one.
 #[derive(Drop)]
-pub(crate) struct Made {
+pub(crate) struct MadeText {
     pub(crate) history: History,
     pub(crate) output: Output,
     pub(crate) script: Option<Script>,
 }
 
-impl Made {
+impl MadeText {
     /// A text for which nothing was run.
-    pub(crate) fn without_run(alloc: Global, output: Output) -> Made
+    pub(crate) fn without_run(alloc: Global, output: Output) -> MadeText
         ensures history { result.history ≡ [] }
         ensures output { result.output ≡ output }
     {
-        Made {
+        MadeText {
             history: History::new(alloc),
             output,
             script: None,
@@ -90,14 +90,14 @@ fn simulated(
     script: Script,
     seed: Option<u64>,
     lines: bool,
-) -> Result<Made, NoMemory>
+) -> Result<MadeText, NoMemory>
     ensures ended { IfOk result (λ made. HasEnded script made.history) }
     ensures scheduled { IfOk result (λ made. IsScheduled script seed made.history) }
     ensures text { IfOk result (λ made. bytes_of made.output ≡ report_with lines script made.history) }
 {
     let history = simulate(alloc, &script, seed)?;
     let text = report_with(alloc, &script, &history, lines)?;
-    Ok(Made {
+    Ok(MadeText {
         history,
         output: Output::Text(text),
         script: Some(script),
@@ -112,7 +112,7 @@ fn ran<R: Threads + Wait + Sync, G: Gate + Sync>(
     workers: u32,
     lines: bool,
     gate: &G,
-) -> Result<Made, NoMemory>
+) -> Result<MadeText, NoMemory>
     requires { (1 ≤ workers) × (workers ≤ 32) }
     ensures headline { IfOk result (λ made. HasHeadline script made.history) }
     ensures text { IfOk result (λ made. bytes_of made.output ≡ report_with lines script made.history) }
@@ -121,7 +121,7 @@ fn ran<R: Threads + Wait + Sync, G: Gate + Sync>(
     let _valid = script.nodes();
     let history = run(rt, alloc, &script, workers, gate)?;
     let text = report_with(alloc, &script, &history, lines)?;
-    Ok(Made {
+    Ok(MadeText {
         history,
         output: Output::Text(text),
         script: Some(script),
@@ -129,40 +129,40 @@ fn ran<R: Threads + Wait + Sync, G: Gate + Sync>(
 }
 
 /// The line that counts a script's parts.
-fn counts_of(alloc: Global, script: &Script) -> Result<Made, NoMemory>
+fn counts_of(alloc: Global, script: &Script) -> Result<MadeText, NoMemory>
     ensures history { IfOk result (λ made. made.history ≡ []) }
     ensures text { IfOk result (λ made. bytes_of made.output ≡ check_line_of script.now) }
 {
     let text = check_line(alloc, script)?;
-    Ok(Made::without_run(alloc, Output::Text(text)))
+    Ok(MadeText::without_run(alloc, Output::Text(text)))
 }
 
 /// The text of the script in the second form.
-fn upgraded_of(alloc: Global, script: Script) -> Result<Made, NoMemory>
+fn upgraded_of(alloc: Global, script: Script) -> Result<MadeText, NoMemory>
     ensures history { IfOk result (λ made. made.history ≡ []) }
     ensures text { IfOk result (λ made. bytes_of made.output ≡ written (upgraded script)) }
 {
     let mut script = script;
     script.upgrade();
     let text = write_script(alloc, &script)?;
-    Ok(Made::without_run(alloc, Output::Text(text)))
+    Ok(MadeText::without_run(alloc, Output::Text(text)))
 }
 
 /// What a mode makes of a script.
 pub(crate) fn made_of_script<R: Threads + Wait + Sync, G: Gate + Sync>(
     rt: &R,
     alloc: Global,
-    mode: Mode,
+    mode: ScriptMode,
     script: Script,
     gate: &G,
-) -> Result<Made, NoMemory>
+) -> Result<MadeText, NoMemory>
     requires { HasWorkers mode }
     ensures { IfOk result (λ made. IsText mode script made.history (bytes_of made.output)) }
 {
     match mode {
-        Mode::Check => counts_of(alloc, &script),
-        Mode::Sim { seed, history } => simulated(alloc, script, seed, history),
-        Mode::Run { workers, history } => ran(rt, alloc, script, workers, history, gate),
-        Mode::Upgrade => upgraded_of(alloc, script),
+        ScriptMode::Check => counts_of(alloc, &script),
+        ScriptMode::Sim { seed, history } => simulated(alloc, script, seed, history),
+        ScriptMode::Run { workers, history } => ran(rt, alloc, script, workers, history, gate),
+        ScriptMode::Upgrade => upgraded_of(alloc, script),
     }
 }

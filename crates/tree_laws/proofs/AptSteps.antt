@@ -17,7 +17,7 @@ use Rattle.letter_types.specs.declared.entries.Entry.{Entry}
 use Rattle.letter_types.specs.declared.entries.Letter.{Letter}
 use Rattle.letter_types.specs.declared.entries.Outgoing.{Outgoing}
 use Rattle.letter_types.specs.declared.kept.KeptLetter.{KeptLetter}
-use Rattle.letter_types.specs.declared.kept.Why.{Why}
+use Rattle.letter_types.specs.declared.kept.KeepReason.{KeepReason}
 use Rattle.letter_types.specs.Kept.{kept_without, wakes}
 use Rattle.letter_types.specs.Steps.{Out, still}
 use Rattle.tx_trees.proofs.SubsOf.{names_end, sub_nodes}
@@ -91,7 +91,7 @@ wake_none : (f : Outgoing → ℕ) (b : Bool) (o : Outgoing) (os : List Outgoing
 wake_none f true o os one none = omega (arith, one, none)
 wake_none f false o os one none = none
 
-pub wakes_none : (f : Outgoing → ℕ) (test : Why → Bool) (kept : List KeptLetter)
+pub wakes_none : (f : Outgoing → ℕ) (test : KeepReason → Bool) (kept : List KeptLetter)
     → ((x : KeptLetter) → f (record { to = x.letter.to; body = Wake x.tree x.sub }) ≡ 0) → tally f (wakes test kept) ≡ 0
 wakes_none f test [] none = refl
 wakes_none f test (x ∷ xs) none =

@@ -25,7 +25,7 @@ use Rattle.tree_home.specs.declared.homes.Answered.{Answered as AnsweredTree}
 use Rattle.tree_home.specs.declared.homes.Held.{Held}
 use Rattle.tx_trees.specs.ScriptData.{ScriptData, home_of, subs_at}
 use Rattle.tx_trees.specs.Valid.{IsValid}
-use Rattle.world_model.specs.declared.refusal.Refusal.{Refusal}
+use Rattle.world_model.specs.declared.refusal.NegativeVote.{NegativeVote}
 use Rattle.world_model.specs.AllApt.{AllApt}
 use Rattle.world_model.specs.Core.{Core, Refusals, lesser, refused_by}
 use Rattle.world_model.specs.Counts.{one_if, tally}
@@ -60,19 +60,19 @@ use Rattle.tree_laws.proofs.Staging.{told_one}
 abbrev pub refusing : ScriptData → List Entry → ℕ → ℕ
 refusing s past t = tally (λ (l : Letter). tells_no t l.body) (in_flight s past)
 
-abbrev pub refusal_at : ScriptData → List Entry → ℕ → Option Refusal
+abbrev pub refusal_at : ScriptData → List Entry → ℕ → Option NegativeVote
 refusal_at s past t = (keeping_in s past (home_of s t)).core.refusals t
 
 -- a no is kept in mind exactly where more were cast than are in flight
-abbrev pub KeepsNo : Option Refusal → ℕ → ℕ → Type 0
+abbrev pub KeepsNo : Option NegativeVote → ℕ → ℕ → Type 0
 KeepsNo None cast flying = cast ≡ flying
 KeepsNo (Some r) cast flying = flying + 1 ≤ cast
 
-keeps_on : (o : Option Refusal) (cast flying cast_now flying_now : ℕ) → cast_now + flying ≡ cast + flying_now → KeepsNo o cast flying → KeepsNo o cast_now flying_now
+keeps_on : (o : Option NegativeVote) (cast flying cast_now flying_now : ℕ) → cast_now + flying ≡ cast + flying_now → KeepsNo o cast flying → KeepsNo o cast_now flying_now
 keeps_on None cast flying cast_now flying_now same it = omega (arith, same, it)
 keeps_on (Some r) cast flying cast_now flying_now same it = omega (arith, same, it)
 
-keeps_new : (o : Option Refusal) (cast flying cast_now flying_now : ℕ) → cast_now + flying ≡ cast + flying_now + 1 → KeepsNo o cast flying
+keeps_new : (o : Option NegativeVote) (cast flying cast_now flying_now : ℕ) → cast_now + flying ≡ cast + flying_now + 1 → KeepsNo o cast flying
     → flying_now + 1 ≤ cast_now
 keeps_new None cast flying cast_now flying_now more it = omega (arith, more, it)
 keeps_new (Some r) cast flying cast_now flying_now more it = omega (arith, more, it)
@@ -94,7 +94,7 @@ record LeavesVotes (s : ScriptData) (past : List Entry) (e : Entry) (t : ℕ) : 
 votes_stay : (s : ScriptData) (past : List Entry) (e : Entry) (t : ℕ) → LeavesVotes s past e t → Votes s past t → Votes s (e ∷ past) t
 votes_stay s past e t l v = record {
   keeps = λ is.
-      subst (λ (o : Option Refusal). KeepsNo o (noes (e ∷ past) t) (refusing s (e ∷ past) t)) (sym l.refusal)
+      subst (λ (o : Option NegativeVote). KeepsNo o (noes (e ∷ past) t) (refusing s (e ∷ past) t)) (sym l.refusal)
       (keeps_on (refusal_at s past t) (noes past t) (refusing s past t) (noes (e ∷ past) t) (refusing s (e ∷ past) t)
       (omega (arith, l.cast, l.flying)) (v.keeps (omega (arith, is))));
   commits = λ some. omega (arith, l.cast, v.commits (omega (arith, some, l.decided)));
@@ -158,7 +158,7 @@ casts s past e p w r g =
     }
 
 -- the refusal at tree w's home, where node p goes on
-refusal_by : (s : ScriptData) (past : List Entry) (e : Entry) (p w : ℕ) (o : Option Refusal) → e.actor.0 ≡ p
+refusal_by : (s : ScriptData) (past : List Entry) (e : Entry) (p w : ℕ) (o : Option NegativeVote) → e.actor.0 ≡ p
     → (keeping_in s (e ∷ past) p).core.refusals w ≡ o → o ≡ (keeping_in s past p).core.refusals w → (p ≡ home_of s w) ⊎ (p ≢ home_of s w)
     → refusal_at s (e ∷ past) w ≡ refusal_at s past w
 refusal_by s past e p w o at is same (inl here) =
@@ -184,7 +184,7 @@ there_other : (t : TreeNo) (k : SubNo) (notice : Notice) (c : Core) (w : ℕ) (t
 there_other t k notice c w true ne = refused_other t k notice c.refusals w ne
 there_other t k notice c w false ne = refl
 
-if_same : (test : Bool) (x y : Option Refusal) → x ≡ y → (if test then x else y) ≡ y
+if_same : (test : Bool) (x y : Option NegativeVote) → x ≡ y → (if test then x else y) ≡ y
 if_same true x y is = is
 if_same false x y is = refl
 
@@ -302,7 +302,7 @@ record Own (s : ScriptData) (past : List Entry) (e : Entry) (p : ℕ) (t : TreeN
   quiet : home_at s (e ∷ past) t.0 ≡ None → refusing s (e ∷ past) t.0 ≡ 0
 
 -- by the refusal
-decided_now : (t : ℕ) (rs : Refusals) (a : AnsweredTree) (o : Option Refusal) (cast flying : ℕ) → rs a.tree.0 ≡ o → KeepsNo o cast flying
+decided_now : (t : ℕ) (rs : Refusals) (a : AnsweredTree) (o : Option NegativeVote) (cast flying : ℕ) → rs a.tree.0 ≡ o → KeepsNo o cast flying
     → flying ≡ 0
     → (1 ≤ tally (has_decided t true) (ruled_acts rs (Some a)) → cast ≡ 0) × (1 ≤ tally (has_decided t false) (ruled_acts rs (Some a)) → 1 ≤ cast)
 decided_now t rs a None cast flying is keeps none =
@@ -366,7 +366,7 @@ closed_quiet s past t born gone (Gathers h it) = absurd (let there = it.home in 
 closed_quiet s past t born gone (Holds h it) = no_noes t (in_flight s past) (λ k. it.all.notes k)
 closed_quiet s past t born gone (Answered it) = no_noes t (in_flight s past) (λ k. it.all.notes k)
 
-refusal_here : (s : ScriptData) (past : List Entry) (e : Entry) (p : ℕ) (t : ℕ) (o : Option Refusal) → p ≡ home_of s t
+refusal_here : (s : ScriptData) (past : List Entry) (e : Entry) (p : ℕ) (t : ℕ) (o : Option NegativeVote) → p ≡ home_of s t
     → (keeping_in s (e ∷ past) p).core.refusals t ≡ o → refusal_at s (e ∷ past) t ≡ o
 refusal_here s past e p t o at is = subst (λ (q : ℕ). (keeping_in s (e ∷ past) q).core.refusals t ≡ o) at is
 
@@ -374,8 +374,8 @@ refusal_here s past e p t o at is = subst (λ (q : ℕ). (keeping_in s (e ∷ pa
 root_keeps : (t : TreeNo) (notice : Notice) (rs : Refusals) (cast flying cast_now flying_now : ℕ) → cast_now ≡ cast + is_no t.0 notice t.0
     → flying_now ≡ flying → KeepsNo (rs t.0) cast flying → KeepsNo (refused_by t (record { 0 = 0 }) notice rs t.0) cast_now flying_now
 root_keeps t (No cause) rs cast flying cast_now flying_now more same it =
-    let kept : Option Refusal = Some (lesser (rs t.0) (record { sub = record { 0 = 0 }; cause = cause })) in
-    subst (λ (o : Option Refusal). KeepsNo o cast_now flying_now) (sym (put_at-same t.0 kept rs))
+    let kept : Option NegativeVote = Some (lesser (rs t.0) (record { sub = record { 0 = 0 }; cause = cause })) in
+    subst (λ (o : Option NegativeVote). KeepsNo o cast_now flying_now) (sym (put_at-same t.0 kept rs))
     (keeps_new (rs t.0) cast flying cast_now flying_now (omega (arith, more, same, one_here t.0 t.0 refl)) it)
 root_keeps t (Yes values) rs cast flying cast_now flying_now more same it =
     keeps_on (rs t.0) cast flying cast_now flying_now (omega (arith, more, same)) it
@@ -402,11 +402,11 @@ root_votes s past e p t r g is lt v =
       home = at;
       rules = λ u its. subst (λ (b : Body). Rules u b) is its;
       undecided = (once_in_run s past t.0 g.valid g.apt.1 g.run.1 lt).unborn none;
-      keeps = subst (λ (o : Option Refusal). KeepsNo o (noes (e ∷ past) t.0) (refusing s (e ∷ past) t.0)) (sym now)
+      keeps = subst (λ (o : Option NegativeVote). KeepsNo o (noes (e ∷ past) t.0) (refusing s (e ∷ past) t.0)) (sym now)
           (root_keeps t k.notice c.refusals (noes past t.0) (refusing s past t.0) (noes (e ∷ past) t.0) (refusing s (e ∷ past) t.0)
           (omega (arith, k.cast, ap (no_for t.0 k.notice) is))
           (omega (arith, k.flying, ap (tells_no t.0) is, ap (no_told t.0 k.notice) is))
-          (subst (λ (o : Option Refusal). KeepsNo o (noes past t.0) (refusing s past t.0)) (sym before) (v.keeps silent)));
+          (subst (λ (o : Option NegativeVote). KeepsNo o (noes past t.0) (refusing s past t.0)) (sym before) (v.keeps silent)));
       quiet = λ gone.
           closed_quiet s (e ∷ past) t.0 (omega (arith, turned_here s past e p t.0 0 r g, one)) gone
           (stages_of_trees s (e ∷ past) g.valid g.apt g.run t.0 lt);
@@ -438,7 +438,7 @@ sub_votes s past e p t k x r g is lt v =
     (cases_eq p (home_of s t.0)) in
     record {
       keeps = λ silent.
-          subst (λ (o : Option Refusal). KeepsNo o (noes (e ∷ past) t.0) (refusing s (e ∷ past) t.0)) (sym same)
+          subst (λ (o : Option NegativeVote). KeepsNo o (noes (e ∷ past) t.0) (refusing s (e ∷ past) t.0)) (sym same)
           (keeps_on (refusal_at s past t.0) (noes past t.0) (refusing s past t.0) (noes (e ∷ past) t.0) (refusing s (e ∷ past) t.0)
           (omega (
             arith,
@@ -470,8 +470,8 @@ there_keeps s t k notice c true cast flying cast_now flying_now fits miss same l
 
       strict : (n : Notice) → flying_now + is_no t.0 n t.0 ≡ flying → KeepsNo (refused_by t k n c.refusals t.0) cast_now flying_now
       strict (No cause) fewer =
-          let kept : Option Refusal = Some (lesser (c.refusals t.0) (record { sub = k; cause = cause })) in
-          subst (λ (o : Option Refusal). KeepsNo o cast_now flying_now) (sym (put_at-same t.0 kept c.refusals))
+          let kept : Option NegativeVote = Some (lesser (c.refusals t.0) (record { sub = k; cause = cause })) in
+          subst (λ (o : Option NegativeVote). KeepsNo o cast_now flying_now) (sym (put_at-same t.0 kept c.refusals))
           (keeps_new (c.refusals t.0) cast flying cast_now flying_now (omega (arith, same, fewer, one_here t.0 t.0 refl)) it)
       strict (Yes values) fewer = keeps_on (c.refusals t.0) cast flying cast_now flying_now (omega (arith, same, fewer)) it
       strict (DidNotice values) fewer = keeps_on (c.refusals t.0) cast flying cast_now flying_now (omega (arith, same, fewer)) it
@@ -491,12 +491,12 @@ note_votes s past e p t k x notice r g is lt (Now h it) v =
       home = n.home;
       rules = λ u its. subst (λ (y : Body). Rules u y) is its;
       undecided = (once_in_run s past t.0 g.valid g.apt.1 g.run.1 lt).opened h it.home;
-      keeps = subst (λ (o : Option Refusal). KeepsNo o (noes (e ∷ past) t.0) (refusing s (e ∷ past) t.0)) (sym now)
+      keeps = subst (λ (o : Option NegativeVote). KeepsNo o (noes (e ∷ past) t.0) (refusing s (e ∷ past) t.0)) (sym now)
           (there_keeps s t k notice c (is_strict_at s t.0) (noes past t.0) (refusing s past t.0) (noes (e ∷ past) t.0) (refusing s (e ∷ past) t.0)
           n.suits (note_missed s past e p t k x notice r h g is n.home n.below it)
           (omega (arith, b.cast, ap (no_for t.0 b.notice) is))
           (omega (arith, b.flying, ap (tells_no t.0) is, ap (no_told t.0 b.notice) is))
-          (subst (λ (o : Option Refusal). KeepsNo o (noes past t.0) (refusing s past t.0)) (sym before) (v.keeps it.answers)));
+          (subst (λ (o : Option NegativeVote). KeepsNo o (noes past t.0) (refusing s past t.0)) (sym before) (v.keeps it.answers)));
       quiet = λ gone.
           closed_quiet s (e ∷ past) t.0 (omega (arith, it.root)) gone (stages_of_trees s (e ∷ past) g.valid g.apt g.run t.0 lt);
     })
@@ -531,7 +531,7 @@ ack_votes s past e p t x r g is lt v =
       keeps = λ silent.
           let same : refusals_after (answer_when_acked t c.holds) c.refusals t.0 ≡ c.refusals t.0 =
           acked_keeps s t c.refusals (held_in t c.holds) names (sym sent ∙ omega (arith, silent)) in
-          subst (λ (o : Option Refusal). KeepsNo o (noes (e ∷ past) t.0) (refusing s (e ∷ past) t.0)) (sym (now ∙ same ∙ before))
+          subst (λ (o : Option NegativeVote). KeepsNo o (noes (e ∷ past) t.0) (refusing s (e ∷ past) t.0)) (sym (now ∙ same ∙ before))
           (keeps_on (refusal_at s past t.0) (noes past t.0) (refusing s past t.0) (noes (e ∷ past) t.0) (refusing s (e ∷ past) t.0)
           (omega (arith, cast, flying)) (v.keeps (omega (arith, silent))));
       commits = λ some. omega (arith, cast, v.commits (omega (arith, some, quiet)));

@@ -16,7 +16,7 @@ use Rattle.tree_home.specs.declared.homes.Answered.{Answered}
 use Rattle.tx_trees.specs.ScriptData.{ScriptData, client_of, home_of, subs_at, visited_by}
 use Rattle.tx_trees.specs.declared.parts.TreeKind.{TreeKind}
 use Rattle.tx_trees.specs.declared.parts.TreeKind.TheVariants.{Update, Read, Strict}
-use Rattle.world_model.specs.declared.refusal.Refusal.{Refusal}
+use Rattle.world_model.specs.declared.refusal.NegativeVote.{NegativeVote}
 use Rattle.world_model.specs.Asked.{asked_ops, asked_version, tree_part}
 use Rattle.world_model.specs.Children.{done_letter, sub_letters}
 use Rattle.world_model.specs.Core.{Core, Refusals, refused_by}
@@ -61,7 +61,7 @@ no_told t notice Go = 0
 no_told t notice _ = 0
 
 -- the no of tree w that is kept in mind then
-abbrev pub refusal_after : ScriptData → Core → ℕ → Notice → Body → Option Refusal
+abbrev pub refusal_after : ScriptData → Core → ℕ → Notice → Body → Option NegativeVote
 refusal_after s c w notice (Root t) = refused_by t (record { 0 = 0 }) notice c.refusals w
 refusal_after s c w notice (Done t k v told) = if is_strict_at s t.0 then refused_there t k told c w else c.refusals w
 refusal_after s c w notice (Decided t v) = refusals_after (answer_when_acked t c.holds) c.refusals w

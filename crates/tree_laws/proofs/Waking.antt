@@ -13,7 +13,7 @@ use Rattle.letter_types.specs.declared.entries.Entry.{Entry}
 use Rattle.letter_types.specs.declared.entries.Letter.{Letter}
 use Rattle.letter_types.specs.declared.entries.Outgoing.{Outgoing}
 use Rattle.letter_types.specs.declared.kept.KeptLetter.{KeptLetter}
-use Rattle.letter_types.specs.declared.kept.Why.{Why}
+use Rattle.letter_types.specs.declared.kept.KeepReason.{KeepReason}
 use Rattle.letter_types.specs.Kept.{first_called, is_called, is_called_for, kept_without, wakes}
 use Rattle.letter_types.specs.Letters.{letters_of}
 use Rattle.script_parts.specs.ScriptData.{ScriptData, client_of}
@@ -52,7 +52,7 @@ no_wakes : (t : TreeNo) (k : SubNo) (p : ℕ) (os : List Outgoing) → HaveNoWak
 no_wakes t k p os none = omega (arith, few_wakes t k p os, none)
 
 -- A node's Wakes go to itself.
-own_wake : (t : TreeNo) (k : SubNo) (p : ℕ) (test : Why → Bool) (x : KeptLetter) (xs : List KeptLetter) (b : Bool) → x.letter.to.0 ≡ p
+own_wake : (t : TreeNo) (k : SubNo) (p : ℕ) (test : KeepReason → Bool) (x : KeptLetter) (xs : List KeptLetter) (b : Bool) → x.letter.to.0 ≡ p
     → test x.why ≡ b → tally (sent_wake t k p) (wakes test xs) ≡ tally (on (is_wake_of t k)) (wakes test xs)
     → tally (sent_wake t k p) (wakes test (x ∷ xs)) ≡ tally (on (is_wake_of t k)) (wakes test (x ∷ xs))
 own_wake t k p test x xs true to is rest =
@@ -60,19 +60,19 @@ own_wake t k p test x xs true to is rest =
     rw is (omega (arith, rest, ap (λ (b : Bool). if b then is_wake_of t k (Wake x.tree x.sub) else 0) here))
 own_wake t k p test x xs false to is rest = rw is rest
 
-own_wakes : (t : TreeNo) (k : SubNo) (p : ℕ) (test : Why → Bool) (xs : List KeptLetter) → AreKeptAt p xs
+own_wakes : (t : TreeNo) (k : SubNo) (p : ℕ) (test : KeepReason → Bool) (xs : List KeptLetter) → AreKeptAt p xs
     → tally (sent_wake t k p) (wakes test xs) ≡ tally (on (is_wake_of t k)) (wakes test xs)
 own_wakes t k p test [] all = refl
 own_wakes t k p test (x ∷ xs) all = own_wake t k p test x xs (test x.why) all.0.to refl (own_wakes t k p test xs all.1)
 
-other_wake : (t : TreeNo) (k : SubNo) (p : ℕ) (test : Why → Bool) (x : KeptLetter) (xs : List KeptLetter) (b : Bool) → x.letter.to.0 ≢ p
+other_wake : (t : TreeNo) (k : SubNo) (p : ℕ) (test : KeepReason → Bool) (x : KeptLetter) (xs : List KeptLetter) (b : Bool) → x.letter.to.0 ≢ p
     → test x.why ≡ b → tally (sent_wake t k p) (wakes test xs) ≡ 0 → tally (sent_wake t k p) (wakes test (x ∷ xs)) ≡ 0
 other_wake t k p test x xs true to is rest =
     let there : (x.letter.to.0 == p) ≡ false = grind (arith, nat_tests) in
     rw is (omega (arith, rest, ap (λ (b : Bool). if b then is_wake_of t k (Wake x.tree x.sub) else 0) there))
 other_wake t k p test x xs false to is rest = rw is rest
 
-other_wakes : (t : TreeNo) (k : SubNo) (p q : ℕ) (test : Why → Bool) (xs : List KeptLetter) → q ≢ p → AreKeptAt q xs
+other_wakes : (t : TreeNo) (k : SubNo) (p q : ℕ) (test : KeepReason → Bool) (xs : List KeptLetter) → q ≢ p → AreKeptAt q xs
     → tally (sent_wake t k p) (wakes test xs) ≡ 0
 other_wakes t k p q test [] ne all = refl
 other_wakes t k p q test (x ∷ xs) ne all =

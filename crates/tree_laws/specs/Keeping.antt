@@ -3,8 +3,8 @@ use Rattle.std.specs.Prelude.{◌≡◌, true, false, Some}
 use Rattle.tv_base.specs.declared.numbers.SubNo.{SubNo}
 use Rattle.tv_base.specs.declared.numbers.TreeNo.{TreeNo}
 use Rattle.letter_types.specs.declared.bodies.Body.{Body}
-use Rattle.letter_types.specs.declared.kept.Why.{Why}
-use Rattle.letter_types.specs.declared.kept.Why.TheVariants.{ForShow, ForHolder, Called}
+use Rattle.letter_types.specs.declared.kept.KeepReason.{KeepReason}
+use Rattle.letter_types.specs.declared.kept.KeepReason.TheVariants.{ForShow, ForHolder, Called}
 use Rattle.nc_locks.specs.declared.modes.Lock.{Lock}
 use Rattle.nc_locks.specs.declared.modes.Met.{Met}
 use Rattle.nc_locks.specs.declared.modes.Mode.TheVariants.{Mark}
@@ -17,7 +17,7 @@ use Rattle.world_model.specs.Strict.{CoreKeeping, core_keeping, is_born_now, mee
 
 -- until a version is shown only the root of a strict tree is kept, where it can't be born now; until a tree lets go only
 -- a subtransaction of an update tree, which meets a lock of that tree; and none because it is called
-abbrev pub IsKeptFor : ScriptData → Core → TreeNo → SubNo → Why → Type 0
+abbrev pub IsKeptFor : ScriptData → Core → TreeNo → SubNo → KeepReason → Type 0
 IsKeptFor s c t k ForShow = (is_strict_at s t.0 ≡ true) × (k.0 ≡ 0) × (is_born_now c.node ≡ false)
 IsKeptFor s c t k (ForHolder h) = (updates s t.0 ≡ true) × (m : Met) × (meets s t (ops_of s t.0 k.0) c ≡ Some m) × (m.holder ≡ h)
 IsKeptFor s c t k Called = ⊥

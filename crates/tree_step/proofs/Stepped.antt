@@ -15,7 +15,7 @@ use Rattle.tree_home.specs.Homes.{HomesData}
 use Rattle.tree_home.specs.Maps.{by_tree}
 use Rattle.tree_home.specs.declared.homes.OpenTree.{OpenTree}
 use Rattle.world_model.specs.Core.{Core}
-use Rattle.world_model.specs.declared.refusal.Refusal.{Refusal}
+use Rattle.world_model.specs.declared.refusal.NegativeVote.{NegativeVote}
 use Rattle.tree_step.specs.Changes.{MayChange, MayDo, MayHome, prepared_row}
 use Rattle.tree_step.specs.Node.{IsInWindow, Node, data_of}
 use Rattle.tree_step.specs.declared.change.Change.{Change}
@@ -65,7 +65,7 @@ asked_window n k v qs asked w = record {
 
 -- what is made of the parts, the locks, the noes and the held answers is the row
 pub stepped : (p : CorePrepared) (n : NodeCore) (mid parts : NodeParts) (locks : List Lock)
-    (refusals : List (TreeNo × Refusal)) (out : StepOut)
+    (refusals : List (TreeNo × NegativeVote)) (out : StepOut)
     → made (data_of mid) out ≡ prepared_row p.prepared (data_of n.parts)
     → data_of parts ≡ record (data_of mid) { counts = asked_with p.holds (data_of mid).counts }
     → locks ≡ locks_with p.votes n.locks

@@ -7,7 +7,7 @@ use Rattle.tree_home.specs.Maps.{by_tree}
 use Rattle.nc_locks.specs.declared.modes.Lock.{Lock}
 use Rattle.tx_trees.specs.ScriptData.{ScriptData}
 use Rattle.world_model.specs.Core.{Core}
-use Rattle.world_model.specs.declared.refusal.Refusal.{Refusal}
+use Rattle.world_model.specs.declared.refusal.NegativeVote.{NegativeVote}
 use Rattle.pair_counters.specs.Numbers.{AllBelow, MOST_COUNT}
 use Rattle.pair_counters.specs.Rows.{counts_of}
 use Rattle.tree_step.specs.Node.{IsInWindow, IsReady, data_of}
@@ -15,7 +15,7 @@ use Rattle.tree_step.specs.declared.node.NodeParts.{NodeParts}
 use Rattle.tree_step.specs.declared.node_core.NodeCore.{NodeCore}
 
 -- what the table sees of these parts, locks, noes and epoch
-abbrev pub core_with : NodeParts → List Lock → List (TreeNo × Refusal) → ℕ → Core
+abbrev pub core_with : NodeParts → List Lock → List (TreeNo × NegativeVote) → ℕ → Core
 core_with parts locks refusals epoch = record {
   node = data_of parts;
   locks = locks;

@@ -9,7 +9,7 @@ use Rattle.tree_home.specs.declared.homes.Answered.{Answered}
 use Rattle.nc_locks.specs.declared.modes.Lock.{Lock}
 use Rattle.tree_home.specs.Maps.{by_tree}
 use Rattle.world_model.specs.Core.{Core, Refusals}
-use Rattle.world_model.specs.declared.refusal.Refusal.{Refusal}
+use Rattle.world_model.specs.declared.refusal.NegativeVote.{NegativeVote}
 use Rattle.tree_step.specs.Changes.{IsDone, prepared_row}
 use Rattle.tree_step.specs.Core.{core_of}
 use Rattle.tree_step.specs.CoreChanges.{IsCoreDone, IsCoreStepOf, core_prepared_row, locks_with, refusals_with}
@@ -79,7 +79,7 @@ abbrev pub part_meant : TreePlan → Scratch → Option Answered → TreePrepare
 part_meant p x a = record { prepared = parts_meant (doings.Tree p) x; answered = a }
 
 -- what becomes of locks or noes
-abbrev pub noted_by : TreeNo → Option Refusal → VoteChange
+abbrev pub noted_by : TreeNo → Option NegativeVote → VoteChange
 noted_by t None = votes.Stay
 noted_by t (Some refusal) = votes.Note t refusal
 
@@ -139,5 +139,5 @@ IsDoingDone d x old new = IsDone (prepared_row (parts_meant d x) (data_of old)) 
 abbrev pub locks_meant : VotePlan → Scratch → List Lock → List Lock
 locks_meant v x ls = locks_with (votes_meant v x) ls
 
-abbrev pub refusals_meant : VotePlan → Scratch → List (TreeNo × Refusal) → Refusals
+abbrev pub refusals_meant : VotePlan → Scratch → List (TreeNo × NegativeVote) → Refusals
 refusals_meant v x rs = refusals_with (votes_meant v x) (by_tree rs)

@@ -4,7 +4,7 @@ use letter_types::Boxed;
 use nc_locks::WantedLocks;
 use tree_home::Answered;
 use tv_base::{NodeNo, Seq, TreeNo, Version};
-use world_model::Refusal;
+use world_model::NegativeVote;
 
 /// Nodes that a tree visits.
 pub type Visited = Seq<NodeNo, 64>;
@@ -19,7 +19,7 @@ pub enum VoteChange {
     /// The locks of a tree go.
     Free { tree: TreeNo },
     /// A tree has this no, in place of the one before.
-    Note { tree: TreeNo, refusal: Refusal },
+    Note { tree: TreeNo, refusal: NegativeVote },
     /// A tree has no no any more.
     Drop { tree: TreeNo },
 }

@@ -11,7 +11,7 @@ use nc_locks::WantedLocks;
 use std::alloc::Global;
 use std::mem;
 use tv_base::{SubNo, TreeNo, Version};
-use world_model::Refusal;
+use world_model::NegativeVote;
 
 /// What the home of a tree does. The values of a notice are in the scratch.
 #[derive(Clone, Copy)]
@@ -99,7 +99,7 @@ pub struct Scratch {
     pub held: Values,
     pub told: Visited,
     pub wanted: WantedLocks,
-    pub refusal: Option<Refusal>,
+    pub refusal: Option<NegativeVote>,
     /// That came, and is to be kept.
     pub letter: Option<Letter>,
     /// What it wakes is to be called.

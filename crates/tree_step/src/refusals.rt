@@ -6,21 +6,21 @@ use std::collections::BTreeMap;
 use std::marker::Model;
 use tree_home::tree_map::{find, insert, remove};
 use tv_base::{NoMemory, TreeNo};
-use world_model::Refusal;
+use world_model::NegativeVote;
 
 /// Of each strict tree that is at home here the no of the least number, among the votes that have come. To look for one,
 /// to put one in and to take one out takes time by the logarithm of how many there are.
 #[derive(Drop)]
 pub struct Refusals {
-    trees: BTreeMap<TreeNo, Refusal>,
+    trees: BTreeMap<TreeNo, NegativeVote>,
 }
 
 impl Model for Refusals {
     ghost use Rattle.std.specs.Prelude.{List};
     ghost use Rattle.tv_base.specs.declared.numbers.TreeNo.{TreeNo};
-    ghost use Rattle.world_model.specs.declared.refusal.Refusal.{Refusal};
+    ghost use Rattle.world_model.specs.declared.refusal.NegativeVote.{NegativeVote};
 
-    ghost Value = { List (TreeNo × Refusal) };
+    ghost Value = { List (TreeNo × NegativeVote) };
 
     ghost use Rattle.tree_home.specs.Maps.{AreAscending};
 
@@ -40,7 +40,7 @@ impl Refusals {
     }
 
     /// The no of a tree. None exactly where it has none.
-    pub fn of(&self, tree: TreeNo) -> Option<Refusal>
+    pub fn of(&self, tree: TreeNo) -> Option<NegativeVote>
         ensures { result ≡ by_tree self.now tree.0 }
     {
         match find(&self.trees, tree) {
@@ -51,7 +51,7 @@ impl Refusals {
 
     /// Puts the no of a tree in, in place of the one before. Those of other trees stay. Where no memory is found all
     /// stay.
-    pub fn put(&mut self, tree: TreeNo, refusal: Refusal) -> Result<(), NoMemory>
+    pub fn put(&mut self, tree: TreeNo, refusal: NegativeVote) -> Result<(), NoMemory>
         ensures ok { OnOk result (by_tree self.new ≡ put_at tree.0 (Some refusal) (by_tree self.old)) }
         ensures err { OnErr result (self.new ≡ self.old) }
     {

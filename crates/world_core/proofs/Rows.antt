@@ -9,7 +9,7 @@ use Rattle.letter_types.specs.declared.bodies.Body.{Body}
 use Rattle.letter_types.specs.declared.bodies.Body.TheVariants.{Root, Sub as SubLetter, Wake}
 use Rattle.letter_types.specs.declared.entries.Letter.{Letter}
 use Rattle.letter_types.specs.declared.kept.KeptLetter.{KeptLetter}
-use Rattle.letter_types.specs.declared.kept.Why.{Why}
+use Rattle.letter_types.specs.declared.kept.KeepReason.{KeepReason}
 use Rattle.letter_types.specs.Kept.{brought, first_called, kept_without, without_called}
 use Rattle.letter_types.specs.Steps.{Out, still}
 use Rattle.node_keeping.specs.Again.{with_last}
@@ -65,7 +65,7 @@ kept_asks s c (SubLetter t k v) kept is = sub_asks s c t k v (tree_kind_at s t.0
 kept_asks s c _ kept is = let no : None ≡ Some kept = is in cc
 
 -- what was brought is kept again, where it was called
-again_kept : (p : ℕ) (t u : TreeNo) (k j : SubNo) (why : Why) (r : Letter) (kept : List KeptLetter) → AreKeptAt p kept
+again_kept : (p : ℕ) (t u : TreeNo) (k j : SubNo) (why : KeepReason) (r : Letter) (kept : List KeptLetter) → AreKeptAt p kept
     → first_called u j kept ≡ Some r → AsksFor t k r.body
     → kept_with (keep_by r t k why (Wake u j)) kept
     ≡ without_called u j kept ++ record { letter = r; tree = t; sub = k; why = why } ∷ []
@@ -91,7 +91,7 @@ again_may p t u k j r kept at is asks =
     (ap (λ (x : TreeNo). first_called x k kept) (one_tree t u k j r.body asks found)
     ∙ ap (λ (x : SubNo). first_called u x kept) (one_sub t u k j r.body asks found) ∙ is)
 
-kept_by : (p : ℕ) (l r : Letter) (t : TreeNo) (k : SubNo) (why : Why) (kept : List KeptLetter) (b : Body)
+kept_by : (p : ℕ) (l r : Letter) (t : TreeNo) (k : SubNo) (why : KeepReason) (kept : List KeptLetter) (b : Body)
     → AreKeptAt p kept → brought kept l b ≡ Some r → AsksFor t k r.body
     → kept_with (keep_by l t k why b) kept
     ≡ kept_without kept b ++ record { letter = r; tree = t; sub = k; why = why } ∷ []
@@ -101,19 +101,19 @@ kept_by p l r t k why kept _ at is asks =
     let same : l ≡ r = cc in
     ap (λ (m : Letter). kept ++ record { letter = m; tree = t; sub = k; why = why } ∷ []) same
 
-may_by : (p : ℕ) (l r : Letter) (t : TreeNo) (k : SubNo) (why : Why) (kept : List KeptLetter) (b : Body)
+may_by : (p : ℕ) (l r : Letter) (t : TreeNo) (k : SubNo) (why : KeepReason) (kept : List KeptLetter) (b : Body)
     → AreKeptAt p kept → brought kept l b ≡ Some r → AsksFor t k r.body → MayBeKept (keep_by l t k why b) kept
 may_by p l r t k why kept (Wake u j) at is asks = again_may p t u k j r kept at is asks
 may_by p l r t k why kept _ at is asks = tt
 
 -- and else as it came
-pub brought_kept : (l r : Letter) (t : TreeNo) (k : SubNo) (why : Why) (kept : List KeptLetter)
+pub brought_kept : (l r : Letter) (t : TreeNo) (k : SubNo) (why : KeepReason) (kept : List KeptLetter)
     → AreKeptAt l.to.0 kept → brought kept l l.body ≡ Some r → AsksFor t k r.body
     → kept_with (keep_by l t k why l.body) kept
     ≡ kept_without kept l.body ++ record { letter = r; tree = t; sub = k; why = why } ∷ []
 brought_kept l r t k why kept at is asks = kept_by l.to.0 l r t k why kept l.body at is asks
 
-pub may_keep : (l r : Letter) (t : TreeNo) (k : SubNo) (why : Why) (kept : List KeptLetter)
+pub may_keep : (l r : Letter) (t : TreeNo) (k : SubNo) (why : KeepReason) (kept : List KeptLetter)
     → AreKeptAt l.to.0 kept → brought kept l l.body ≡ Some r → AsksFor t k r.body
     → MayBeKept (keep_by l t k why l.body) kept
 may_keep l r t k why kept at is asks = may_by l.to.0 l r t k why kept l.body at is asks

@@ -11,8 +11,8 @@ use Rattle.letter_types.specs.declared.bodies.What.{What}
 use Rattle.letter_types.specs.declared.entries.Letter.{Letter}
 use Rattle.letter_types.specs.declared.entries.Outgoing.{Outgoing}
 use Rattle.letter_types.specs.declared.kept.KeptLetter.{KeptLetter}
-use Rattle.letter_types.specs.declared.kept.Why.{Why}
-use Rattle.letter_types.specs.declared.kept.Why.TheVariants.{Called}
+use Rattle.letter_types.specs.declared.kept.KeepReason.{KeepReason}
+use Rattle.letter_types.specs.declared.kept.KeepReason.TheVariants.{Called}
 use Rattle.letter_types.specs.Kept.{brought, first_called, kept_without, wakes, wakes_by, with_called, without_called}
 use Rattle.letter_types.specs.Steps.{Out}
 use Rattle.letter_types.proofs.Ids.{none_woken}
@@ -24,7 +24,7 @@ use Rattle.world_core.specs.inside.Bringing.{done_out, waking_order, waking_out}
 use Rattle.world_core.proofs.Brought.{called_at}
 
 -- where no Wake is sent all stay as they are
-stay_by : (test : Why → Bool) (x : KeptLetter) (xs : List KeptLetter) (b : Bool)
+stay_by : (test : KeepReason → Bool) (x : KeptLetter) (xs : List KeptLetter) (b : Bool)
     → cond b (record { to = x.letter.to; body = Wake x.tree x.sub } ∷ wakes test xs) (wakes test xs) ≡ []
     → (wakes test xs ≡ [] → with_called test xs ≡ xs)
     → cond b (record x { why = Called }) x ∷ with_called test xs ≡ x ∷ xs
@@ -32,7 +32,7 @@ stay_by test x xs true none rest =
     let no : record { to = x.letter.to; body = Wake x.tree x.sub } ∷ wakes test xs ≡ [] = none in cc
 stay_by test x xs false none rest = ap (λ (ys : List KeptLetter). x ∷ ys) (rest none)
 
-pub none_sent : (test : Why → Bool) (xs : List KeptLetter) → wakes test xs ≡ [] → with_called test xs ≡ xs
+pub none_sent : (test : KeepReason → Bool) (xs : List KeptLetter) → wakes test xs ≡ [] → with_called test xs ≡ xs
 none_sent test [] none = refl
 none_sent test (x ∷ xs) none = stay_by test x xs (test x.why) none (none_sent test xs)
 
@@ -45,7 +45,7 @@ silent b n o none =
     λ i. record { state = record { core = o.state; kept = sym kept i }; sent = sym sent i; acts = o.acts }
 
 -- a letter that may be kept wakes none
-asking_wakes_none : (c : Core) (t : TreeNo) (k : SubNo) (b : Body) → AsksFor t k b → (why : Why)
+asking_wakes_none : (c : Core) (t : TreeNo) (k : SubNo) (b : Body) → AsksFor t k b → (why : KeepReason)
     → woken_by c b why ≡ false
 asking_wakes_none c t k (Root u) asks why = refl
 asking_wakes_none c t k (SubLetter u j v) asks why = refl
@@ -105,7 +105,7 @@ order_wakes : (e : ℕ) (what : What) (v : Version) (c : Core)
     → wakes_by (waking_order e what v c) ≡ woken_by c (Order e what v)
 order_wakes e what v c = by (is_obeyed_now e what v c) where
   by : (b : Bool)
-      → wakes_by (if b then plain_order what v else Order e what v) ≡ (λ (w : Why). b && wakes_by (plain_order what v) w)
+      → wakes_by (if b then plain_order what v else Order e what v) ≡ (λ (w : KeepReason). b && wakes_by (plain_order what v) w)
   by true = refl
   by false = refl
 

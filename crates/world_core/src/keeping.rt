@@ -14,7 +14,7 @@ ghost use Rattle.world_core.specs.Prepared.{IsLetterPlan};
 
 use crate::orders::is_obeyed_now;
 use crate::plan::plan_core;
-use letter_types::{Body, Boxed, KeptLetter, Letter, Letters, StepOut, What, Why};
+use letter_types::{Body, Boxed, KeepReason, KeptLetter, Letter, Letters, StepOut, What};
 use node_keeping::{
     CoreKept, CorePlan, Keep, KeepingParts, KeepingPrepared, KeptChange, NodePlan, flatten_node,
 };
@@ -42,7 +42,7 @@ fn keep_by(
     letter: &Letter,
     tree: TreeNo,
     sub: SubNo,
-    why: Why,
+    why: KeepReason,
 ) -> Result<Boxed<Keep>, NoMemory>
     ensures { IfOk result (λ keep. keep ≡ keep_by letter.now tree sub why letter.now.body) }
 {

@@ -12,7 +12,7 @@ ghost use Rattle.world_core.specs.inside.Actors.{Acted, entry_made, IsPlanFor, w
 ghost use Rattle.pair_counters.specs.Numbers.{MOST_COUNT};
 
 use crate::actor::{ActorPlan, ActorState, actor_done, actor_plan};
-use letter_bag::Bag;
+use letter_bag::OrderedBag;
 use letter_types::{Acts, Entry, History, Letter, LetterId, Letters, StepOut, go};
 use std::alloc::Global;
 use std::marker::Model;
@@ -26,7 +26,7 @@ use tx_trees::Script;
 pub struct World {
     alloc: Global,
     actors: Vec<ActorState>,
-    bag: Bag<Letter>,
+    bag: OrderedBag<Letter>,
     history: History,
     // used again by each step, and empty between steps
     scratch: Scratch,
@@ -68,7 +68,7 @@ fn first_actors(alloc: Global, script: &Script) -> Result<Vec<ActorState>, NoMem
 }
 
 /// Takes the last letters out of the bag, so that so many are left.
-fn take_back(bag: &mut Bag<Letter>, left: usize)
+fn take_back(bag: &mut OrderedBag<Letter>, left: usize)
     ensures { bag.new.items ≡ take left bag.old.items }
 {
     while left < bag.len() {
@@ -80,7 +80,7 @@ fn take_back(bag: &mut Bag<Letter>, left: usize)
 /// Equal letters go to the end of the bag, each with its id. Where no memory is found the bag has what it had.
 fn send(
     alloc: Global,
-    bag: &mut Bag<Letter>,
+    bag: &mut OrderedBag<Letter>,
     stamp: Stamp,
     actor: ActorNo,
     sent: &Letters,
@@ -156,7 +156,7 @@ fn act(
 }
 
 /// Takes letter `k` out of the bag, and puts the entry in the last place of the history.
-fn finish(bag: &mut Bag<Letter>, history: &mut History, stamp: Stamp, k: usize, out: StepOut)
+fn finish(bag: &mut OrderedBag<Letter>, history: &mut History, stamp: Stamp, k: usize, out: StepOut)
     requires waits { k < length bag.old.items }
     requires place { 0 < length history.old }
     ensures bag { bag.new.items ≡ remove bag.old.items k }
@@ -184,7 +184,7 @@ fn finish(bag: &mut Bag<Letter>, history: &mut History, stamp: Stamp, k: usize, 
 fn pass(
     alloc: Global,
     actors: &mut Vec<ActorState>,
-    bag: &mut Bag<Letter>,
+    bag: &mut OrderedBag<Letter>,
     stamp: Stamp,
     actor: ActorNo,
     plan: ActorPlan,
@@ -212,7 +212,7 @@ fn pass(
 }
 
 /// Makes room for the letters of one step, if it sends any.
-fn make_room(bag: &mut Bag<Letter>, room: usize) -> Result<(), NoMemory>
+fn make_room(bag: &mut OrderedBag<Letter>, room: usize) -> Result<(), NoMemory>
     ensures items { bag.new.items ≡ bag.old.items }
     ensures ok { OnOk result (room ≤ bag.new.room) }
 {
@@ -228,7 +228,7 @@ fn advance(
     alloc: Global,
     script: &Script,
     actors: &mut Vec<ActorState>,
-    bag: &mut Bag<Letter>,
+    bag: &mut OrderedBag<Letter>,
     history: &mut History,
     scratch: &mut Scratch,
     k: usize,
@@ -274,7 +274,7 @@ impl World {
         ensures history { IfOk result (λ w. w.history ≡ []) }
     {
         let client = ActorNo(script.nodes() + 1);
-        let mut bag = Bag::new(alloc);
+        let mut bag = OrderedBag::new(alloc);
         bag.put(go(client))?;
         let actors = first_actors(alloc, script)?;
         Ok(World {

@@ -12,9 +12,9 @@ use Rattle.world_model.specs.Calls.{calls, is_wake_of}
 use Rattle.world_model.specs.Counts.{tally, one_if}
 use Rattle.script_parts.specs.ScriptData.{ScriptData}
 use Rattle.letter_types.specs.declared.kept.KeptLetter.{KeptLetter}
-use Rattle.letter_types.specs.declared.kept.Why.{Why}
+use Rattle.letter_types.specs.declared.kept.KeepReason.{KeepReason}
 use Rattle.letter_types.specs.Kept.{brought, is_called, is_called_for, first_called, kept_without, wakes, wakes_by, with_called, without_called}
-use Rattle.letter_types.specs.declared.kept.Why.TheVariants.{ForShow, ForHolder, Called}
+use Rattle.letter_types.specs.declared.kept.KeepReason.TheVariants.{ForShow, ForHolder, Called}
 use Rattle.world_model.specs.Core.{Core}
 use Rattle.world_model.specs.Epochs.{plain_order, is_obeyed_now}
 use Rattle.world_model.specs.Keeping.{KeepingNode, kept_row, woken_by}
@@ -29,7 +29,7 @@ called_stays (Decide t v commit) = refl
 called_stays _ = refl
 
 -- one kept letter, by whether it is woken
-one_woken : (t : TreeNo) (k : SubNo) (x : KeptLetter) (test : Bool) (why : Why) → x.why ≡ why → (is_called why ≡ true → test ≡ false)
+one_woken : (t : TreeNo) (k : SubNo) (x : KeptLetter) (test : Bool) (why : KeepReason) → x.why ≡ why → (is_called why ≡ true → test ≡ false)
     → one_if (is_called_for t k (if test then record x { why = Called } else x))
     ≡ one_if (is_called_for t k x) + (if test then one_if ((x.tree.0 == t.0) && (x.sub.0 == k.0)) else 0)
 one_woken t k x false why is stays = omega arith
@@ -37,7 +37,7 @@ one_woken t k x true Called is stays = absurd (let no : true ≡ false = stays r
 one_woken t k x true ForShow is stays = rw is (omega arith)
 one_woken t k x true (ForHolder h) is stays = rw is (omega arith)
 
-uncalled : (c : Core) (b : Body) (why : Why) → is_called why ≡ true → woken_by c b why ≡ false
+uncalled : (c : Core) (b : Body) (why : KeepReason) → is_called why ≡ true → woken_by c b why ≡ false
 uncalled c (Order e what v) Called is =
     let none : wakes_by (plain_order what v) Called ≡ false = called_stays (plain_order what v) in
     by (is_obeyed_now e what v c) (wakes_by (plain_order what v) Called) none where
@@ -50,7 +50,7 @@ uncalled c _ Called is = refl
 uncalled c b ForShow is = absurd (cc is)
 uncalled c b (ForHolder h) is = absurd (cc is)
 
-wakes_at : (t : TreeNo) (k : SubNo) (f : Why → Bool) (x : KeptLetter) (xs : List KeptLetter) (test : Bool) → f x.why ≡ test
+wakes_at : (t : TreeNo) (k : SubNo) (f : KeepReason → Bool) (x : KeptLetter) (xs : List KeptLetter) (test : Bool) → f x.why ≡ test
     → (is_called x.why ≡ true → test ≡ false)
     → calls t k (with_called f xs) ≡ calls t k xs + tally (on (is_wake_of t k)) (wakes f xs)
     → calls t k (with_called f (x ∷ xs)) ≡ calls t k (x ∷ xs) + tally (on (is_wake_of t k)) (wakes f (x ∷ xs))

@@ -13,9 +13,9 @@ use Rattle.letter_types.specs.declared.entries.LetterId.{LetterId}
 use Rattle.script_parts.specs.ScriptData.{ScriptData}
 use Rattle.world_model.specs.Counts.{tally, Each}
 use Rattle.letter_types.specs.declared.kept.KeptLetter.{KeptLetter}
-use Rattle.letter_types.specs.declared.kept.Why.{Why}
+use Rattle.letter_types.specs.declared.kept.KeepReason.{KeepReason}
 use Rattle.letter_types.specs.Kept.{is_called_for, first_called, without_called, brought, kept_without, with_called}
-use Rattle.letter_types.specs.declared.kept.Why.TheVariants.{Called}
+use Rattle.letter_types.specs.declared.kept.KeepReason.TheVariants.{Called}
 use Rattle.world_model.specs.Keeping.{KeepingNode, is_apt_at, kept_row, brought_row, woken_by}
 use Rattle.world_model.specs.Kept.{kept_in, kept_by, outstanding, done_of, done_by}
 use Rattle.world_model.specs.Runs.{in_flight, keeping_in, IsStepRun, MayFollow}
@@ -79,7 +79,7 @@ woken_at : (P : Letter → Type 0) (x : KeptLetter) (test : Bool) → P x.letter
 woken_at P x true one = one
 woken_at P x false one = one
 
-each_woken : (P : Letter → Type 0) (test : Why → Bool) (xs : List KeptLetter) → EachKept P xs
+each_woken : (P : Letter → Type 0) (test : KeepReason → Bool) (xs : List KeptLetter) → EachKept P xs
     → EachKept P (with_called test xs)
 each_woken P test [] all = tt
 each_woken P test (x ∷ xs) all = (woken_at P x (test x.why) all.0, each_woken P test xs all.1)

@@ -12,8 +12,8 @@ use Rattle.letter_types.specs.declared.bodies.Body.TheVariants.{Root, Sub as Sub
 use Rattle.letter_types.specs.declared.entries.Entry.{Entry}
 use Rattle.letter_types.specs.declared.entries.Letter.{Letter}
 use Rattle.letter_types.specs.declared.kept.KeptLetter.{KeptLetter}
-use Rattle.letter_types.specs.declared.kept.Why.{Why}
-use Rattle.letter_types.specs.declared.kept.Why.TheVariants.{Called}
+use Rattle.letter_types.specs.declared.kept.KeepReason.{KeepReason}
+use Rattle.letter_types.specs.declared.kept.KeepReason.TheVariants.{Called}
 use Rattle.letter_types.specs.Kept.{brought, is_called_for, kept_without, wakes, with_called, without_called}
 use Rattle.letter_types.specs.Steps.{Out, still}
 use Rattle.nc_locks.specs.declared.modes.Met.{Met}
@@ -91,7 +91,7 @@ one_called : (p : ℕ) (x : KeptLetter) (b : Bool) → IsKeptAt p x → IsKeptAt
 one_called p x true is = record { to = is.to; asks = is.asks }
 one_called p x false is = is
 
-pub called_kept : (p : ℕ) (test : Why → Bool) (xs : List KeptLetter) → AreKeptAt p xs → AreKeptAt p (with_called test xs)
+pub called_kept : (p : ℕ) (test : KeepReason → Bool) (xs : List KeptLetter) → AreKeptAt p xs → AreKeptAt p (with_called test xs)
 called_kept p test [] all = tt
 called_kept p test (x ∷ xs) all = (one_called p x (test x.why) all.0, called_kept p test xs all.1)
 
@@ -99,14 +99,14 @@ one_more_kept : (p : ℕ) (xs : List KeptLetter) (x : KeptLetter) → AreKeptAt 
 one_more_kept p [] x all is = (is, tt)
 one_more_kept p (y ∷ xs) x all is = (all.0, one_more_kept p xs x all.1 is)
 
-wake_for : (p n : ℕ) (test : Why → Bool) (x : KeptLetter) (xs : List KeptLetter) (b : Bool) → x.letter.to.0 ≡ p → p < n
+wake_for : (p n : ℕ) (test : KeepReason → Bool) (x : KeptLetter) (xs : List KeptLetter) (b : Bool) → x.letter.to.0 ≡ p → p < n
     → For n (wakes test xs)
     → For n (if b then record { to = x.letter.to; body = Wake x.tree x.sub } ∷ wakes test xs else wakes test xs)
 wake_for p n test x xs true to lt rest = (omega arith, rest)
 wake_for p n test x xs false to lt rest = rest
 
 -- the Wakes go to the node itself
-pub wakes_for : (p n : ℕ) (test : Why → Bool) (xs : List KeptLetter) → p < n → AreKeptAt p xs → For n (wakes test xs)
+pub wakes_for : (p n : ℕ) (test : KeepReason → Bool) (xs : List KeptLetter) → p < n → AreKeptAt p xs → For n (wakes test xs)
 wakes_for p n test [] lt all = tt
 wakes_for p n test (x ∷ xs) lt all = wake_for p n test x xs (test x.why) all.0.to lt (wakes_for p n test xs lt all.1)
 

@@ -8,7 +8,7 @@ use Rattle.letter_types.specs.declared.entries.Letter.{Letter}
 use Rattle.letter_types.specs.declared.entries.LetterId.{LetterId}
 use Rattle.letter_types.specs.declared.entries.Outgoing.{Outgoing}
 use Rattle.letter_types.specs.declared.kept.KeptLetter.{KeptLetter}
-use Rattle.letter_types.specs.declared.kept.Why.{Why}
+use Rattle.letter_types.specs.declared.kept.KeepReason.{KeepReason}
 use Rattle.letter_types.specs.Kept.{brought, kept_without, wakes}
 use Rattle.letter_types.specs.Steps.{still}
 use Rattle.script_parts.specs.Counts.{has_strict}
@@ -37,12 +37,12 @@ pub record Stands (s : ScriptData) (p : ℕ) (n : KeepingNode) : Type 0 where
   pub meant : EachKept (IsLetterMeant s) n.kept
   pub plain : has_strict s ≡ false → n.kept ≡ []
 
-none_wakes : (test : Why → Bool) (body : Body) → wakes test (kept_without [] body) ≡ []
+none_wakes : (test : KeepReason → Bool) (body : Body) → wakes test (kept_without [] body) ≡ []
 none_wakes test (Wake t k) = refl
 none_wakes test _ = refl
 
 -- its Wakes
-node_wakes : (s : ScriptData) (p : ℕ) (n : KeepingNode) (test : Why → Bool) (body : Body) (some : Bool) → IsValid s → Stands s p n
+node_wakes : (s : ScriptData) (p : ℕ) (n : KeepingNode) (test : KeepReason → Bool) (body : Body) (some : Bool) → IsValid s → Stands s p n
     → has_strict s ≡ some → AreMeant s p (wakes test (kept_without n.kept body))
 node_wakes s p n test body true valid st is =
     wakes_meant s p test (kept_without n.kept body) valid is st.below (still_kept p n.kept body st.kept)

@@ -10,7 +10,7 @@ use Rattle.letter_types.specs.declared.bodies.Body.TheVariants.{Go, Root, Sub as
 use Rattle.letter_types.specs.declared.entries.Entry.{Entry}
 use Rattle.letter_types.specs.declared.entries.Outgoing.{Outgoing}
 use Rattle.letter_types.specs.declared.kept.KeptLetter.{KeptLetter}
-use Rattle.letter_types.specs.declared.kept.Why.{Why}
+use Rattle.letter_types.specs.declared.kept.KeepReason.{KeepReason}
 use Rattle.letter_types.specs.Kept.{wakes}
 use Rattle.letter_types.specs.Steps.{Out, still}
 use Rattle.script_parts.specs.Counts.{has_strict, loses_in, is_lossy}
@@ -155,7 +155,7 @@ wake_by s p from t k (SubLetter u j v) valid some below asks meant =
     }
 wake_by s p from t k _ valid some below asks meant = absurd asks
 
-one_wake : (s : ScriptData) (p : ℕ) (test : Why → Bool) (x : KeptLetter) (xs : List KeptLetter) (b : Bool) → IsValid s
+one_wake : (s : ScriptData) (p : ℕ) (test : KeepReason → Bool) (x : KeptLetter) (xs : List KeptLetter) (b : Bool) → IsValid s
     → has_strict s ≡ true → p < s.nodes → IsKeptAt p x → IsLetterMeant s x.letter → AreMeant s p (wakes test xs)
     → AreMeant s p (if b then record { to = x.letter.to; body = Wake x.tree x.sub } ∷ wakes test xs else wakes test xs)
 one_wake s p test x xs true valid some below at meant rest =
@@ -167,7 +167,7 @@ one_wake s p test x xs true valid some below at meant rest =
     )
 one_wake s p test x xs false valid some below at meant rest = rest
 
-pub wakes_meant : (s : ScriptData) (p : ℕ) (test : Why → Bool) (xs : List KeptLetter) → IsValid s → has_strict s ≡ true → p < s.nodes
+pub wakes_meant : (s : ScriptData) (p : ℕ) (test : KeepReason → Bool) (xs : List KeptLetter) → IsValid s → has_strict s ≡ true → p < s.nodes
     → AreKeptAt p xs → EachKept (IsLetterMeant s) xs → AreMeant s p (wakes test xs)
 wakes_meant s p test [] valid some below at meant = tt
 wakes_meant s p test (x ∷ xs) valid some below at meant =

@@ -14,9 +14,9 @@ use Rattle.letter_types.specs.Letters.{letters_of}
 use Rattle.script_parts.specs.ScriptData.{ScriptData}
 use Rattle.world_model.specs.Counts.{tally}
 use Rattle.letter_types.specs.declared.kept.KeptLetter.{KeptLetter}
-use Rattle.letter_types.specs.declared.kept.Why.{Why}
+use Rattle.letter_types.specs.declared.kept.KeepReason.{KeepReason}
 use Rattle.letter_types.specs.Kept.{is_called_for, first_called, without_called, brought, kept_without, with_called}
-use Rattle.letter_types.specs.declared.kept.Why.TheVariants.{Called}
+use Rattle.letter_types.specs.declared.kept.KeepReason.TheVariants.{Called}
 use Rattle.world_model.specs.Keeping.{KeepingNode, is_apt_at, kept_row, brought_row, keeping_row, woken_by}
 use Rattle.world_model.specs.Kept.{kept_in, kept_by, outstanding, done_of, stays_of, none_if, of_done}
 use Rattle.world_model.specs.Runs.{in_flight, keeping_in, MayFollow}
@@ -62,7 +62,7 @@ called_letter : (x : KeptLetter) (test : Bool) → (if test then record x { why 
 called_letter x true = refl
 called_letter x false = refl
 
-called_kept : (f : Letter → ℕ) (test : Why → Bool) (xs : List KeptLetter)
+called_kept : (f : Letter → ℕ) (test : KeepReason → Bool) (xs : List KeptLetter)
     → tally f (letters (with_called test xs)) ≡ tally f (letters xs)
 called_kept f test [] = refl
 called_kept f test (x ∷ xs) = omega (arith, ap f (called_letter x (test x.why)), called_kept f test xs)

@@ -9,15 +9,15 @@ use Rattle.letter_types.specs.Steps.{Out}
 use Rattle.nc_locks.specs.declared.modes.Lock.{Lock}
 use Rattle.script_parts.specs.ScriptData.{ScriptData}
 use Rattle.tree_home.specs.HeldAnswers.{HeldAnswers}
-use Rattle.world_model.specs.declared.refusal.Refusal.{Refusal}
+use Rattle.world_model.specs.declared.refusal.NegativeVote.{NegativeVote}
 use Rattle.world_model.specs.Node.{Node, start_node}
 
 -- of each strict tree that is at home here the no of the least number, among the votes that have come
 abbrev pub Refusals : Type 0
-Refusals = ℕ → Option Refusal
+Refusals = ℕ → Option NegativeVote
 
 -- of two noes that of the lesser number
-abbrev pub lesser : Option Refusal → Refusal → Refusal
+abbrev pub lesser : Option NegativeVote → NegativeVote → NegativeVote
 lesser None r = r
 lesser (Some old) r = if nat_lt r.sub.0 old.sub.0 then r else old
 

@@ -12,7 +12,7 @@ use Rattle.letter_types.specs.Kept.{brought, kept_without, wakes, wakes_by, with
 use Rattle.letter_types.specs.Steps.{Out, still}
 use Rattle.script_parts.specs.ScriptData.{ScriptData}
 use Rattle.world_model.specs.Core.{Core, start_core}
-use Rattle.letter_types.specs.declared.kept.Why.{Why}
+use Rattle.letter_types.specs.declared.kept.KeepReason.{KeepReason}
 use Rattle.world_model.specs.Epochs.{plain_order, is_obeyed_now}
 use Rattle.world_model.specs.Strict.{CoreKeeping, core_keeping, core_row, is_core_apt, is_widely_core_apt}
 
@@ -42,7 +42,7 @@ is_apt_brought s p n (Some r) = is_apt_at s p n r
 
 -- what a letter wakes at a core: an order of a coordinator that forgets wakes what the order wakes for which it stands, if
 -- it takes effect, and else nothing
-abbrev pub woken_by : Core → Body → Why → Bool
+abbrev pub woken_by : Core → Body → KeepReason → Bool
 woken_by c (Order e what v) w = is_obeyed_now e what v c && wakes_by (plain_order what v) w
 woken_by c body w = wakes_by body w
 

@@ -14,8 +14,8 @@ use Rattle.letter_types.specs.declared.bodies.Notice.{Notice}
 use Rattle.letter_types.specs.declared.bodies.Notice.TheVariants as notices
 use Rattle.letter_types.specs.declared.entries.Letter.{Letter}
 use Rattle.letter_types.specs.declared.entries.Outgoing.{Outgoing}
-use Rattle.letter_types.specs.declared.kept.Why.{Why}
-use Rattle.letter_types.specs.declared.kept.Why.TheVariants.{ForShow, ForHolder}
+use Rattle.letter_types.specs.declared.kept.KeepReason.{KeepReason}
+use Rattle.letter_types.specs.declared.kept.KeepReason.TheVariants.{ForShow, ForHolder}
 use Rattle.letter_types.specs.declared.votes.Vote.{Vote}
 use Rattle.letter_types.specs.declared.votes.Vote.TheVariants.{Yes, No}
 use Rattle.letter_types.specs.Steps.{Out, still}
@@ -36,7 +36,7 @@ use Rattle.tree_home.specs.declared.homes.Answered.{Answered}
 use Rattle.world_model.specs.Advancing.{advancing_row}
 use Rattle.world_model.specs.Apt.{can_make}
 use Rattle.world_model.specs.Asked.{asked_ops, asked_version, tree_part}
-use Rattle.world_model.specs.declared.refusal.Refusal.{Refusal}
+use Rattle.world_model.specs.declared.refusal.NegativeVote.{NegativeVote}
 use Rattle.world_model.specs.Core.{Core, Refusals, refused_by, in_core}
 use Rattle.world_model.specs.Decisions.{can_decide, decided_items}
 use Rattle.world_model.specs.Done.{TreeOut, counted_sub, note_part, raised_if, turned_if}
@@ -165,7 +165,7 @@ decide_core s p from t v commit c = record {
 }
 
 -- the answer of a strict tree: whole, or the cause of the no of the least number
-abbrev pub answer_by : Option Refusal → Answered → Answer
+abbrev pub answer_by : Option NegativeVote → Answered → Answer
 answer_by None a = Whole a.values
 answer_by (Some r) a = Aborted r.cause
 
@@ -271,7 +271,7 @@ core_step s p c l = if is_core_apt s p c l then core_row s p c l.from.0 l.body e
 pub record CoreKeeping : Type 0 where
   pub tree : TreeNo
   pub sub : SubNo
-  pub why : Why
+  pub why : KeepReason
   pub state : Core
   pub acts : List Act
 

@@ -13,7 +13,7 @@ mod refusal;
 mod restarting;
 
 pub use phase::Phase;
-pub use refusal::Refusal;
+pub use refusal::NegativeVote;
 pub use restarting::{RestartPhase, Told};
 
 /// A history that goes step by step is one whose letters went as letters do and whose actors each follow their table.

@@ -3,7 +3,7 @@ use tv_base::SubNo;
 
 /// A vote of no: whose it is, and why.
 #[derive(Clone, Copy, Debug, PartialEq, Eq)]
-pub struct Refusal {
+pub struct NegativeVote {
     pub sub: SubNo,
     pub cause: Cause,
 }

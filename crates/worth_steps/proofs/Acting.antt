@@ -15,7 +15,7 @@ use Rattle.commute_ops.specs.Ops.{value_start}
 use Rattle.script_parts.specs.Deeds.{after_deed}
 use Rattle.script_parts.specs.declared.parts.Deed.{Deed}
 use Rattle.script_parts.specs.declared.parts.Deed.TheVariants.{Apply, Get, Set, Draw}
-use Rattle.worth_steps.specs.declared.steps.Step.{Step}
+use Rattle.worth_steps.specs.declared.steps.WorthStep.{WorthStep}
 use Rattle.worth_steps.specs.Worth.{Noted, after_noted, alters, deed_suits, greatest, in_order, last_altered, noted_in, worth_of}
 use Rattle.worth_steps.specs.Steps.{AllAbove, AreSteps, Ascends, Chained, act_on, acting, newest_step, seen_to}
 use Rattle.worth_steps.specs.inside.Editing.{at_place, changed_number, edited, first_own, is_set, revalued}
@@ -95,25 +95,25 @@ after_is Top n (Set a) apart f = refl
 -- What is seen.
 
 -- the number of the last step of version below w
-abbrev seen_before : ℤ → List Step → ℕ → ℤ
+abbrev seen_before : ℤ → List WorthStep → ℕ → ℤ
 seen_before below [] w = below
 seen_before below (s ∷ ss) w = if nat_lt s.version.0 w then seen_before s.value ss w else below
 
 -- no step is of a version that all are above
-acting_none : (k : Kind) (u w : ℕ) (ss : List Step) (n : ℤ) → w ≤ u → AllAbove u ss → acting k ss w n ≡ n
+acting_none : (k : Kind) (u w : ℕ) (ss : List WorthStep) (n : ℤ) → w ≤ u → AllAbove u ss → acting k ss w n ≡ n
 acting_none k u w [] n le up = refl
 acting_none k u w (s ∷ ss) n le up =
     let other : (s.version.0 == w) ≡ false = grind (arith, nat_tests, up.0) in
     rw other (acting_none k u w ss n le up.1)
 
 -- nor is it seen
-seen_none : (u w : ℕ) (ss : List Step) (n : ℤ) → w ≤ u → AllAbove u ss → seen_to n ss w ≡ n
+seen_none : (u w : ℕ) (ss : List WorthStep) (n : ℤ) → w ≤ u → AllAbove u ss → seen_to n ss w ≡ n
 seen_none u w [] n le up = refl
 seen_none u w (s ∷ ss) n le up =
     let over : nat_le s.version.0 w ≡ false = grind (arith, nat_tests, up.0) in
     rw over refl
 
-seen_by : (k : Kind) (below : ℤ) (s : Step) (ss : List Step) (w : ℕ) → AllAbove s.version.0 ss
+seen_by : (k : Kind) (below : ℤ) (s : WorthStep) (ss : List WorthStep) (w : ℕ) → AllAbove s.version.0 ss
     → s.value ≡ act_on k s.cut s.own below
     → seen_to s.value ss w ≡ acting k ss w (seen_before s.value ss w)
     → (lt eq : Bool) → nat_lt s.version.0 w ≡ lt → (s.version.0 == w) ≡ eq
@@ -132,27 +132,27 @@ seen_by k below s ss w up value rest false false is same =
     rw (over, is, same) (sym (acting_none k s.version.0 w ss below here up))
 
 -- what is seen at a version is what its step makes of what is seen before it
-seen_is : (k : Kind) (below : ℤ) (ss : List Step) (w : ℕ) → Ascends ss → Chained k below ss
+seen_is : (k : Kind) (below : ℤ) (ss : List WorthStep) (w : ℕ) → Ascends ss → Chained k below ss
     → seen_to below ss w ≡ acting k ss w (seen_before below ss w)
 seen_is k below [] w up chain = refl
 seen_is k below (s ∷ ss) w up chain =
     seen_by k below s ss w up.0 chain.0 (seen_is k s.value ss w up.1 chain.1) (nat_lt s.version.0 w) (s.version.0 == w) refl refl
 
-before_zero : (below : ℤ) (ss : List Step) → seen_before below ss zero ≡ below
+before_zero : (below : ℤ) (ss : List WorthStep) → seen_before below ss zero ≡ below
 before_zero below [] = refl
 before_zero below (s ∷ ss) = let not : nat_lt s.version.0 zero ≡ false = grind (arith, nat_tests) in rw not refl
 
 same_tests : (a v : ℕ) → nat_lt a (suc v) ≡ nat_le a v
 same_tests a v = grind (arith, nat_tests)
 
-before_next : (below : ℤ) (ss : List Step) (v : ℕ) → seen_before below ss (suc v) ≡ seen_to below ss v
+before_next : (below : ℤ) (ss : List WorthStep) (v : ℕ) → seen_before below ss (suc v) ≡ seen_to below ss v
 before_next below [] v = refl
 before_next below (s ∷ ss) v =
     ap (λ (b : Bool). if b then seen_before s.value ss (suc v) else below) (same_tests s.version.0 v)
     ∙ ap (λ (n : ℤ). if nat_le s.version.0 v then n else below) (before_next s.value ss v)
 
 -- what the steps say is what the deeds are worth
-pub worth_is : (k : Kind) (first : ℤ) (ns : List Noted) (ss : List Step) (v : ℕ) → Ascends ss → AreSteps k first ns ss
+pub worth_is : (k : Kind) (first : ℤ) (ns : List Noted) (ss : List WorthStep) (v : ℕ) → Ascends ss → AreSteps k first ns ss
     → value_start k (seen_to first ss v) ≡ worth_of (value_start k first) ns v
 worth_is k first ns ss zero up are =
     ap (value_start k) (seen_is k first ss zero up are.chained ∙ ap (acting k ss zero) (before_zero first ss))
@@ -166,46 +166,46 @@ worth_is k first ns ss (suc v) up are =
 -- One deed more.
 
 -- values are no matter of what steps make, nor of their order
-acting_valued : (k : Kind) (below : ℤ) (ss : List Step) (u : ℕ) (n : ℤ) → acting k (revalued k below ss) u n ≡ acting k ss u n
+acting_valued : (k : Kind) (below : ℤ) (ss : List WorthStep) (u : ℕ) (n : ℤ) → acting k (revalued k below ss) u n ≡ acting k ss u n
 acting_valued k below [] u n = refl
 acting_valued k below (s ∷ ss) u n =
     ap (λ (m : ℤ). if s.version.0 == u then act_on k s.cut s.own n else m) (acting_valued k (act_on k s.cut s.own below) ss u n)
 
-above_valued : (k : Kind) (below : ℤ) (ss : List Step) (u : ℕ) → AllAbove u ss → AllAbove u (revalued k below ss)
+above_valued : (k : Kind) (below : ℤ) (ss : List WorthStep) (u : ℕ) → AllAbove u ss → AllAbove u (revalued k below ss)
 above_valued k below [] u up = tt
 above_valued k below (s ∷ ss) u up = (up.0, above_valued k (act_on k s.cut s.own below) ss u up.1)
 
-ascends_valued : (k : Kind) (below : ℤ) (ss : List Step) → Ascends ss → Ascends (revalued k below ss)
+ascends_valued : (k : Kind) (below : ℤ) (ss : List WorthStep) → Ascends ss → Ascends (revalued k below ss)
 ascends_valued k below [] up = tt
 ascends_valued k below (s ∷ ss) up =
     let next : ℤ = act_on k s.cut s.own below in
     (above_valued k next ss s.version.0 up.0, ascends_valued k next ss up.1)
 
-chained_valued : (k : Kind) (below : ℤ) (ss : List Step) → Chained k below (revalued k below ss)
+chained_valued : (k : Kind) (below : ℤ) (ss : List WorthStep) → Chained k below (revalued k below ss)
 chained_valued k below [] = tt
 chained_valued k below (s ∷ ss) = (refl, chained_valued k (act_on k s.cut s.own below) ss)
 
-newest_valued : (k : Kind) (below : ℤ) (ss : List Step) → newest_step (revalued k below ss) ≡ newest_step ss
+newest_valued : (k : Kind) (below : ℤ) (ss : List WorthStep) → newest_step (revalued k below ss) ≡ newest_step ss
 newest_valued k below [] = refl
 newest_valued k below (s ∷ ss) = ap (max s.version.0) (newest_valued k (act_on k s.cut s.own below) ss)
 
 -- the versions with one more
-above_by : (u v : ℕ) (d : Deed) (s : Step) (ss : List Step) → u < v → AllAbove u (s ∷ ss) → AllAbove u (edited v d ss)
+above_by : (u v : ℕ) (d : Deed) (s : WorthStep) (ss : List WorthStep) → u < v → AllAbove u (s ∷ ss) → AllAbove u (edited v d ss)
     → (b c : Bool) → AllAbove u (if b then s ∷ edited v d ss else at_place v d s ss c)
 above_by u v d s ss lt up rest true c = (up.0, rest)
 above_by u v d s ss lt up rest false true = up
 above_by u v d s ss lt up rest false false = (lt, up)
 
-above_edited : (u v : ℕ) (d : Deed) (ss : List Step) → u < v → AllAbove u ss → AllAbove u (edited v d ss)
+above_edited : (u v : ℕ) (d : Deed) (ss : List WorthStep) → u < v → AllAbove u ss → AllAbove u (edited v d ss)
 above_edited u v d [] lt up = (lt, tt)
 above_edited u v d (s ∷ ss) lt up =
     above_by u v d s ss lt up (above_edited u v d ss lt up.1) (nat_lt s.version.0 v) (s.version.0 == v)
 
-above_less : (u w : ℕ) (ss : List Step) → u ≤ w → AllAbove w ss → AllAbove u ss
+above_less : (u w : ℕ) (ss : List WorthStep) → u ≤ w → AllAbove w ss → AllAbove u ss
 above_less u w [] le up = tt
 above_less u w (s ∷ ss) le up = (omega (arith, up.0), above_less u w ss le up.1)
 
-ascends_by : (v : ℕ) (d : Deed) (s : Step) (ss : List Step) → Ascends (s ∷ ss) → Ascends (edited v d ss)
+ascends_by : (v : ℕ) (d : Deed) (s : WorthStep) (ss : List WorthStep) → Ascends (s ∷ ss) → Ascends (edited v d ss)
     → (b c : Bool) → nat_lt s.version.0 v ≡ b → (s.version.0 == v) ≡ c
     → Ascends (if b then s ∷ edited v d ss else at_place v d s ss c)
 ascends_by v d s ss up rest true c is same =
@@ -215,12 +215,12 @@ ascends_by v d s ss up rest false false is same =
     let lt : v < s.version.0 = grind (arith, nat_tests) in
     ((lt, above_less v s.version.0 ss (omega (arith, lt)) up.0), up)
 
-ascends_edited : (v : ℕ) (d : Deed) (ss : List Step) → Ascends ss → Ascends (edited v d ss)
+ascends_edited : (v : ℕ) (d : Deed) (ss : List WorthStep) → Ascends ss → Ascends (edited v d ss)
 ascends_edited v d [] up = (tt, tt)
 ascends_edited v d (s ∷ ss) up =
     ascends_by v d s ss up (ascends_edited v d ss up.1) (nat_lt s.version.0 v) (s.version.0 == v) refl refl
 
-newest_by : (v : ℕ) (d : Deed) (s : Step) (ss : List Step) → newest_step (edited v d ss) ≡ max v (newest_step ss)
+newest_by : (v : ℕ) (d : Deed) (s : WorthStep) (ss : List WorthStep) → newest_step (edited v d ss) ≡ max v (newest_step ss)
     → (b c : Bool) → (s.version.0 == v) ≡ c
     → newest_step (if b then s ∷ edited v d ss else at_place v d s ss c) ≡ max v (max s.version.0 (newest_step ss))
 newest_by v d s ss rest true c same = omega (arith, rest)
@@ -228,12 +228,12 @@ newest_by v d s ss rest false true same =
     let is : s.version.0 ≡ v = grind (arith, nat_tests) in omega (arith, is)
 newest_by v d s ss rest false false same = refl
 
-newest_edited : (v : ℕ) (d : Deed) (ss : List Step) → newest_step (edited v d ss) ≡ max v (newest_step ss)
+newest_edited : (v : ℕ) (d : Deed) (ss : List WorthStep) → newest_step (edited v d ss) ≡ max v (newest_step ss)
 newest_edited v d [] = refl
 newest_edited v d (s ∷ ss) = newest_by v d s ss (newest_edited v d ss) (nat_lt s.version.0 v) (s.version.0 == v) refl
 
 -- what steps make with one deed more
-acting_by : (k : Kind) (v : ℕ) (d : Deed) (s : Step) (ss : List Step) (u : ℕ) (n : ℤ) → (k ≡ Bag → ⊥)
+acting_by : (k : Kind) (v : ℕ) (d : Deed) (s : WorthStep) (ss : List WorthStep) (u : ℕ) (n : ℤ) → (k ≡ Bag → ⊥)
     → IsTrue (deed_suits k d) → IsTrue (alters d) → Ascends (s ∷ ss)
     → acting k (edited v d ss) u n ≡ (if v == u then changed_number (acting k ss u n) d else acting k ss u n)
     → (b c e g : Bool) → nat_lt s.version.0 v ≡ b → (s.version.0 == v) ≡ c → (v == u) ≡ e → (s.version.0 == u) ≡ g
@@ -260,7 +260,7 @@ begun_acts : (k : Kind) (n : ℤ) (d : Deed) → (k ≡ Bag → ⊥) → IsTrue 
 begun_acts k n d apart f new true = acts_first k n d apart f new
 begun_acts k n d apart f new false = refl
 
-acting_edited : (k : Kind) (v : ℕ) (d : Deed) (ss : List Step) (u : ℕ) (n : ℤ) → (k ≡ Bag → ⊥) → IsTrue (deed_suits k d)
+acting_edited : (k : Kind) (v : ℕ) (d : Deed) (ss : List WorthStep) (u : ℕ) (n : ℤ) → (k ≡ Bag → ⊥) → IsTrue (deed_suits k d)
     → IsTrue (alters d) → Ascends ss
     → acting k (edited v d ss) u n ≡ (if v == u then changed_number (acting k ss u n) d else acting k ss u n)
 acting_edited k v d [] u n apart f new up = begun_acts k n d apart f new (v == u)
@@ -303,7 +303,7 @@ last_more ns x =
     ap (λ (ms : List Noted). greatest (map version_of ms)) (filter-append (λ (y : Noted). alters y.deed) ns (x ∷ []))
     ∙ altering (filter (λ (y : Noted). alters y.deed) ns) x (alters x.deed)
 
-pub steps_more : (k : Kind) (first : ℤ) (ns : List Noted) (ss : List Step) (x : Noted) → (k ≡ Bag → ⊥)
+pub steps_more : (k : Kind) (first : ℤ) (ns : List Noted) (ss : List WorthStep) (x : Noted) → (k ≡ Bag → ⊥)
     → IsTrue (deed_suits k x.deed) → IsTrue (alters x.deed) → Ascends ss → AreSteps k first ns ss
     → AreSteps k first (ns ++ x ∷ []) (revalued k first (edited x.version x.deed ss))
 steps_more k first ns ss x apart f new up are = record {
@@ -321,7 +321,7 @@ steps_more k first ns ss x apart f new up are = record {
       ∙ sym (newest_valued k first (edited x.version x.deed ss));
 }
 
-pub steps_ascend : (k : Kind) (first : ℤ) (v : ℕ) (d : Deed) (ss : List Step) → Ascends ss → Ascends (revalued k first (edited v d ss))
+pub steps_ascend : (k : Kind) (first : ℤ) (v : ℕ) (d : Deed) (ss : List WorthStep) → Ascends ss → Ascends (revalued k first (edited v d ss))
 steps_ascend k first v d ss up = ascends_valued k first (edited v d ss) (ascends_edited v d ss up)
 
 pub steps_none : (k : Kind) (first : ℤ) → AreSteps k first [] []

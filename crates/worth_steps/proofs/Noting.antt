@@ -16,7 +16,7 @@ use Rattle.script_parts.specs.declared.parts.Deed.TheVariants.{Apply, Get, Set, 
 use Rattle.script_parts.specs.declared.parts.TreeKind.{TreeKind}
 use Rattle.script_parts.specs.declared.parts.TreeKind.TheVariants as trees
 use Rattle.worth_steps.specs.declared.puts.Put.{Put}
-use Rattle.worth_steps.specs.declared.steps.Step.{Step}
+use Rattle.worth_steps.specs.declared.steps.WorthStep.{WorthStep}
 use Rattle.worth_steps.specs.Kept.{AreWorths, AreWorthsOf, WorthsData}
 use Rattle.worth_steps.specs.Puts.{ArePuts, Rises}
 use Rattle.worth_steps.specs.Steps.{AreSteps, Ascends, Chained}
@@ -58,7 +58,7 @@ get_worth u ns w (suc v) =
     ∙ get_in u (suc v) ns (worth_of w ns v)
     ∙ sym (fold-append after_noted w (in_order ns v) (noted_in (suc v) ns))
 
-get_steps : (k : Kind) (n : ℤ) (u : ℕ) (ns : List Noted) (ss : List Step) → AreSteps k n ns ss → AreSteps k n (ns ++ a_get u ∷ []) ss
+get_steps : (k : Kind) (n : ℤ) (u : ℕ) (ns : List Noted) (ss : List WorthStep) → AreSteps k n ns ss → AreSteps k n (ns ++ a_get u ∷ []) ss
 get_steps k n u ns ss are = record {
   acts = λ v m. get_in u v ns (value_start k m) ∙ are.acts v m;
   chained = are.chained;
@@ -90,7 +90,7 @@ noted_get first ns u Get w none are = record {
 
 -- A put.
 
-pub noted_put : (first : Value) (ns : List Noted) (u : ℕ) (d : Deed) (k : Kind) (n : ℤ) (ss : List Step) (ps qs : List Put) (p : Put)
+pub noted_put : (first : Value) (ns : List Noted) (u : ℕ) (d : Deed) (k : Kind) (n : ℤ) (ss : List WorthStep) (ps qs : List Put) (p : Put)
     → IsTrue (deed_suits k d) → Some p ≡ put_of u d → qs ≡ with_put p ps
     → AreWorths first ns (record { kind = k; first = n; steps = ss; puts = ps })
     → AreWorths first (ns ++ record { version = u; deed = d } ∷ []) (record { kind = k; first = n; steps = ss; puts = qs })
@@ -124,19 +124,19 @@ apart_by Bag Get u f new none is = absurd (cc new)
 apart_by Bag (Set a) u f new none is = absurd (cc f)
 apart_by Bag (Draw a) u f new none is = absurd (cc f)
 
-chained_of : (k : Kind) (n : ℤ) (ns : List Noted) (ss : List Step) (ps : List Put) → (k ≡ Bag → ⊥)
+chained_of : (k : Kind) (n : ℤ) (ns : List Noted) (ss : List WorthStep) (ps : List Put) → (k ≡ Bag → ⊥)
     → AreWorthsOf k ns (record { kind = k; first = n; steps = ss; puts = ps }) → AreSteps k n ns ss
 chained_of Sum n ns ss ps apart are = are
 chained_of Top n ns ss ps apart are = are
 chained_of Bag n ns ss ps apart are = absurd (apart refl)
 
-of_steps : (k : Kind) (n : ℤ) (ns : List Noted) (ss : List Step) (ps : List Put) → (k ≡ Bag → ⊥) → AreSteps k n ns ss
+of_steps : (k : Kind) (n : ℤ) (ns : List Noted) (ss : List WorthStep) (ps : List Put) → (k ≡ Bag → ⊥) → AreSteps k n ns ss
     → AreWorthsOf k ns (record { kind = k; first = n; steps = ss; puts = ps })
 of_steps Sum n ns ss ps apart are = are
 of_steps Top n ns ss ps apart are = are
 of_steps Bag n ns ss ps apart are = absurd (apart refl)
 
-pub noted_step : (first : Value) (ns : List Noted) (u : ℕ) (d : Deed) (k : Kind) (n : ℤ) (ss ts : List Step) (ps : List Put)
+pub noted_step : (first : Value) (ns : List Noted) (u : ℕ) (d : Deed) (k : Kind) (n : ℤ) (ss ts : List WorthStep) (ps : List Put)
     → IsTrue (deed_suits k d) → alters d ≡ true → None ≡ put_of u d
     → (Ascends ss → Chained k n ss → ts ≡ revalued k n (edited u d ss))
     → AreWorths first ns (record { kind = k; first = n; steps = ss; puts = ps })
@@ -166,7 +166,7 @@ none_of Sum n = steps_none Sum n
 none_of Top n = steps_none Top n
 none_of Bag n = puts_none
 
-pub none_noted : (first : Value) (k : Kind) (n : ℤ) (ss : List Step) (ps : List Put) → MayBegin first
+pub none_noted : (first : Value) (k : Kind) (n : ℤ) (ss : List WorthStep) (ps : List Put) → MayBegin first
     → k ≡ value_kind first → n ≡ value_number first → ss ≡ [] → ps ≡ []
     → AreWorths first [] (record { kind = k; first = n; steps = ss; puts = ps })
 none_noted first k n ss ps may kind number none empty =
@@ -185,7 +185,7 @@ none_noted first k n ss ps may kind number none empty =
 pub ordered : (first : Value) (ns : List Noted) (w : WorthsData) → AreWorths first ns w → AreOrdered w
 ordered first ns w are = record { ascends = are.ascends; rises = are.rises }
 
-shown_of : (k : Kind) (n : ℤ) (ns : List Noted) (ss : List Step) (ps : List Put) (v : ℕ) → Ascends ss
+shown_of : (k : Kind) (n : ℤ) (ns : List Noted) (ss : List WorthStep) (ps : List Put) (v : ℕ) → Ascends ss
     → AreWorthsOf k ns (record { kind = k; first = n; steps = ss; puts = ps })
     → shown_by_kind k (record { kind = k; first = n; steps = ss; puts = ps }) v ≡ worth_of (value_start k n) ns v
 shown_of Sum n ns ss ps v up are = worth_is Sum n ns ss v up are

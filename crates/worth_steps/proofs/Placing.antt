@@ -7,18 +7,18 @@ use Rattle.std.proofs.lemmas.Option.{get_or_from_slice_get}
 use Rattle.std.proofs.lemmas.List.{get_or_default}
 use Rattle.commute_ops.specs.declared.kinds.Kind.{Kind}
 use Rattle.script_parts.specs.declared.parts.Deed.{Deed}
-use Rattle.worth_steps.specs.declared.steps.Step.{Step}
+use Rattle.worth_steps.specs.declared.steps.WorthStep.{WorthStep}
 use Rattle.worth_steps.specs.Steps.{AllAbove, Ascends, Chained, act_on, newest_step, seen_to}
 use Rattle.worth_steps.specs.inside.Editing.{at_place, edited, number_below, revalued, stands_before, step_begun, step_gone_on, step_valued, steps_up_to}
 
 -- Versions in order, by places.
 
-above_at : (u : ℕ) (ss : List Step) (j : ℕ) (d : Step) → AllAbove u ss → j < length ss → u ≤ (get_or ss j d).version.0
+above_at : (u : ℕ) (ss : List WorthStep) (j : ℕ) (d : WorthStep) → AllAbove u ss → j < length ss → u ≤ (get_or ss j d).version.0
 above_at u [] j d up within = absurd (omega arith)
 above_at u (s ∷ ss) zero d up within = omega (arith, up.0)
 above_at u (s ∷ ss) (suc j) d up within = above_at u ss j d up.1 (omega arith)
 
-pub rising : (ss : List Step) → Ascends ss → IsNonDecreasingBy (λ (s : Step). s.version.0) ss
+pub rising : (ss : List WorthStep) → Ascends ss → IsNonDecreasingBy (λ (s : WorthStep). s.version.0) ss
 rising [] up i j d le within = absurd (omega arith)
 rising (s ∷ ss) up zero zero d le within = omega arith
 rising (s ∷ ss) up zero (suc j) d le within = above_at s.version.0 ss j d up.0 (omega arith)
@@ -26,8 +26,8 @@ rising (s ∷ ss) up (suc i) zero d le within = absurd (omega arith)
 rising (s ∷ ss) up (suc i) (suc j) d le within = rising ss up.1 i j d (omega arith) (omega arith)
 
 -- the place of a version is where its test turns
-pub point_is : (v : ℕ) (ss : List Step) (i : ℕ) → i ≤ length ss
-    → IsPartitionPoint (λ (s : Step). nat_le s.version.0 v ≡ true) (λ (s : Step). nat_le s.version.0 v ≡ false) ss i
+pub point_is : (v : ℕ) (ss : List WorthStep) (i : ℕ) → i ≤ length ss
+    → IsPartitionPoint (λ (s : WorthStep). nat_le s.version.0 v ≡ true) (λ (s : WorthStep). nat_le s.version.0 v ≡ false) ss i
     → i ≡ steps_up_to v ss
 point_is v [] i le point = omega arith
 point_is v (s ∷ ss) zero le point =
@@ -38,16 +38,16 @@ point_is v (s ∷ ss) (suc i) le point =
     (λ k d low high. point.0 (suc k) d (omega arith) (omega arith), λ k d low high. point.1 (suc k) d (omega arith) (omega arith))))
 
 -- what stands at a place, as a look-up has it
-version_at : (ss : List Step) (i : ℕ) (x d : Step) → slice_get ss i ≡ Some x → i < length ss
+version_at : (ss : List WorthStep) (i : ℕ) (x d : WorthStep) → slice_get ss i ≡ Some x → i < length ss
     → (get_or ss i d).version.0 ≡ x.version.0
 version_at ss i x d at within =
-    ap (λ (s : Step). s.version.0) (get_or_default ss i d x within ∙ get_or_from_slice_get ss i x x at)
+    ap (λ (s : WorthStep). s.version.0) (get_or_default ss i d x within ∙ get_or_from_slice_get ss i x x at)
 
-pub length_some : (ss : List Step) (x : Step) → slice_get ss (length ss - 1) ≡ Some x → length ss - 1 + 1 ≡ length ss
+pub length_some : (ss : List WorthStep) (x : WorthStep) → slice_get ss (length ss - 1) ≡ Some x → length ss - 1 + 1 ≡ length ss
 length_some [] x at = absurd (cc at)
 length_some (s ∷ ss) x at = omega arith
 
-pub all_up_to : (v : ℕ) (ss : List Step) (i : ℕ) (x : Step) → Ascends ss → i + 1 ≡ length ss → slice_get ss i ≡ Some x
+pub all_up_to : (v : ℕ) (ss : List WorthStep) (i : ℕ) (x : WorthStep) → Ascends ss → i + 1 ≡ length ss → slice_get ss i ≡ Some x
     → x.version.0 ≤ v → length ss ≡ steps_up_to v ss
 all_up_to v ss i x up len at le =
     point_is v ss (length ss) (omega arith) (
@@ -60,11 +60,11 @@ all_up_to v ss i x up len at le =
     )
 
 -- the last step is of the greatest version
-pub last_is_newest : (ss : List Step) (i : ℕ) (x : Step) → Ascends ss → i + 1 ≡ length ss → slice_get ss i ≡ Some x
+pub last_is_newest : (ss : List WorthStep) (i : ℕ) (x : WorthStep) → Ascends ss → i + 1 ≡ length ss → slice_get ss i ≡ Some x
     → x.version.0 ≡ newest_step ss
 last_is_newest [] i x up len at = absurd (omega arith)
 last_is_newest (s ∷ []) zero x up len at =
-    let is : s ≡ x = cc at in sym (ap (λ (y : Step). max y.version.0 0) is ∙ omega arith)
+    let is : s ≡ x = cc at in sym (ap (λ (y : WorthStep). max y.version.0 0) is ∙ omega arith)
 last_is_newest (s ∷ t ∷ ss) zero x up len at = absurd (omega arith)
 last_is_newest (s ∷ ss) (suc i) x up len at =
     let rest = last_is_newest ss i x up.1 (omega arith) at in
@@ -73,30 +73,30 @@ last_is_newest (s ∷ ss) (suc i) x up len at =
     omega arith
 
 -- the number below a place, where a step stands in front
-pub below_tail : (first : ℤ) (p : ℕ) (s : Step) (ss : List Step) → p ≤ length ss
+pub below_tail : (first : ℤ) (p : ℕ) (s : WorthStep) (ss : List WorthStep) → p ≤ length ss
     → number_below first (suc p) (s ∷ ss) ≡ number_below s.value p ss
 below_tail first zero s ss le = refl
 below_tail first (suc p) s [] le = absurd (omega arith)
 below_tail first (suc zero) s (t ∷ ss) le = refl
 below_tail first (suc (suc p)) s (t ∷ ss) le = below_tail first (suc p) s ss (omega arith)
 
-pub up_to_le : (v : ℕ) (ss : List Step) → steps_up_to v ss ≤ length ss
+pub up_to_le : (v : ℕ) (ss : List WorthStep) → steps_up_to v ss ≤ length ss
 up_to_le v [] = omega arith
 up_to_le v (s ∷ ss) = let h = up_to_le v ss in grind (arith, nat_tests)
 
-seen_by : (first : ℤ) (v : ℕ) (s : Step) (ss : List Step) (b : Bool)
+seen_by : (first : ℤ) (v : ℕ) (s : WorthStep) (ss : List WorthStep) (b : Bool)
     → number_below s.value (steps_up_to v ss) ss ≡ seen_to s.value ss v
     → number_below first (if b then suc (steps_up_to v ss) else 0) (s ∷ ss) ≡ (if b then seen_to s.value ss v else first)
 seen_by first v s ss true rest = below_tail first (steps_up_to v ss) s ss (up_to_le v ss) ∙ rest
 seen_by first v s ss false rest = refl
 
 -- what is seen at a version is the number below its place
-pub seen_below : (first : ℤ) (v : ℕ) (ss : List Step) → number_below first (steps_up_to v ss) ss ≡ seen_to first ss v
+pub seen_below : (first : ℤ) (v : ℕ) (ss : List WorthStep) → number_below first (steps_up_to v ss) ss ≡ seen_to first ss v
 seen_below first v [] = refl
 seen_below first v (s ∷ ss) = seen_by first v s ss (nat_le s.version.0 v) (seen_below s.value v ss)
 
 -- no step comes first where all are above
-none_up_to : (u v : ℕ) (ss : List Step) → v ≤ u → AllAbove u ss → steps_up_to v ss ≡ 0
+none_up_to : (u v : ℕ) (ss : List WorthStep) → v ≤ u → AllAbove u ss → steps_up_to v ss ≡ 0
 none_up_to u v [] le up = refl
 none_up_to u v (s ∷ ss) le up =
     let over : nat_le s.version.0 v ≡ false = grind (arith, nat_tests, up.0) in rw over refl
@@ -104,25 +104,25 @@ none_up_to u v (s ∷ ss) le up =
 -- A deed more, at its place.
 
 -- a step whose value is worked out stays
-same_valued : (k : Kind) (below : ℤ) (s : Step) → s.value ≡ act_on k s.cut s.own below → step_valued k below s ≡ s
+same_valued : (k : Kind) (below : ℤ) (s : WorthStep) → s.value ≡ act_on k s.cut s.own below → step_valued k below s ≡ s
 same_valued k below s made = λ i. record { version = s.version; cut = s.cut; own = s.own; value = sym made i }
 
 -- a step in front, whose value stays, and what is worked out of the others
-in_front : (k : Kind) (first : ℤ) (s : Step) (p : ℕ) (x : Step) (ss rest new : List Step)
+in_front : (k : Kind) (first : ℤ) (s : WorthStep) (p : ℕ) (x : WorthStep) (ss rest new : List WorthStep)
     → s.value ≡ act_on k s.cut s.own first → p ≤ length ss
     → take p ss ++ revalued k (number_below s.value p ss) (x ∷ rest) ≡ revalued k s.value new
     → take (suc p) (s ∷ ss) ++ revalued k (number_below first (suc p) (s ∷ ss)) (x ∷ rest) ≡ revalued k first (s ∷ new)
 in_front k first s p x ss rest new made le is =
     ap (λ (n : ℤ). s ∷ (take p ss ++ revalued k n (x ∷ rest))) (below_tail first p s ss le)
-    ∙ ap (λ (xs : List Step). s ∷ xs) is
-    ∙ ap (λ (y : Step). y ∷ revalued k s.value new) (sym (same_valued k first s made))
+    ∙ ap (λ (xs : List WorthStep). s ∷ xs) is
+    ∙ ap (λ (y : WorthStep). y ∷ revalued k s.value new) (sym (same_valued k first s made))
     ∙ ap (λ (n : ℤ). step_valued k first s ∷ revalued k n new) made
 
-stands_tail : (p v : ℕ) (s : Step) (ss : List Step) → stands_before (suc p) v (s ∷ ss) ≡ false → stands_before p v ss ≡ false
+stands_tail : (p v : ℕ) (s : WorthStep) (ss : List WorthStep) → stands_before (suc p) v (s ∷ ss) ≡ false → stands_before p v ss ≡ false
 stands_tail zero v s ss none = refl
 stands_tail (suc p) v s ss none = none
 
-begin_by : (k : Kind) (first : ℤ) (v : ℕ) (d : Deed) (s : Step) (ss : List Step) → AllAbove s.version.0 ss
+begin_by : (k : Kind) (first : ℤ) (v : ℕ) (d : Deed) (s : WorthStep) (ss : List WorthStep) → AllAbove s.version.0 ss
     → s.value ≡ act_on k s.cut s.own first
     → (stands_before (steps_up_to v ss) v ss ≡ false
     → take (steps_up_to v ss) ss ++ revalued k (number_below s.value (steps_up_to v ss) ss) (step_begun v d ∷ drop (steps_up_to v ss) ss)
@@ -149,7 +149,7 @@ begin_by k first v d s ss up made rest false false true le lt eq none =
 begin_by k first v d s ss up made rest false false false le lt eq none = refl
 
 -- a step begins
-pub begin_is : (k : Kind) (first : ℤ) (v : ℕ) (d : Deed) (ss : List Step) → Ascends ss → Chained k first ss
+pub begin_is : (k : Kind) (first : ℤ) (v : ℕ) (d : Deed) (ss : List WorthStep) → Ascends ss → Chained k first ss
     → stands_before (steps_up_to v ss) v ss ≡ false
     → take (steps_up_to v ss) ss ++ revalued k (number_below first (steps_up_to v ss) ss) (step_begun v d ∷ drop (steps_up_to v ss) ss)
     ≡ revalued k first (edited v d ss)
@@ -159,7 +159,7 @@ begin_is k first v d (s ∷ ss) up chain none =
     (s.version.0 == v) refl refl refl none
 
 -- or the step of the version goes on
-go_on_by : (k : Kind) (first : ℤ) (v : ℕ) (d : Deed) (s x : Step) (ss : List Step) (q : ℕ) → AllAbove s.version.0 ss
+go_on_by : (k : Kind) (first : ℤ) (v : ℕ) (d : Deed) (s x : WorthStep) (ss : List WorthStep) (q : ℕ) → AllAbove s.version.0 ss
     → s.value ≡ act_on k s.cut s.own first → (x.version.0 == v) ≡ true
     → ((r : ℕ) → steps_up_to v ss ≡ suc r → slice_get ss r ≡ Some x
     → take r ss ++ revalued k (number_below s.value r ss) (step_gone_on d x ∷ drop (suc r) ss) ≡ revalued k s.value (edited v d ss))
@@ -170,13 +170,13 @@ go_on_by : (k : Kind) (first : ℤ) (v : ℕ) (d : Deed) (s x : Step) (ss : List
 go_on_by k first v d s x ss q up made is rest false c e le lt eq place at = absurd (omega (arith, place))
 go_on_by k first v d s x ss zero up made is rest true true e le lt eq place at =
     let one : x ≡ s = cc at in
-    let same : (s.version.0 == v) ≡ true = subst (λ (y : Step). (y.version.0 == v) ≡ true) one is in
+    let same : (s.version.0 == v) ≡ true = subst (λ (y : WorthStep). (y.version.0 == v) ≡ true) one is in
     absurd (let not : (s.version.0 == v) ≡ false = grind (arith, nat_tests) in cc (not, same))
 go_on_by k first v d s x ss zero up made is rest true false true le lt eq place at =
-    let same : x ≡ s = cc at in ap (λ (y : Step). revalued k first (step_gone_on d y ∷ ss)) same
+    let same : x ≡ s = cc at in ap (λ (y : WorthStep). revalued k first (step_gone_on d y ∷ ss)) same
 go_on_by k first v d s x ss zero up made is rest true false false le lt eq place at =
     let one : x ≡ s = cc at in
-    let same : (s.version.0 == v) ≡ true = subst (λ (y : Step). (y.version.0 == v) ≡ true) one is in
+    let same : (s.version.0 == v) ≡ true = subst (λ (y : WorthStep). (y.version.0 == v) ≡ true) one is in
     absurd (cc (eq, same))
 go_on_by k first v d s x ss (suc r) up made is rest true true e le lt eq place at =
     let next : steps_up_to v ss ≡ suc r = omega (arith, place) in
@@ -187,7 +187,7 @@ go_on_by k first v d s x ss (suc r) up made is rest true false e le lt eq place 
     let first_one = none_up_to s.version.0 v ss here up in
     absurd (omega arith)
 
-pub go_on_is : (k : Kind) (first : ℤ) (v : ℕ) (d : Deed) (ss : List Step) (q : ℕ) (x : Step) → Ascends ss → Chained k first ss
+pub go_on_is : (k : Kind) (first : ℤ) (v : ℕ) (d : Deed) (ss : List WorthStep) (q : ℕ) (x : WorthStep) → Ascends ss → Chained k first ss
     → (x.version.0 == v) ≡ true → steps_up_to v ss ≡ suc q → slice_get ss q ≡ Some x
     → take q ss ++ revalued k (number_below first q ss) (step_gone_on d x ∷ drop (suc q) ss) ≡ revalued k first (edited v d ss)
 go_on_is k first v d [] q x up chain is place at = absurd (omega (arith, place))
@@ -197,36 +197,36 @@ go_on_is k first v d (s ∷ ss) q x up chain is place at =
 
 -- What a deed leaves, where its step goes on and where one begins.
 
-there_by : (k : Kind) (first : ℤ) (v : ℕ) (d : Deed) (ss new : List Step) (q : ℕ) (o : Option Step) → Ascends ss → Chained k first ss
+there_by : (k : Kind) (first : ℤ) (v : ℕ) (d : Deed) (ss new : List WorthStep) (q : ℕ) (o : Option WorthStep) → Ascends ss → Chained k first ss
     → suc q ≡ steps_up_to v ss → slice_get ss q ≡ o → (elim o [ None ↦ false | Some s ↦ s.version.0 == v ]) ≡ true
-    → ((s : Step) → slice_get ss q ≡ Some s
+    → ((s : WorthStep) → slice_get ss q ≡ Some s
     → new ≡ take q ss ++ revalued k (number_below first q ss) (step_gone_on d s ∷ drop (suc q) ss))
     → new ≡ revalued k first (edited v d ss)
 there_by k first v d ss new q None up chain place at is made = absurd (cc is)
 there_by k first v d ss new q (Some x) up chain place at is made = made x at ∙ go_on_is k first v d ss q x up chain is (sym place) at
 
-pub noted_there : (k : Kind) (first : ℤ) (v : ℕ) (d : Deed) (ss new : List Step) (place : ℕ) → Ascends ss → Chained k first ss
+pub noted_there : (k : Kind) (first : ℤ) (v : ℕ) (d : Deed) (ss new : List WorthStep) (place : ℕ) → Ascends ss → Chained k first ss
     → place ≡ steps_up_to v ss → stands_before place v ss ≡ true
-    → ((s : Step) → slice_get ss (place - 1) ≡ Some s
+    → ((s : WorthStep) → slice_get ss (place - 1) ≡ Some s
     → new ≡ take (place - 1) ss ++ revalued k (number_below first (place - 1) ss) (step_gone_on d s ∷ drop (suc (place - 1)) ss))
     → new ≡ revalued k first (edited v d ss)
 noted_there k first v d ss new zero up chain is stands made = absurd (cc stands)
 noted_there k first v d ss new (suc q) up chain is stands made =
     let front : suc q - 1 ≡ q = omega arith in
     there_by k first v d ss new q (slice_get ss q) up chain is refl stands
-    (subst (λ (p : ℕ). (s : Step) → slice_get ss p ≡ Some s
+    (subst (λ (p : ℕ). (s : WorthStep) → slice_get ss p ≡ Some s
     → new ≡ take p ss ++ revalued k (number_below first p ss) (step_gone_on d s ∷ drop (suc p) ss)) front made)
 
-pub noted_new : (k : Kind) (first : ℤ) (v : ℕ) (d : Deed) (ss new : List Step) (x : Step) (place : ℕ) → Ascends ss → Chained k first ss
+pub noted_new : (k : Kind) (first : ℤ) (v : ℕ) (d : Deed) (ss new : List WorthStep) (x : WorthStep) (place : ℕ) → Ascends ss → Chained k first ss
     → place ≡ steps_up_to v ss → stands_before place v ss ≡ false → x ≡ step_begun v d
     → new ≡ take place ss ++ revalued k (number_below first place ss) (x ∷ drop place ss)
     → new ≡ revalued k first (edited v d ss)
 noted_new k first v d ss new x place up chain is none begun made =
     made
-    ∙ ap (λ (y : Step). take place ss ++ revalued k (number_below first place ss) (y ∷ drop place ss)) begun
+    ∙ ap (λ (y : WorthStep). take place ss ++ revalued k (number_below first place ss) (y ∷ drop place ss)) begun
     ∙ ap (λ (p : ℕ). take p ss ++ revalued k (number_below first p ss) (step_begun v d ∷ drop p ss)) is
     ∙ begin_is k first v d ss up chain (subst (λ (p : ℕ). stands_before p v ss ≡ false) is none)
 
 -- the steps of an equal list ascend
-pub ascends_as : (ss ts : List Step) → ss ≡ ts → Ascends ss → Ascends ts
+pub ascends_as : (ss ts : List WorthStep) → ss ≡ ts → Ascends ss → Ascends ts
 ascends_as ss ts is up = subst Ascends is up

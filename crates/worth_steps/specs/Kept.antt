@@ -5,11 +5,11 @@ use Rattle.commute_ops.specs.declared.kinds.Kind.{Kind}
 use Rattle.commute_ops.specs.declared.kinds.Kind.TheVariants.{Sum, Top, Bag}
 use Rattle.commute_ops.specs.declared.value.Value.{Value}
 use Rattle.commute_ops.specs.Ops.{value_start}
-use Rattle.worth_steps.specs.declared.steps.Step.{Step}
+use Rattle.worth_steps.specs.declared.steps.WorthStep.{WorthStep}
 use Rattle.worth_steps.specs.declared.steps.StepChange.{StepChange}
 use Rattle.worth_steps.specs.declared.steps.StepChange.TheVariants.{GoneOn, Begun}
 use Rattle.worth_steps.specs.declared.puts.Put.{Put}
-use Rattle.worth_steps.specs.declared.change.Change.{Change}
+use Rattle.worth_steps.specs.declared.change.WorthChange.{WorthChange}
 use Rattle.worth_steps.specs.declared.change.Changed.{Changed}
 use Rattle.worth_steps.specs.declared.change.Changed.TheVariants as changed
 use Rattle.worth_steps.specs.Worth.{Noted}
@@ -20,7 +20,7 @@ use Rattle.worth_steps.specs.Puts.{ArePuts, Rises}
 pub record WorthsData : Type 0 where
   pub kind : Kind
   pub first : ℤ
-  pub steps : List Step
+  pub steps : List WorthStep
   pub puts : List Put
 
 abbrev pub AreWorthsOf : Kind → List Noted → WorthsData → Type 0
@@ -36,10 +36,10 @@ pub record AreWorths (first : Value) (ns : List Noted) (w : WorthsData) : Type 0
   pub kept : AreWorthsOf w.kind ns w
 
 -- the steps below a place, and then these, as far as there were as many
-abbrev pub steps_over : ℕ → List Step → List Step → List Step
+abbrev pub steps_over : ℕ → List WorthStep → List WorthStep → List WorthStep
 steps_over p above ss = take p ss ++ take (length ss - p) above
 
-abbrev pub steps_back : StepChange → List Step → List Step
+abbrev pub steps_back : StepChange → List WorthStep → List WorthStep
 steps_back (GoneOn p s above) ss = steps_over (suc p) above (slice_set ss p s)
 steps_back (Begun p above) ss = steps_over p above (take (length ss - 1) ss)
 
@@ -49,5 +49,5 @@ taken_back_by changed.Nothing w = w
 taken_back_by (changed.Steps c) w = record w { steps = steps_back c w.steps }
 taken_back_by (changed.Put i) w = record w { puts = remove w.puts i }
 
-abbrev pub worths_back : Change → WorthsData → WorthsData
+abbrev pub worths_back : WorthChange → WorthsData → WorthsData
 worths_back c w = taken_back_by c.changed w

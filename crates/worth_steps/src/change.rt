@@ -3,7 +3,7 @@ use crate::steps::StepChange;
 
 /// What a deed has changed of an item, by which the deed is taken back.
 #[derive(Drop)]
-pub struct Change {
+pub struct WorthChange {
     pub(crate) changed: Changed,
 }
 

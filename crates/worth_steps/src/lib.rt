@@ -7,5 +7,5 @@ mod puts;
 mod steps;
 mod worths;
 
-pub use change::Change;
+pub use change::WorthChange;
 pub use worths::Worths;

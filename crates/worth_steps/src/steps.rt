@@ -11,7 +11,7 @@ use tv_base::{NoMemory, Seq, Version};
 
 /// What the deeds of one version make of any value, and what the item is worth there.
 #[derive(Clone, Copy, Debug, PartialEq, Eq)]
-pub(crate) struct Step {
+pub(crate) struct WorthStep {
     /// The version.
     pub(crate) version: Version,
     /// Whether a set is among the deeds: then what is below doesn't count.
@@ -23,13 +23,13 @@ pub(crate) struct Step {
 }
 
 /// Steps as they were.
-type Steps = Seq<Step, 0xffff_ffff_ffff_ffff>;
+type Steps = Seq<WorthStep, 0xffff_ffff_ffff_ffff>;
 
 /// What a deed has changed of the steps. Where no step stood above, it needs no memory.
 #[derive(Drop)]
 pub(crate) enum StepChange {
     /// The step at a place went on: what it was, and what those above it were.
-    GoneOn(usize, Step, Steps),
+    GoneOn(usize, WorthStep, Steps),
     /// A step began at a place: what those above it were.
     Begun(usize, Steps),
 }
@@ -70,11 +70,11 @@ fn is_set(deed: &Deed) -> bool
 }
 
 /// A step of one deed, whose value isn't known yet.
-fn step_begun(version: Version, deed: &Deed) -> Option<Step>
+fn step_begun(version: Version, deed: &Deed) -> Option<WorthStep>
     ensures { IfSome result (λ s. s ≡ step_begun version.0 deed.now) }
 {
     let own = first_own(deed)?;
-    Some(Step {
+    Some(WorthStep {
         version,
         cut: is_set(deed),
         own,
@@ -83,24 +83,24 @@ fn step_begun(version: Version, deed: &Deed) -> Option<Step>
 }
 
 /// A step with one deed more.
-fn step_gone_on(step: &Step, deed: &Deed) -> Option<Step>
+fn step_gone_on(step: &WorthStep, deed: &Deed) -> Option<WorthStep>
     ensures { IfSome result (λ s. s ≡ step_gone_on deed.now step.now) }
 {
     let own = changed_number(&step.own, deed)?;
     let cut = step.cut || is_set(deed);
-    Some(Step { cut, own, ..*step })
+    Some(WorthStep { cut, own, ..*step })
 }
 
 /// A step with its value, from the number below it.
-fn step_valued(kind: Kind, below: &Amount, step: &Step) -> Option<Step>
+fn step_valued(kind: Kind, below: &Amount, step: &WorthStep) -> Option<WorthStep>
     ensures { IfSome result (λ s. s ≡ step_valued kind below.now step.now) }
 {
     let value = acted(kind, below, step)?;
-    Some(Step { value, ..*step })
+    Some(WorthStep { value, ..*step })
 }
 
 /// What a step makes of the number below it. None where it isn't in the range of amounts.
-fn acted(kind: Kind, below: &Amount, step: &Step) -> Option<Amount>
+fn acted(kind: Kind, below: &Amount, step: &WorthStep) -> Option<Amount>
     ensures { IfSome result (λ n. n ≡ act_on kind step.now.cut step.now.own below.now) }
 {
     if step.cut {
@@ -117,8 +117,8 @@ fn revalued(
     alloc: Global,
     kind: Kind,
     below: &Amount,
-    steps: &[Step],
-) -> Result<Vec<Step>, NoMemory>
+    steps: &[WorthStep],
+) -> Result<Vec<WorthStep>, NoMemory>
     ensures { IfOk result (λ made. made.items ≡ revalued kind below.now steps.now) }
 {
     let mut made = Vec::with_capacity(alloc, steps.len())?;
@@ -130,14 +130,14 @@ fn revalued(
 }
 
 /// The value of the last step, or the number below all where there is none.
-fn last_value<'a>(below: &'a Amount, steps: &'a [Step]) -> &'a Amount
+fn last_value<'a>(below: &'a Amount, steps: &'a [WorthStep]) -> &'a Amount
     ensures { result.now ≡ number_below below.now (length steps.now) steps.now }
 {
     number_below(below, steps, steps.len())
 }
 
 /// The number below a place.
-fn number_below<'a>(first: &'a Amount, steps: &'a [Step], place: usize) -> &'a Amount
+fn number_below<'a>(first: &'a Amount, steps: &'a [WorthStep], place: usize) -> &'a Amount
     ensures { result.now ≡ number_below first.now place steps.now }
 {
     if place == 0 {
@@ -153,10 +153,10 @@ fn number_below<'a>(first: &'a Amount, steps: &'a [Step], place: usize) -> &'a A
 fn valued_at(
     kind: Kind,
     first: &Amount,
-    steps: &[Step],
+    steps: &[WorthStep],
     place: usize,
-    step: &Step,
-) -> Result<Step, NoMemory>
+    step: &WorthStep,
+) -> Result<WorthStep, NoMemory>
     ensures { IfOk result (λ s. s ≡ step_valued kind (number_below first.now place steps.now) step.now) }
 {
     let below = number_below(first, steps, place);
@@ -164,7 +164,7 @@ fn valued_at(
 }
 
 /// How many of the steps, which ascend, are of at most this version. Where all are it doesn't search.
-fn steps_up_to(steps: &[Step], version: Version) -> usize
+fn steps_up_to(steps: &[WorthStep], version: Version) -> usize
     ensures within { result ≤ length steps.now }
     ensures place { Ascends steps.now → result ≡ steps_up_to version.0 steps.now }
 {
@@ -175,19 +175,19 @@ fn steps_up_to(steps: &[Step], version: Version) -> usize
 }
 
 /// The same, found by halving.
-fn halved(steps: &[Step], version: Version) -> usize
+fn halved(steps: &[WorthStep], version: Version) -> usize
     ensures within { result ≤ length steps.now }
     ensures place { Ascends steps.now → result ≡ steps_up_to version.0 steps.now }
 {
     steps.partition_point(
-        |step: &Step| -> bool
+        |step: &WorthStep| -> bool
             ensures { result ≡ nat_le step.now.version.0 version.0 }
         { step.version.0 <= version.0 },
     )
 }
 
 /// Whether the step before a place is of the version.
-fn stands_before(steps: &[Step], place: usize, version: Version) -> bool
+fn stands_before(steps: &[WorthStep], place: usize, version: Version) -> bool
     ensures { result ≡ stands_before place version.0 steps.now }
 {
     if place == 0 {
@@ -200,14 +200,18 @@ fn stands_before(steps: &[Step], place: usize, version: Version) -> bool
 }
 
 /// The number that is seen at a version: that of the last step that isn't above it, or the first one.
-pub(crate) fn number_at<'a>(first: &'a Amount, steps: &'a [Step], version: Version) -> &'a Amount
+pub(crate) fn number_at<'a>(
+    first: &'a Amount,
+    steps: &'a [WorthStep],
+    version: Version,
+) -> &'a Amount
     ensures { Ascends steps.now → result.now ≡ seen_to first.now steps.now version.0 }
 {
     number_below(first, steps, steps_up_to(steps, version))
 }
 
 /// The version of the last step, 0 where there is none.
-pub(crate) fn newest_step(steps: &[Step]) -> Version
+pub(crate) fn newest_step(steps: &[WorthStep]) -> Version
     ensures { Ascends steps.now → result.0 ≡ newest_step steps.now }
 {
     match steps.last() {
@@ -220,7 +224,7 @@ pub(crate) fn newest_step(steps: &[Step]) -> Version
 pub(crate) fn note_step(
     kind: Kind,
     first: &Amount,
-    steps: &mut Vec<Step>,
+    steps: &mut Vec<WorthStep>,
     version: Version,
     deed: &Deed,
 ) -> Result<StepChange, NoMemory>
@@ -242,12 +246,12 @@ pub(crate) fn note_step(
 fn go_on(
     kind: Kind,
     first: &Amount,
-    steps: &mut Vec<Step>,
+    steps: &mut Vec<WorthStep>,
     place: usize,
     deed: &Deed,
 ) -> Result<StepChange, NoMemory>
     requires { place < length steps.old.items }
-    ensures ok { OnOk result ((s : Step) → slice_get steps.old.items place ≡ Some s
+    ensures ok { OnOk result ((s : WorthStep) → slice_get steps.old.items place ≡ Some s
         → steps.new.items ≡ take place steps.old.items ++ revalued kind (number_below first.now place steps.old.items) (step_gone_on deed.now s ∷ drop (suc place) steps.old.items)) }
     ensures back { IfOk result (λ c. steps_back c steps.new.items ≡ steps.old.items) }
     ensures err { OnErr result (steps.new.items ≡ steps.old.items) }
@@ -265,9 +269,9 @@ fn go_on(
 fn begin(
     kind: Kind,
     first: &Amount,
-    steps: &mut Vec<Step>,
+    steps: &mut Vec<WorthStep>,
     place: usize,
-    step: &Step,
+    step: &WorthStep,
 ) -> Result<StepChange, NoMemory>
     requires { place ≤ length steps.old.items }
     ensures ok { OnOk result (steps.new.items ≡ take place steps.old.items ++ revalued kind (number_below first.now place steps.old.items) (step.now ∷ drop place steps.old.items)) }
@@ -282,7 +286,7 @@ fn begin(
 }
 
 /// Lets the steps from a place on and as many others change places.
-fn swap_above(steps: &mut Vec<Step>, place: usize, above: &mut Vec<Step>)
+fn swap_above(steps: &mut Vec<WorthStep>, place: usize, above: &mut Vec<WorthStep>)
     requires { place + length above.old.items ≡ length steps.old.items }
     ensures steps { steps.new.items ≡ take place steps.old.items ++ above.old.items }
     ensures above { above.new.items ≡ drop place steps.old.items }
@@ -291,7 +295,7 @@ fn swap_above(steps: &mut Vec<Step>, place: usize, above: &mut Vec<Step>)
 }
 
 /// Takes a change back.
-pub(crate) fn take_back(steps: &mut Vec<Step>, change: &StepChange)
+pub(crate) fn take_back(steps: &mut Vec<WorthStep>, change: &StepChange)
     ensures { steps.new.items ≡ steps_back change.now steps.old.items }
 {
     match change {
@@ -309,7 +313,7 @@ pub(crate) fn take_back(steps: &mut Vec<Step>, change: &StepChange)
 }
 
 /// Keeps the steps below a place, and puts these in place of the others, as far as there are as many.
-fn put_over(steps: &mut Vec<Step>, place: usize, above: &[Step])
+fn put_over(steps: &mut Vec<WorthStep>, place: usize, above: &[WorthStep])
     ensures { steps.new.items ≡ steps_over place above.now steps.old.items }
 {
     if steps.len() <= place {

@@ -6,9 +6,9 @@ ghost use Rattle.worth_steps.specs.Steps.{seen_to};
 ghost use Rattle.worth_steps.specs.Worth.{MayBegin, Noted, alters, deed_suits, last_altered, value_kind, worth_of};
 ghost use Rattle.worth_steps.specs.inside.Showing.{AreOrdered, newest_by_kind, shown_value, value_number};
 
-use crate::change::{Change, Changed};
+use crate::change::{Changed, WorthChange};
 use crate::puts::{self, Put};
-use crate::steps::{self, Step};
+use crate::steps::{self, WorthStep};
 use commute_ops::{Amount, Kind, SumValue, TopValue, Value};
 use script_parts::parts::Deed;
 use std::alloc::Global;
@@ -20,7 +20,7 @@ use tv_base::{NoMemory, Version};
 pub struct Worths {
     kind: Kind,
     first: Amount,
-    steps: Vec<Step>,
+    steps: Vec<WorthStep>,
     puts: Vec<Put>,
 }
 
@@ -52,7 +52,7 @@ impl Worths {
     ///
     /// `NoMemory` comes, too, where a number would leave the range of `Amount`. No script comes near that: it takes more
     /// than a hundred million deeds of the greatest magnitude. After an error the worths are as they were.
-    pub fn note(&mut self, version: Version, deed: &Deed) -> Result<Change, NoMemory>
+    pub fn note(&mut self, version: Version, deed: &Deed) -> Result<WorthChange, NoMemory>
         requires { IsTrue (deed_suits self.old.kind deed.now) }
         ensures noted { OnOk result ((first : Value) (ns : List Noted) → AreWorths first ns self.old
             → AreWorths first (ns ++ record { version = version.0; deed = deed.now } ∷ []) self.new) }
@@ -61,14 +61,14 @@ impl Worths {
         ensures err { OnErr result (self.new ≡ self.old) }
     {
         if !alters(deed) {
-            return Ok(Change {
+            return Ok(WorthChange {
                 changed: Changed::Nothing,
             });
         }
         match puts::put_of(version, deed) {
             Some(put) => {
                 let place = puts::note_put(&mut self.puts, &put)?;
-                Ok(Change {
+                Ok(WorthChange {
                     changed: Changed::Put(place),
                 })
             }
@@ -80,7 +80,7 @@ impl Worths {
                     version,
                     deed,
                 )?;
-                Ok(Change {
+                Ok(WorthChange {
                     changed: Changed::Steps(change),
                 })
             }
@@ -89,7 +89,7 @@ impl Worths {
 
     /// Takes the last deed back, by the change that noting it gave. Needs no memory. The change of an earlier deed, or of
     /// another item, leaves worths of which nothing is said.
-    pub fn undo(&mut self, change: Change)
+    pub fn undo(&mut self, change: WorthChange)
         ensures { self.new ≡ worths_back change self.old }
     {
         match &change.changed {

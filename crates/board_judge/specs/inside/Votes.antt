@@ -19,7 +19,7 @@ use Rattle.board_judge.specs.Notes.{AreKnown}
 use Rattle.board_judge.specs.Views.{IsView, UsersData}
 use Rattle.board_judge.specs.declared.at_once.Asked.{Asked}
 use Rattle.worth_steps.specs.Kept.{WorthsData}
-use Rattle.board_judge.specs.declared.votes.Ballot.{Ballot}
+use Rattle.board_judge.specs.declared.votes.NamedVote.{NamedVote}
 use Rattle.board_judge.specs.declared.votes.Given.{Given}
 
 -- after acts of an entry, before which the history was h, all acts so far were xs: these are their tallies, and the worths are
@@ -31,7 +31,7 @@ pub record IsMidway (s : ScriptData) (g : GatesData) (u : UsersData) (h : List E
   pub known : AreKnown s (places_of h) ws
 
 -- the vote that an act is
-abbrev pub ballot_of : Act → Option Ballot
+abbrev pub ballot_of : Act → Option NamedVote
 ballot_of (Voted t k vote) = Some (record { asked = record { tree = t; sub = k }; refusal = refusal_in vote })
 ballot_of Finished = None
 ballot_of _ = None

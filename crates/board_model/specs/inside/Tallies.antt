@@ -9,8 +9,8 @@ use Rattle.tx_trees.specs.declared.parts.Tree.{Tree}
 use Rattle.tx_trees.specs.declared.parts.TreeKind.{TreeKind}
 use Rattle.tx_trees.specs.declared.parts.TreeKind.TheVariants.{Update, Read, Strict}
 use Rattle.board_model.specs.declared.standings.Standing.{Standing}
-use Rattle.board_model.specs.declared.tallies.News.{News}
-use Rattle.board_model.specs.declared.tallies.News.TheVariants as news
+use Rattle.board_model.specs.declared.tallies.TreeNews.{TreeNews}
+use Rattle.board_model.specs.declared.tallies.TreeNews.TheVariants as news
 use Rattle.board_model.specs.declared.tallies.Tally.{Tally}
 use Rattle.tv_base.specs.declared.numbers.TheConstants.{MOST_NODES, MOST_SUBS_OF_TREE}
 use Rattle.board_rules.specs.Histories.{Place}
@@ -37,7 +37,7 @@ abbrev pub with_applied : ℕ → Tally → Tally
 with_applied p row = record row { applied = slice_set row.applied p true }
 
 -- a row with what is noted on it
-abbrev pub with_news : News → Tally → Tally
+abbrev pub with_news : TreeNews → Tally → Tally
 with_news (news.Born v) = with_born v
 with_news (news.Done k) = with_sub_done k.0
 with_news (news.Decided commit) = with_decided commit

@@ -5,17 +5,17 @@ use Rattle.letter_types.specs.declared.acts.Act.{Act}
 use Rattle.letter_types.specs.declared.acts.Act.TheVariants.{Born, Turned, Finished}
 use Rattle.board_tallies.specs.Board.{BoardData}
 use Rattle.board_tallies.specs.GateRows.{GatesData}
-use Rattle.board_tallies.specs.declared.gates.Gate.{Gate}
+use Rattle.board_tallies.specs.declared.gates.RowGate.{RowGate}
 use Rattle.board_tallies.specs.declared.numbers.Numbers.{Numbers}
 
 -- a gate that is there is open: so many trees are whole, and every node has collected to so many versions
-abbrev pub is_open_gate : Option Gate → BoardData → Bool
+abbrev pub is_open_gate : Option RowGate → BoardData → Bool
 is_open_gate None b = false
 is_open_gate (Some gate) b =
     nat_le gate.trees b.passed && list_all (λ (n : Numbers). nat_le gate.advances n.low.0) b.nodes
 
 -- the gate of the row that asks for the advancement to version v - 1
-abbrev pub gate_to : List Gate → ℕ → Option Gate
+abbrev pub gate_to : List RowGate → ℕ → Option RowGate
 gate_to gates v = if nat_le 2 v then slice_get gates (v - 2) else None
 
 -- a node has gone through so many advancements

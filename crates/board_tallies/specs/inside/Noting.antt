@@ -14,8 +14,8 @@ use Rattle.script_parts.specs.declared.parts.TreeKind.{TreeKind}
 use Rattle.board_rules.specs.Right.{finishes}
 use Rattle.board_tallies.specs.Board.{AreCounted, BoardData, first_numbers, first_state, numbers_at, pending_version, state_at, whole_at}
 use Rattle.board_tallies.specs.declared.numbers.Numbers.{Numbers}
-use Rattle.board_tallies.specs.declared.states.News.{News}
-use Rattle.board_tallies.specs.declared.states.News.TheVariants as news
+use Rattle.board_tallies.specs.declared.states.StateNews.{StateNews}
+use Rattle.board_tallies.specs.declared.states.StateNews.TheVariants as news
 use Rattle.board_tallies.specs.declared.states.StateWas.{StateWas}
 use Rattle.board_tallies.specs.declared.states.StateWas.TheVariants as was
 use Rattle.board_tallies.specs.declared.states.TreeState.{TreeState}
@@ -38,7 +38,7 @@ is_yes (Yes values) = true
 is_yes (No cause) = false
 
 -- what an act at node p tells, and of which tree
-abbrev pub news_by : ℕ → Act → Option (TreeNo × News)
+abbrev pub news_by : ℕ → Act → Option (TreeNo × StateNews)
 news_by p (Born t v) = Some (t, news.Born v)
 news_by p (Did t k values) = Some (t, news.Done k)
 news_by p (Voted t k vote) = Some (t, news.Voted k (is_yes vote))
@@ -68,7 +68,7 @@ with_freeing p st = record st { freed = slice_set st.freed p true }
 abbrev pub with_decision : Bool → TreeState → TreeState
 with_decision commit st = record st { committed = st.committed || commit; aborted = st.aborted || not commit }
 
-abbrev pub state_with : News → TreeState → TreeState
+abbrev pub state_with : StateNews → TreeState → TreeState
 state_with (news.Born v) st = with_birth v st
 state_with (news.Done k) st = with_deed k.0 st
 state_with (news.Voted k said) st = with_vote k.0 said st
@@ -77,7 +77,7 @@ state_with (news.Freed p) st = with_freeing p.0 st
 state_with (news.Decided commit) st = with_decision commit st
 
 -- what of it was before
-abbrev pub state_was : News → TreeState → StateWas
+abbrev pub state_was : StateNews → TreeState → StateWas
 state_was (news.Born v) st = was.Born st.born
 state_was (news.Done k) st = was.Done k (get_or st.done k.0 false)
 state_was (news.Voted k said) st = was.Voted k (get_or st.voted k.0 false) (get_or st.yes k.0 false)
@@ -86,7 +86,7 @@ state_was (news.Freed p) st = was.Freed p (get_or st.freed p.0 false)
 state_was (news.Decided commit) st = was.Decided st.committed st.aborted
 
 -- the states of all trees after an act at node p
-abbrev pub states_told : Option (TreeNo × News) → List TreeState → List TreeState
+abbrev pub states_told : Option (TreeNo × StateNews) → List TreeState → List TreeState
 states_told None states = states
 states_told (Some told) states = slice_set states told.0.0 (state_with told.1 (state_at states told.0.0))
 

@@ -5,14 +5,14 @@ use Rattle.tx_trees.specs.declared.parts.ScriptRow.{ScriptRow}
 use Rattle.tx_trees.specs.declared.parts.ScriptRow.TheVariants.{Tree as TreeRow, Settle as SettleRow}
 use Rattle.world_model.specs.Client.{Client, submitted}
 use Rattle.client_rows.specs.Kept.{trees_in, unanswered_in}
-use Rattle.client_rows.specs.declared.places.Place.{Place}
+use Rattle.client_rows.specs.declared.places.RowPlace.{RowPlace}
 
 -- all that was submitted up to a place has ended
-abbrev pub is_over : Place → ℕ → Bool
+abbrev pub is_over : RowPlace → ℕ → Bool
 is_over at ended = (at.unanswered == 0) && nat_le at.asked ended
 
 -- the place with so many rows submitted and these trees answered
-abbrev pub place_at : List ScriptRow → List Bool → ℕ → Place
+abbrev pub place_at : List ScriptRow → List Bool → ℕ → RowPlace
 place_at rows answered next = record {
   next = next;
   sent = trees_in (take next rows);
@@ -21,7 +21,7 @@ place_at rows answered next = record {
 }
 
 -- whether the client waits at a row: at a settle row, until all before it has ended
-abbrev pub waits : Place → ℕ → ScriptRow → Bool
+abbrev pub waits : RowPlace → ℕ → ScriptRow → Bool
 waits at ended (TreeRow t) = false
 waits at ended SettleRow = not (is_over at ended)
 waits at ended _ = false

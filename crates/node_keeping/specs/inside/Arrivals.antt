@@ -9,10 +9,10 @@ use Rattle.letter_types.specs.declared.bodies.Body.TheVariants.{Wake}
 use Rattle.letter_types.specs.declared.entries.Letter.{Letter}
 use Rattle.letter_types.specs.declared.entries.Outgoing.{Outgoing}
 use Rattle.letter_types.specs.declared.kept.KeptLetter.{KeptLetter}
-use Rattle.letter_types.specs.declared.kept.Why.{Why}
+use Rattle.letter_types.specs.declared.kept.KeepReason.{KeepReason}
 use Rattle.letter_types.specs.Kept.{is_called, is_called_for, with_called}
 use Rattle.node_keeping.specs.declared.places.Key.{Key}
-use Rattle.node_keeping.specs.declared.places.Place.{Place}
+use Rattle.node_keeping.specs.declared.places.KeptPlace.{KeptPlace}
 use Rattle.node_keeping.specs.Again.{kept_again}
 use Rattle.node_keeping.specs.inside.Places.{finds, has_place, is_why, place_order}
 
@@ -30,11 +30,11 @@ is_found q None = false
 is_found q (Some x) = finds x.tree x.sub x.why q
 
 -- the places are just those of the letters, and each came before the next
-pub record ArePlaced (next : ℕ) (es : Arrived) (ps : List Place) : Type 0 where
+pub record ArePlaced (next : ℕ) (es : Arrived) (ps : List KeptPlace) : Type 0 where
   pub ascending : IsStrictlySortedBy nat_cmp (keys_of es)
   pub in_order : IsStrictlySortedBy place_order ps
   pub before : (a : ℕ) → IsSome (came a es) → a < next
-  pub found : (p : Place) → has_place p ps ≡ is_found p.key (came p.arrival es)
+  pub found : (p : KeptPlace) → has_place p ps ≡ is_found p.key (came p.arrival es)
 
 -- when the first called letter of a subtransaction came
 abbrev pub called_at : TreeNo → SubNo → Arrived → Option ℕ
@@ -58,7 +58,7 @@ pub record FindsSame (old new : Arrived) : Type 0 where
   pub some : (a : ℕ) → IsSome (came a new) → IsSome (came a old)
 
 -- a called letter is kept again, last
-abbrev pub IsKeptAgain : TreeNo → SubNo → Why → Arrived → Arrived → Type 0
+abbrev pub IsKeptAgain : TreeNo → SubNo → KeepReason → Arrived → Arrived → Type 0
 IsKeptAgain t k why old new = values_of new ≡ kept_again t k why (values_of old)
 
 -- once all that wait for this are called, both are the same
@@ -71,7 +71,7 @@ is_called_now None = false
 is_called_now (Some x) = is_called x.why
 
 -- of places, when the first came at which a called letter is
-abbrev pub called_in : Arrived → List Place → Option ℕ
+abbrev pub called_in : Arrived → List KeptPlace → Option ℕ
 called_in es [] = None
 called_in es (p ∷ ps) = if is_called_now (came p.arrival es) then Some p.arrival else called_in es ps
 
@@ -81,6 +81,6 @@ wake_of None = []
 wake_of (Some x) = record { to = x.letter.to; body = Wake x.tree x.sub } ∷ []
 
 -- the Wakes of the letters at places
-abbrev pub wakes_in : Arrived → List Place → List Outgoing
+abbrev pub wakes_in : Arrived → List KeptPlace → List Outgoing
 wakes_in es [] = []
 wakes_in es (p ∷ ps) = wake_of (came p.arrival es) ++ wakes_in es ps

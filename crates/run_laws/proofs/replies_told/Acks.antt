@@ -14,7 +14,7 @@ use Rattle.tree_home.specs.declared.homes.Held.{Held}
 use Rattle.tree_home.specs.declared.homes.OpenTree.{OpenTree}
 use Rattle.tx_trees.specs.ScriptData.{ScriptData}
 use Rattle.tx_trees.specs.declared.parts.TreeKind.TheVariants.{Update, Read, Strict}
-use Rattle.world_model.specs.declared.refusal.Refusal.{Refusal}
+use Rattle.world_model.specs.declared.refusal.NegativeVote.{NegativeVote}
 use Rattle.world_model.specs.Core.{Refusals}
 use Rattle.world_model.specs.Named.{is_strict_at, tree_kind_at}
 use Rattle.world_model.specs.Strict.{answer_by, refusals_after}
@@ -65,19 +65,19 @@ freed_told s does vs hs holds rs t gone it = record {
 
   opens : (u : ℕ) (h : OpenTree) → hs u ≡ Some h → (u ≡ t) ⊎ (u ≢ t) → OpenTold s does u (put_at t None rs u) h
   opens u h at (inl same) = let there : hs t ≡ Some h = subst (λ (i : ℕ). hs i ≡ Some h) same at in absurd (cc (there, gone))
-  opens u h at (inr ne) = subst (λ (o : Option Refusal). OpenTold s does u o h) (sym (other u ne)) (it.opened u h at)
+  opens u h at (inr ne) = subst (λ (o : Option NegativeVote). OpenTold s does u o h) (sym (other u ne)) (it.opened u h at)
 
   helds : (u : ℕ) (h : Held) → ((u ≡ t) × (None ≡ Some h)) ⊎ ((u ≢ t) × (holds u ≡ Some h)) → HeldTold s does vs u (put_at t None rs u) h
   helds u h (inl both) = let is = both.1 in absurd (cc is)
-  helds u h (inr found) = subst (λ (o : Option Refusal). HeldTold s does vs u o h) (sym (other u found.0)) (it.held u h found.1)
+  helds u h (inr found) = subst (λ (o : Option NegativeVote). HeldTold s does vs u o h) (sym (other u found.0)) (it.held u h found.1)
 
   parts : (u : ℕ) (h : Held) → ((u ≡ t) × (None ≡ Some h)) ⊎ ((u ≢ t) × (holds u ≡ Some h)) → hs u ≡ None
   parts u h (inl both) = let is = both.1 in absurd (cc is)
   parts u h (inr found) = it.apart u h found.1
 
   cast : (u : ℕ) → (u ≡ t) ⊎ (u ≢ t) → SaidNo s does u (put_at t None rs u)
-  cast u (inl same) = subst (λ (o : Option Refusal). SaidNo s does u o) (sym (here u same)) tt
-  cast u (inr ne) = subst (λ (o : Option Refusal). SaidNo s does u o) (sym (other u ne)) (it.noes u)
+  cast u (inl same) = subst (λ (o : Option NegativeVote). SaidNo s does u o) (sym (here u same)) tt
+  cast u (inr ne) = subst (λ (o : Option NegativeVote). SaidNo s does u o) (sym (other u ne)) (it.noes u)
 
   rested : (u : ℕ) → hs u ≡ None → put_at t None holds u ≡ None → (u ≡ t) ⊎ (u ≢ t) → put_at t None rs u ≡ None
   rested u shut none (inl same) = here u same

@@ -21,7 +21,7 @@ use Rattle.tree_home.specs.declared.homes.Held.{Held}
 use Rattle.tree_home.specs.declared.homes.OpenTree.{OpenTree}
 use Rattle.tx_trees.specs.ScriptData.{ScriptData, subs_at}
 use Rattle.tx_trees.specs.declared.parts.Sub.{Sub}
-use Rattle.world_model.specs.declared.refusal.Refusal.{Refusal}
+use Rattle.world_model.specs.declared.refusal.NegativeVote.{NegativeVote}
 use Rattle.world_model.specs.Core.{Refusals, lesser, refused_by}
 use Rattle.world_model.specs.Named.{is_strict_at}
 use Rattle.world_model.specs.Notices.{answer_noted, homes_noted}
@@ -87,21 +87,21 @@ begun_told s does vs hs holds rs t v unheld it =
     rested u none (inr other) = it.rests u other.1 none
 
 -- The no of least number.
-lesser_most : (o : Option Refusal) (r : Refusal) → (lesser o r).sub.0 ≤ r.sub.0
+lesser_most : (o : Option NegativeVote) (r : NegativeVote) → (lesser o r).sub.0 ≤ r.sub.0
 lesser_most None r = omega arith
 lesser_most (Some old) r = by (nat_lt r.sub.0 old.sub.0) refl where
   by : (test : Bool) → nat_lt r.sub.0 old.sub.0 ≡ test → (if test then r else old).sub.0 ≤ r.sub.0
   by true is = omega arith
   by false is = grind (arith, nat_tests)
 
-lesser_below : (o : Option Refusal) (r : Refusal) → Below (Some (lesser o r)) o
+lesser_below : (o : Option NegativeVote) (r : NegativeVote) → Below (Some (lesser o r)) o
 lesser_below None r = tt
 lesser_below (Some old) r = by (nat_lt r.sub.0 old.sub.0) refl where
   by : (test : Bool) → nat_lt r.sub.0 old.sub.0 ≡ test → (if test then r else old).sub.0 ≤ old.sub.0
   by true is = grind (arith, nat_tests)
   by false is = omega arith
 
-lesser_said : (s : ScriptData) (does : List Act) (t : ℕ) (o : Option Refusal) (r : Refusal) → SaidNo s does t o → SaidNo s does t (Some r)
+lesser_said : (s : ScriptData) (does : List Act) (t : ℕ) (o : Option NegativeVote) (r : NegativeVote) → SaidNo s does t o → SaidNo s does t (Some r)
     → SaidNo s does t (Some (lesser o r))
 lesser_said s does t None r old new = new
 lesser_said s does t (Some q) r old new = by (nat_lt r.sub.0 q.sub.0) where
@@ -110,7 +110,7 @@ lesser_said s does t (Some q) r old new = by (nat_lt r.sub.0 q.sub.0) where
   by false = old
 
 -- the noes after one of tree t
-put_told : (s : ScriptData) (does : List Act) (vs : ℕ → Option Version) (hs : OpenTrees) (holds : HeldAnswers) (rs : Refusals) (t : ℕ) (o : Option Refusal)
+put_told : (s : ScriptData) (does : List Act) (vs : ℕ → Option Version) (hs : OpenTrees) (holds : HeldAnswers) (rs : Refusals) (t : ℕ) (o : Option NegativeVote)
     → is_strict_at s t ≡ true → holds t ≡ None → (hs t ≡ None → ⊥) → Below o (rs t) → SaidNo s does t o → Told s does vs hs holds rs
     → Told s does vs hs holds (put_at t o rs)
 put_told s does vs hs holds rs t o strict unheld there less said it = record {
@@ -128,16 +128,16 @@ put_told s does vs hs holds rs t o strict unheld there less said it = record {
   other u ne = put_at-other t u o rs ne
 
   below : (u : ℕ) → (u ≡ t) ⊎ (u ≢ t) → Below (put_at t o rs u) (rs u)
-  below u (inl same) = subst (λ (x : Option Refusal). Below x (rs u)) (sym (here u same)) (subst (λ (i : ℕ). Below o (rs i)) (sym same) less)
-  below u (inr ne) = subst (λ (x : Option Refusal). Below x (rs u)) (sym (other u ne)) (below_same (rs u))
+  below u (inl same) = subst (λ (x : Option NegativeVote). Below x (rs u)) (sym (here u same)) (subst (λ (i : ℕ). Below o (rs i)) (sym same) less)
+  below u (inr ne) = subst (λ (x : Option NegativeVote). Below x (rs u)) (sym (other u ne)) (below_same (rs u))
 
   helds : (u : ℕ) (h : Held) → holds u ≡ Some h → (u ≡ t) ⊎ (u ≢ t) → HeldTold s does vs u (put_at t o rs u) h
   helds u h at (inl same) = let held : holds t ≡ Some h = subst (λ (i : ℕ). holds i ≡ Some h) same at in absurd (cc (held, unheld))
-  helds u h at (inr ne) = subst (λ (x : Option Refusal). HeldTold s does vs u x h) (sym (other u ne)) (it.held u h at)
+  helds u h at (inr ne) = subst (λ (x : Option NegativeVote). HeldTold s does vs u x h) (sym (other u ne)) (it.held u h at)
 
   cast : (u : ℕ) → (u ≡ t) ⊎ (u ≢ t) → SaidNo s does u (put_at t o rs u)
-  cast u (inl same) = subst (λ (x : Option Refusal). SaidNo s does u x) (sym (here u same)) (subst (λ (i : ℕ). SaidNo s does i o) (sym same) said)
-  cast u (inr ne) = subst (λ (x : Option Refusal). SaidNo s does u x) (sym (other u ne)) (it.noes u)
+  cast u (inl same) = subst (λ (x : Option NegativeVote). SaidNo s does u x) (sym (here u same)) (subst (λ (i : ℕ). SaidNo s does i o) (sym same) said)
+  cast u (inr ne) = subst (λ (x : Option NegativeVote). SaidNo s does u x) (sym (other u ne)) (it.noes u)
 
   rested : (u : ℕ) → hs u ≡ None → holds u ≡ None → (u ≡ t) ⊎ (u ≢ t) → put_at t o rs u ≡ None
   rested u gone none (inl same) = absurd (there (subst (λ (i : ℕ). hs i ≡ None) same gone))
@@ -153,7 +153,7 @@ pub refused_told : (s : ScriptData) (does : List Act) (vs : ℕ → Option Versi
 refused_told s does vs hs holds rs t k (DidNotice values) strict unheld there said lt it = it
 refused_told s does vs hs holds rs t k (Yes values) strict unheld there said lt it = it
 refused_told s does vs hs holds rs t k (No cause) strict unheld there said lt it =
-    let r : Refusal = record { sub = k; cause = cause } in
+    let r : NegativeVote = record { sub = k; cause = cause } in
     put_told s does vs hs holds rs t.0 (Some (lesser (rs t.0) r)) strict unheld there (lesser_below (rs t.0) r)
     (lesser_said s does t.0 (rs t.0) r (it.noes t.0) (said, lt)) it
 
@@ -161,11 +161,11 @@ pub refused_minds : (rs : Refusals) (t : TreeNo) (k : SubNo) (n : Notice) → Mi
 refused_minds rs t k (DidNotice values) = tt
 refused_minds rs t k (Yes values) = tt
 refused_minds rs t k (No cause) =
-    let r : Refusal = record { sub = k; cause = cause } in
-    subst (λ (o : Option Refusal). Reaches o k.0) (sym (put_at-same t.0 (Some (lesser (rs t.0) r)) rs)) (lesser_most (rs t.0) r)
+    let r : NegativeVote = record { sub = k; cause = cause } in
+    subst (λ (o : Option NegativeVote). Reaches o k.0) (sym (put_at-same t.0 (Some (lesser (rs t.0) r)) rs)) (lesser_most (rs t.0) r)
 
 -- A notice is taken down.
-noticed : (s : ScriptData) (does : List Act) (t : ℕ) (o : Option Refusal) (k : SubNo) (values : Gets) (g : OpenTree) → Slot s does t o k.0 values
+noticed : (s : ScriptData) (does : List Act) (t : ℕ) (o : Option NegativeVote) (k : SubNo) (values : Gets) (g : OpenTree) → Slot s does t o k.0 values
     → OpenTold s does t o g → OpenTold s does t o (with_notice k values g)
 noticed s does t o k values g slot it = record {
   places = length-set g.notices k.0 (Some values) ∙ it.places;
@@ -311,7 +311,7 @@ last_closes t k values hs a is = by (misses t k hs) refl where
   by false miss = let no : answer_noted t k values hs ≡ None = rw miss refl in absurd (cc (is, no))
 
 -- The answer: the values of all.
-gathered_told : (s : ScriptData) (does : List Act) (t : ℕ) (o : Option Refusal) (k : ℕ) (ns : List (Option Gets)) (subs : List Sub) (values : Gets)
+gathered_told : (s : ScriptData) (does : List Act) (t : ℕ) (o : Option NegativeVote) (k : ℕ) (ns : List (Option Gets)) (subs : List Sub) (values : Gets)
     → length ns ≡ length subs → ((i : ℕ) (found : Gets) → slice_get ns i ≡ Some (Some found) → Slot s does t o (k + i) found)
     → gathered ns ≡ Some values → Gathered s does t o k subs values
 gathered_told s does t o k [] [] values same slots is = sym (cc is)
@@ -335,7 +335,7 @@ gathered_told s does t o k (Some first ∷ ns) (sub ∷ subs) values same slots 
           let all : first ++ others ≡ values = cc at in
           (first, (others, (sym all, (subst (λ (j : ℕ). Slot s does t o j first) at_first (slots 0 first refl), later others rest))))
 
-pub record Given (s : ScriptData) (does : List Act) (hs : OpenTrees) (t : TreeNo) (o : Option Refusal) (a : Answered) : Type 0 where
+pub record Given (s : ScriptData) (does : List Act) (hs : OpenTrees) (t : TreeNo) (o : Option NegativeVote) (a : Answered) : Type 0 where
   pub tree : a.tree ≡ t
   pub home : OpenTree
   pub there : hs t.0 ≡ Some home

@@ -23,7 +23,7 @@ use Rattle.tx_trees.specs.Valid.{IsValid}
 use Rattle.tx_trees.specs.declared.parts.Sub.{Sub}
 use Rattle.tx_trees.specs.declared.parts.TreeKind.{TreeKind}
 use Rattle.tx_trees.specs.declared.parts.TreeKind.TheVariants.{Read, Strict, Update}
-use Rattle.world_model.specs.declared.refusal.Refusal.{Refusal}
+use Rattle.world_model.specs.declared.refusal.NegativeVote.{NegativeVote}
 use Rattle.world_model.specs.Counts.{Each}
 use Rattle.world_model.specs.Named.{is_strict_at, tree_kind_at}
 use Rattle.world_model.specs.Notices.{values_of}
@@ -100,7 +100,7 @@ said_vote t k (_ ∷ does) vote is = said_vote t k does vote is
 update_notice : (kind : Option TreeKind) (n : Notice) → kind ≡ Some Update → FitsKind kind n → values_of n ≡ []
 update_notice kind n is fits = let same : n ≡ DidNotice [] = subst (λ (x : Option TreeKind). FitsKind x n) is fits in ap values_of same
 
-gathered_update : (s : ScriptData) (does : List Act) (t : ℕ) (o : Option Refusal) (k : ℕ) (subs : List Sub) (values : Gets) → tree_kind_at s t ≡ Some Update
+gathered_update : (s : ScriptData) (does : List Act) (t : ℕ) (o : Option NegativeVote) (k : ℕ) (subs : List Sub) (values : Gets) → tree_kind_at s t ≡ Some Update
     → Gathered s does t o k subs values → values ≡ []
 gathered_update s does t o k [] values kind it = it
 gathered_update s does t o k (sub ∷ subs) values kind it =
@@ -116,7 +116,7 @@ read_first kind does t k (DidNotice values) first is fits said gives = ap (λ (o
 read_first kind does t k (Yes values) first is fits said gives = absurd (subst (λ (x : Option TreeKind). FitsKind x (Yes values)) is fits)
 read_first kind does t k (No cause) first is fits said gives = absurd (subst (λ (x : Option TreeKind). FitsKind x (No cause)) is fits)
 
-gathered_read : (s : ScriptData) (does : List Act) (t : ℕ) (o : Option Refusal) (k : ℕ) (subs : List Sub) (values : Gets) → tree_kind_at s t ≡ Some Read
+gathered_read : (s : ScriptData) (does : List Act) (t : ℕ) (o : Option NegativeVote) (k : ℕ) (subs : List Sub) (values : Gets) → tree_kind_at s t ≡ Some Read
     → Gathered s does t o k subs values → values ≡ did_from does t k subs
 gathered_read s does t o k [] values kind it = it
 gathered_read s does t o k (sub ∷ subs) values kind it =
@@ -142,13 +142,13 @@ gathered_yes s does t k (sub ∷ subs) values kind it =
     it.1.1.0 ∙ ap (λ (x : Gets). x ++ it.1.0) (sym first) ∙ ap (λ (x : Gets). option_map_or got_of (vote_in t k does) [] ++ x) rest
 
 -- The cause of the no of least number is that of the first that votes no.
-no_cause : (kind : Option TreeKind) (does : List Act) (t k : ℕ) (n : Notice) (r : Refusal) → kind ≡ Some Strict → FitsKind kind n → Minds n (Some r) k
+no_cause : (kind : Option TreeKind) (does : List Act) (t k : ℕ) (n : Notice) (r : NegativeVote) → kind ≡ Some Strict → FitsKind kind n → Minds n (Some r) k
     → said_in t k does ≡ Some n → k < r.sub.0 → option_and_then refusal_in (vote_in t k does) ≡ None
 no_cause kind does t k (DidNotice values) r is fits minds said lt = absurd (subst (λ (x : Option TreeKind). FitsKind x (DidNotice values)) is fits)
 no_cause kind does t k (Yes values) r is fits minds said lt = ap (option_and_then refusal_in) (said_vote t k does (votes.Yes values) said)
 no_cause kind does t k (No cause) r is fits minds said lt = absurd (omega (arith, minds, lt))
 
-gathered_cause : (s : ScriptData) (does : List Act) (t : ℕ) (r : Refusal) (k : ℕ) (subs : List Sub) (values : Gets) → tree_kind_at s t ≡ Some Strict
+gathered_cause : (s : ScriptData) (does : List Act) (t : ℕ) (r : NegativeVote) (k : ℕ) (subs : List Sub) (values : Gets) → tree_kind_at s t ≡ Some Strict
     → said_in t r.sub.0 does ≡ Some (No r.cause) → k ≤ r.sub.0 → r.sub.0 < k + length subs → Gathered s does t (Some r) k subs values
     → cause_from does t k subs ≡ Some r.cause
 gathered_cause s does t r k [] values kind said le lt it = absurd (omega (arith, le, lt))
@@ -165,9 +165,9 @@ gathered_cause s does t r k (sub ∷ subs) values kind said le lt it =
           ap (λ (o : Option Cause). option_or o (cause_from does t (k + 1) subs)) none ∙ later (omega (arith, less))
 
 -- So a reply says it.
-as_decided : (s : ScriptData) (does : List Act) (t : ℕ) (answer : Answer) (o : Option Refusal) (values : Gets)
+as_decided : (s : ScriptData) (does : List Act) (t : ℕ) (answer : Answer) (o : Option NegativeVote) (values : Gets)
     → tree_kind_at s t ≡ Some Strict → Gathered s does t o 0 (subs_at s t) values → SaidNo s does t o → decision_in t does ≡ Some (not (is_some o))
-    → (o ≡ None → answer ≡ Whole values) → ((r : Refusal) → o ≡ Some r → answer ≡ Aborted r.cause)
+    → (o ≡ None → answer ≡ Whole values) → ((r : NegativeVote) → o ≡ Some r → answer ≡ Aborted r.cause)
     → AnswersAsDecided does t (subs_at s t) (decision_in t does) answer
 as_decided s does t answer None values kind gathered noes decided whole aborted =
     subst (λ (x : Option Bool). AnswersAsDecided does t (subs_at s t) x answer) (sym decided)
@@ -181,15 +181,15 @@ answers_by : (s : ScriptData) (does : List Act) (vs : ℕ → Option Version) (t
     → Answers s does vs t v answer → AnswersByActs does t (subs_at s t) kind answer
 answers_by s does vs t v answer (Some Update) is it =
     let plain : is_strict_at s t ≡ false = rw (is, is_strict_at) refl in
-    it.says ∙ ap (λ (o : Option Refusal). answer_by o it.whole) (it.plain plain)
+    it.says ∙ ap (λ (o : Option NegativeVote). answer_by o it.whole) (it.plain plain)
     ∙ ap Whole (gathered_update s does t it.least 0 (subs_at s t) it.whole.values is it.gathered)
 answers_by s does vs t v answer (Some Read) is it =
     let plain : is_strict_at s t ≡ false = rw (is, is_strict_at) refl in
-    it.says ∙ ap (λ (o : Option Refusal). answer_by o it.whole) (it.plain plain)
+    it.says ∙ ap (λ (o : Option NegativeVote). answer_by o it.whole) (it.plain plain)
     ∙ ap Whole (gathered_read s does t it.least 0 (subs_at s t) it.whole.values is it.gathered)
 answers_by s does vs t v answer (Some Strict) is it =
     as_decided s does t answer it.least it.whole.values is it.gathered it.noes (it.strict (strict_by_kind s t is))
-    (λ none. it.says ∙ ap (λ (o : Option Refusal). answer_by o it.whole) none) (λ r some. it.says ∙ ap (λ (o : Option Refusal). answer_by o it.whole) some)
+    (λ none. it.says ∙ ap (λ (o : Option NegativeVote). answer_by o it.whole) none) (λ r some. it.says ∙ ap (λ (o : Option NegativeVote). answer_by o it.whole) some)
 answers_by s does vs t v answer None is it = absurd (it.kind is)
 
 right_reply : (s : ScriptData) (past : List Entry) (from to : ℕ) (b : Body) → BodyTold s (acts_before past) (versions_before past) to b → FromHome s from b

@@ -27,7 +27,7 @@ use Rattle.tx_trees.specs.declared.parts.TreeKind.TheVariants.{Update, Read, Str
 use Rattle.world_model.proofs.Epochs.{ask_each, order_each}
 use Rattle.world_model.proofs.Every.{each_append, each_map}
 use Rattle.world_model.proofs.Sends.{on, subs_none}
-use Rattle.world_model.specs.declared.refusal.Refusal.{Refusal}
+use Rattle.world_model.specs.declared.refusal.NegativeVote.{NegativeVote}
 use Rattle.world_model.specs.Asked.{asked_ops, tree_part}
 use Rattle.world_model.specs.Children.{done_letter, sub_letters}
 use Rattle.world_model.specs.Core.{Core, Refusals, refused_by}
@@ -83,7 +83,7 @@ reply_told s does vs hs holds rs t k values plain kind version slot it (Some a) 
               says = refl;
               version = version g.home g.there ∙ ap Some (sym g.version);
               kind = kind;
-              gathered = subst (λ (o : Option Refusal). Gathered s does t.0 o 0 (subs_at s t.0) a.values) (it.plain t.0 plain) g.values;
+              gathered = subst (λ (o : Option NegativeVote). Gathered s does t.0 o 0 (subs_at s t.0) a.values) (it.plain t.0 plain) g.values;
               noes = tt;
               strict = λ so. absurd (cc (so, plain));
               plain = λ so. refl;
@@ -317,7 +317,7 @@ unheld_by s does vs hs holds rs t h None is at it = is
 unheld_by s does vs hs holds rs t h (Some x) is at it = let gone = it.apart t x is in absurd (cc (gone, at))
 
 -- the notice of a tree that isn't strict is no no
-plain_minds : (s : ScriptData) (t : ℕ) (n : Notice) (kind : Option TreeKind) (o : Option Refusal) (k : ℕ) → tree_kind_at s t ≡ kind → is_strict_at s t ≡ false
+plain_minds : (s : ScriptData) (t : ℕ) (n : Notice) (kind : Option TreeKind) (o : Option NegativeVote) (k : ℕ) → tree_kind_at s t ≡ kind → is_strict_at s t ≡ false
     → FitsKind kind n → Minds n o k
 plain_minds s t (DidNotice values) kind o k is plain fits = tt
 plain_minds s t (Yes values) kind o k is plain fits = tt

@@ -24,7 +24,7 @@ use Rattle.tx_trees.specs.declared.parts.SubOp.{SubOp}
 use Rattle.tx_trees.specs.declared.parts.Tree.{Tree}
 use Rattle.tx_trees.specs.declared.parts.TreeKind.{TreeKind}
 use Rattle.tx_trees.specs.declared.parts.TreeKind.TheVariants.{Read, Strict, Update}
-use Rattle.world_model.specs.declared.refusal.Refusal.{Refusal}
+use Rattle.world_model.specs.declared.refusal.NegativeVote.{NegativeVote}
 use Rattle.world_model.specs.Counts.{Each}
 use Rattle.world_model.specs.Named.{is_strict_at, tree_kind_at}
 use Rattle.world_model.specs.Notices.{values_of}
@@ -102,7 +102,7 @@ at_version : (s : ScriptData) (h : List Entry) (os : List SubOp) (values : Gets)
     → IsShown (worth s h) os values found → values ≡ shown s h v.0 os
 at_version s h os values found v is it = subst (λ (o : Option Version). IsShown (worth s h) os values o) is it
 
-gathered_worths : (s : ScriptData) (h : List Entry) (t : ℕ) (o : Option Refusal) (k : ℕ) (subs : List Sub) (values : Gets) (v : Version) → tree_kind_at s t ≡ Some Read
+gathered_worths : (s : ScriptData) (h : List Entry) (t : ℕ) (o : Option NegativeVote) (k : ℕ) (subs : List Sub) (values : Gets) (v : Version) → tree_kind_at s t ≡ Some Read
     → reads s t ≡ true → version_of h t ≡ Some v → Each (λ (x : Place). Shows (worth s h) s h x.act) (places_of h)
     → ((i : ℕ) (sub : Sub) → slice_get subs i ≡ Some sub → ops_of s t (k + i) ≡ sub.ops)
     → Gathered s (acts_in (places_of h)) t o k subs values → values ≡ shown s h v.0 (ops_in subs)
@@ -135,7 +135,7 @@ shows_by : (s : ScriptData) (past : List Entry) (t : ℕ) (v : Version) (answer 
     → Answers s (acts_before past) (versions_before past) t v answer → ShowsWorths s (reverse past) t kind v answer
 shows_by s past t v answer (Some Read) is all it =
     let plain : is_strict_at s t ≡ false = rw (is, is_strict_at) refl in
-    it.says ∙ ap (λ (o : Option Refusal). answer_by o it.whole) (it.plain plain)
+    it.says ∙ ap (λ (o : Option NegativeVote). answer_by o it.whole) (it.plain plain)
     ∙ ap Whole (gathered_worths s (reverse past) t it.least 0 (subs_at s t) it.whole.values v is (reads_by s t (slice_get s.trees t) refl is) it.version all
     (λ i sub at. let same : 0 + i ≡ i = omega arith in ap (ops_of s t) same ∙ found_ops s t i sub at) it.gathered)
 shows_by s past t v answer (Some Update) is all it = tt

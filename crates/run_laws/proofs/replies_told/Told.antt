@@ -20,7 +20,7 @@ use Rattle.tx_trees.specs.ScriptData.{ScriptData, client_of, subs_at}
 use Rattle.tx_trees.specs.declared.parts.Sub.{Sub}
 use Rattle.tx_trees.specs.declared.parts.TreeKind.{TreeKind}
 use Rattle.tx_trees.specs.declared.parts.TreeKind.TheVariants.{Update, Read, Strict}
-use Rattle.world_model.specs.declared.refusal.Refusal.{Refusal}
+use Rattle.world_model.specs.declared.refusal.NegativeVote.{NegativeVote}
 use Rattle.world_model.specs.Core.{Refusals}
 use Rattle.world_model.specs.Counts.{Each, tally}
 use Rattle.world_model.specs.Named.{is_strict_at, tree_kind_at}
@@ -42,18 +42,18 @@ FitsKind (Some Strict) (No cause) = Unit {0}
 FitsKind None n = ⊥
 
 -- a no of subtransaction k, or one of a lesser number, is kept in mind
-abbrev pub Reaches : Option Refusal → ℕ → Type 0
+abbrev pub Reaches : Option NegativeVote → ℕ → Type 0
 Reaches None k = ⊥
 Reaches (Some r) k = r.sub.0 ≤ k
 
 -- so is that of this notice, if it is one
-abbrev pub Minds : Notice → Option Refusal → ℕ → Type 0
+abbrev pub Minds : Notice → Option NegativeVote → ℕ → Type 0
 Minds (No cause) o k = Reaches o k
 Minds (Yes values) o k = Unit {0}
 Minds (DidNotice values) o k = Unit {0}
 
 -- subtransaction k of tree t told what gives these values, and of its no the home has taken account
-pub record Slot (s : ScriptData) (does : List Act) (t : ℕ) (o : Option Refusal) (k : ℕ) (values : Gets) : Type 0 where
+pub record Slot (s : ScriptData) (does : List Act) (t : ℕ) (o : Option NegativeVote) (k : ℕ) (values : Gets) : Type 0 where
   pub notice : Notice
   pub said : said_in t k does ≡ Some notice
   pub fits : FitsKind (tree_kind_at s t) notice
@@ -61,18 +61,18 @@ pub record Slot (s : ScriptData) (does : List Act) (t : ℕ) (o : Option Refusal
   pub minds : Minds notice o k
 
 -- these are the values of all subtransactions in order, where the list begins with subtransaction k
-abbrev pub Gathered : ScriptData → List Act → ℕ → Option Refusal → ℕ → List Sub → Gets → Type 0
+abbrev pub Gathered : ScriptData → List Act → ℕ → Option NegativeVote → ℕ → List Sub → Gets → Type 0
 Gathered s does t o k [] values = values ≡ []
 Gathered s does t o k (sub ∷ subs) values =
     (first : Gets) × ((rest : Gets) × ((values ≡ first ++ rest) × (Slot s does t o k first × Gathered s does t o (k + 1) subs rest)))
 
 -- tree t is open
-pub record OpenTold (s : ScriptData) (does : List Act) (t : ℕ) (o : Option Refusal) (h : OpenTree) : Type 0 where
+pub record OpenTold (s : ScriptData) (does : List Act) (t : ℕ) (o : Option NegativeVote) (h : OpenTree) : Type 0 where
   pub places : length h.notices ≡ length (subs_at s t)
   pub slots : (k : ℕ) (values : Gets) → slice_get h.notices k ≡ Some (Some values) → Slot s does t o k values
 
 -- its answer is held
-pub record HeldTold (s : ScriptData) (does : List Act) (vs : ℕ → Option Version) (t : ℕ) (o : Option Refusal) (h : Held) : Type 0 where
+pub record HeldTold (s : ScriptData) (does : List Act) (vs : ℕ → Option Version) (t : ℕ) (o : Option NegativeVote) (h : Held) : Type 0 where
   pub names : h.answered.tree.0 ≡ t
   pub strict : tree_kind_at s t ≡ Some Strict
   pub version : vs t ≡ Some h.answered.version
@@ -80,7 +80,7 @@ pub record HeldTold (s : ScriptData) (does : List Act) (vs : ℕ → Option Vers
   pub decided : decision_in t does ≡ Some (not (is_some o))
 
 -- a no that is kept in mind was cast, by a subtransaction of the tree
-abbrev pub SaidNo : ScriptData → List Act → ℕ → Option Refusal → Type 0
+abbrev pub SaidNo : ScriptData → List Act → ℕ → Option NegativeVote → Type 0
 SaidNo s does t None = Unit {0}
 SaidNo s does t (Some r) = (said_in t r.sub.0 does ≡ Some (No r.cause)) × (r.sub.0 < length (subs_at s t))
 
@@ -95,7 +95,7 @@ pub record Told (s : ScriptData) (does : List Act) (vs : ℕ → Option Version)
 
 -- an answer of tree t in version v: by the no o of least number, where the tree was decided by it
 pub record Answers (s : ScriptData) (does : List Act) (vs : ℕ → Option Version) (t : ℕ) (v : Version) (answer : Answer) : Type 0 where
-  pub least : Option Refusal
+  pub least : Option NegativeVote
   pub whole : Answered
   pub says : answer ≡ answer_by least whole
   pub version : vs t ≡ Some v
@@ -133,23 +133,23 @@ quiet s does vs [] none = tt
 quiet s does vs (o ∷ os) none = (silent_told s does vs o.to.0 o.body (omega (arith, none)), quiet s does vs os (omega (arith, none)))
 
 -- With more acts, and with a no of a lesser number, all stays so.
-abbrev pub Below : Option Refusal → Option Refusal → Type 0
+abbrev pub Below : Option NegativeVote → Option NegativeVote → Type 0
 Below new None = Unit {0}
 Below None (Some r) = ⊥
 Below (Some q) (Some r) = q.sub.0 ≤ r.sub.0
 
-pub below_same : (o : Option Refusal) → Below o o
+pub below_same : (o : Option NegativeVote) → Below o o
 below_same None = tt
 below_same (Some r) = omega arith
 
-minds_more : (n : Notice) (new o : Option Refusal) (k : ℕ) → Below new o → Minds n o k → Minds n new k
+minds_more : (n : Notice) (new o : Option NegativeVote) (k : ℕ) → Below new o → Minds n o k → Minds n new k
 minds_more (No cause) new None k less it = absurd it
 minds_more (No cause) None (Some r) k less it = absurd less
 minds_more (No cause) (Some q) (Some r) k less it = omega (arith, less, it)
 minds_more (Yes values) new o k less it = tt
 minds_more (DidNotice values) new o k less it = tt
 
-slot_more : (s : ScriptData) (does more : List Act) (t : ℕ) (new o : Option Refusal) (k : ℕ) (values : Gets) → Below new o
+slot_more : (s : ScriptData) (does more : List Act) (t : ℕ) (new o : Option NegativeVote) (k : ℕ) (values : Gets) → Below new o
     → Slot s does t o k values → Slot s (does ++ more) t new k values
 slot_more s does more t new o k values less it = record {
   notice = it.notice;
@@ -160,7 +160,7 @@ slot_more s does more t new o k values less it = record {
 }
 
 -- the same without more acts
-pub open_less : (s : ScriptData) (does : List Act) (t : ℕ) (new o : Option Refusal) (h : OpenTree) → Below new o → OpenTold s does t o h
+pub open_less : (s : ScriptData) (does : List Act) (t : ℕ) (new o : Option NegativeVote) (h : OpenTree) → Below new o → OpenTold s does t o h
     → OpenTold s does t new h
 open_less s does t new o h less it = record {
   places = it.places;
@@ -169,7 +169,7 @@ open_less s does t new o h less it = record {
       record { notice = slot.notice; said = slot.said; fits = slot.fits; gives = slot.gives; minds = minds_more slot.notice new o k less slot.minds };
 }
 
-pub gathered_more : (s : ScriptData) (does more : List Act) (t : ℕ) (new o : Option Refusal) (k : ℕ) (subs : List Sub) (values : Gets) → Below new o
+pub gathered_more : (s : ScriptData) (does more : List Act) (t : ℕ) (new o : Option NegativeVote) (k : ℕ) (subs : List Sub) (values : Gets) → Below new o
     → Gathered s does t o k subs values → Gathered s (does ++ more) t new k subs values
 gathered_more s does more t new o k [] values less it = it
 gathered_more s does more t new o k (sub ∷ subs) values less it = (
@@ -186,7 +186,7 @@ gathered_more s does more t new o k (sub ∷ subs) values less it = (
   ),
 )
 
-pub open_more : (s : ScriptData) (does more : List Act) (t : ℕ) (new o : Option Refusal) (h : OpenTree) → Below new o
+pub open_more : (s : ScriptData) (does more : List Act) (t : ℕ) (new o : Option NegativeVote) (h : OpenTree) → Below new o
     → OpenTold s does t o h → OpenTold s (does ++ more) t new h
 open_more s does more t new o h less it = record {
   places = it.places;
@@ -197,7 +197,7 @@ open_more s does more t new o h less it = record {
 abbrev pub Grows : (ℕ → Option Version) → (ℕ → Option Version) → Type 0
 Grows vs ws = (t : ℕ) (v : Version) → vs t ≡ Some v → ws t ≡ Some v
 
-pub held_more : (s : ScriptData) (does more : List Act) (vs ws : ℕ → Option Version) (t : ℕ) (o : Option Refusal) (h : Held) → Grows vs ws
+pub held_more : (s : ScriptData) (does more : List Act) (vs ws : ℕ → Option Version) (t : ℕ) (o : Option NegativeVote) (h : Held) → Grows vs ws
     → HeldTold s does vs t o h → HeldTold s (does ++ more) ws t o h
 held_more s does more vs ws t o h grows it = record {
   names = it.names;
@@ -207,7 +207,7 @@ held_more s does more vs ws t o h grows it = record {
   decided = decision_stays t does more (not (is_some o)) it.decided;
 }
 
-pub no_more : (s : ScriptData) (does more : List Act) (t : ℕ) (o : Option Refusal) → SaidNo s does t o → SaidNo s (does ++ more) t o
+pub no_more : (s : ScriptData) (does more : List Act) (t : ℕ) (o : Option NegativeVote) → SaidNo s does t o → SaidNo s (does ++ more) t o
 no_more s does more t None it = tt
 no_more s does more t (Some r) it = (said_stays t r.sub.0 does more (No r.cause) it.0, it.1)
 

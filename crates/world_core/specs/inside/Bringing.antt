@@ -8,7 +8,7 @@ use Rattle.letter_types.specs.declared.bodies.Body.TheVariants.{Wake, Order}
 use Rattle.letter_types.specs.declared.bodies.What.{What}
 use Rattle.letter_types.specs.declared.entries.Letter.{Letter}
 use Rattle.letter_types.specs.declared.entries.Outgoing.{Outgoing}
-use Rattle.letter_types.specs.declared.kept.Why.{Why}
+use Rattle.letter_types.specs.declared.kept.KeepReason.{KeepReason}
 use Rattle.letter_types.specs.Kept.{brought, kept_without, wakes, wakes_by, with_called}
 use Rattle.letter_types.specs.Steps.{Out}
 use Rattle.world_model.specs.Core.{Core}
@@ -34,7 +34,7 @@ pub record IsBroughtBy (l r : Letter) (n : KeepingParts) : Type 0 where
   pub kept : AreKeptAt l.to.0 n.kept
 
 -- what came is kept as this subtransaction, for this reason: again, where it is a Wake
-abbrev pub keep_by : Letter → TreeNo → SubNo → Why → Body → Keep
+abbrev pub keep_by : Letter → TreeNo → SubNo → KeepReason → Body → Keep
 keep_by l t k why (Wake u j) = Again t k why
 keep_by l t k why _ = New (record { letter = l; tree = t; sub = k; why = why })
 

@@ -6,7 +6,7 @@ use Rattle.commute_ops.specs.declared.kinds.Op.TheVariants.{Add, Top, Put as Put
 use Rattle.script_parts.specs.declared.parts.Deed.{Deed}
 use Rattle.script_parts.specs.declared.parts.Deed.TheVariants.{Apply, Get, Set, Draw}
 use Rattle.worth_steps.specs.declared.puts.Put.{Put}
-use Rattle.worth_steps.specs.declared.steps.Step.{Step}
+use Rattle.worth_steps.specs.declared.steps.WorthStep.{WorthStep}
 use Rattle.worth_steps.specs.Steps.{act_on}
 
 -- a number after a deed
@@ -34,41 +34,41 @@ is_set (Apply op) = false
 is_set (Draw a) = false
 
 -- a step of one deed, whose value isn't known yet; and a step with one deed more
-abbrev pub step_begun : ℕ → Deed → Step
+abbrev pub step_begun : ℕ → Deed → WorthStep
 step_begun v d = record { version = record { 0 = v }; cut = is_set d; own = first_own d; value = pos 0 }
 
-abbrev pub step_gone_on : Deed → Step → Step
+abbrev pub step_gone_on : Deed → WorthStep → WorthStep
 step_gone_on d s = record s { cut = s.cut || is_set d; own = changed_number s.own d }
 
 -- the steps with a deed of version v
-abbrev pub at_place : ℕ → Deed → Step → List Step → Bool → List Step
+abbrev pub at_place : ℕ → Deed → WorthStep → List WorthStep → Bool → List WorthStep
 at_place v d s ss true = step_gone_on d s ∷ ss
 at_place v d s ss false = step_begun v d ∷ s ∷ ss
 
-abbrev pub edited : ℕ → Deed → List Step → List Step
+abbrev pub edited : ℕ → Deed → List WorthStep → List WorthStep
 edited v d [] = step_begun v d ∷ []
 edited v d (s ∷ ss) = if nat_lt s.version.0 v then s ∷ edited v d ss else at_place v d s ss (s.version.0 == v)
 
 -- the steps with their values worked out, from the number below them
-abbrev pub step_valued : Kind → ℤ → Step → Step
+abbrev pub step_valued : Kind → ℤ → WorthStep → WorthStep
 step_valued k below s = record s { value = act_on k s.cut s.own below }
 
-abbrev pub revalued : Kind → ℤ → List Step → List Step
+abbrev pub revalued : Kind → ℤ → List WorthStep → List WorthStep
 revalued k below [] = []
 revalued k below (s ∷ ss) = step_valued k below s ∷ revalued k (act_on k s.cut s.own below) ss
 
 -- how many steps come first that are of version at most v
-abbrev pub steps_up_to : ℕ → List Step → ℕ
+abbrev pub steps_up_to : ℕ → List WorthStep → ℕ
 steps_up_to v [] = 0
 steps_up_to v (s ∷ ss) = if nat_le s.version.0 v then suc (steps_up_to v ss) else 0
 
 -- the number below a place
-abbrev pub number_below : ℤ → ℕ → List Step → ℤ
+abbrev pub number_below : ℤ → ℕ → List WorthStep → ℤ
 number_below first zero ss = first
 number_below first (suc p) ss = elim (slice_get ss p) [ None ↦ first | Some s ↦ s.value ]
 
 -- the step before a place is of version v
-abbrev pub stands_before : ℕ → ℕ → List Step → Bool
+abbrev pub stands_before : ℕ → ℕ → List WorthStep → Bool
 stands_before zero v ss = false
 stands_before (suc p) v ss = elim (slice_get ss p) [ None ↦ false | Some s ↦ s.version.0 == v ]
 

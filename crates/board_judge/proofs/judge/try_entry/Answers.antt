@@ -1,7 +1,7 @@
 use Rattle.std.proofs.Common.{ap, sym, ◌∙◌}
 use Rattle.std.specs.List.{list_all}
 use Rattle.board_rules.specs.Histories.{places_of}
-use Rattle.board_judge.specs.declared.noting.Step.{Step}
+use Rattle.board_judge.specs.declared.noting.NotedStep.{NotedStep}
 use Rattle.board_judge.specs.inside.Trying.{judge_of}
 use Rattle.board_judge.proofs.Judging.{breaks_delay, breaks_read, breaks_vote, decided_once, may_come, midway_at, midway_in, rewritten, taken_more}
 use Rattle.board_judge.proofs.judge.try_entry.Goals as goal
@@ -10,8 +10,8 @@ pub returns-then-not-all_right-clause-tried : goal.returns-then-not-all_right-cl
 returns-then-not-all_right-clause-tried c = λ h taken.
     let j = judge_of c.args.basis.now c.args.board.now c.args.worths.now.items in
     let noted = c.in_ok-broken.ensures.noted (sym c.is_some.ensures ∙ c.if-is_some.false) h (midway_in j h _ c.deref.ensures.value taken) in
-    let keep = ap (list_all (λ (st : Step). st.keeps)) (sym c.deref-2.ensures.value) ∙ sym c.all_keep.ensures ∙ c.if-not-all_keep.false in
-    let none = ap (list_all (λ (st : Step). st.right)) (sym c.deref-3.ensures.value) ∙ sym c.all_right.ensures ∙ c.if-not-all_right.true in
+    let keep = ap (list_all (λ (st : NotedStep). st.keeps)) (sym c.deref-2.ensures.value) ∙ sym c.all_keep.ensures ∙ c.if-not-all_keep.false in
+    let none = ap (list_all (λ (st : NotedStep). st.right)) (sym c.deref-3.ensures.value) ∙ sym c.all_right.ensures ∙ c.if-not-all_right.true in
     breaks_vote j.script h c.args.entry.now c.note_acts.new.steps.items c.note_acts.new.board noted keep none
 
 pub returns-then-not-branch-clause-tried : goal.returns-then-not-branch-clause-tried
@@ -19,7 +19,7 @@ returns-then-not-branch-clause-tried c = λ h taken.
     let j = judge_of c.args.basis.now c.args.board.now c.args.worths.now.items in
     let midway = midway_at j h taken in
     let noted = c.in_ok-broken.ensures.noted (sym c.is_some.ensures ∙ c.if-is_some.false) h (midway_in j h _ c.deref.ensures.value taken) in
-    let keep = ap (list_all (λ (st : Step). st.keeps)) (sym c.deref-2.ensures.value) ∙ sym c.all_keep.ensures ∙ c.if-not-all_keep.false in
+    let keep = ap (list_all (λ (st : NotedStep). st.keeps)) (sym c.deref-2.ensures.value) ∙ sym c.all_keep.ensures ∙ c.if-not-all_keep.false in
     let walked = rewritten j.script h c.args.entry.now _ _ c.note_acts.new.steps.items c.note_acts.new.board j.worths c.rewrite.new.worths.items
     _ _ c.items-2.ensures.items c.deref-4.ensures.value c.if-not-branch.true noted midway.known (c.in_ok-rewrite.ensures.done h c.args.entry.now.actor.0) in
     breaks_read j.script h c.args.entry.now c.note_acts.new.steps.items c.note_acts.new.board c.rewrite.new.worths.items noted keep walked
@@ -29,8 +29,8 @@ returns-then-not-at_once-clause-tried c = λ h taken.
     let j = judge_of c.args.basis.now c.args.board.now c.args.worths.now.items in
     let midway = midway_at j h taken in
     let noted = c.in_ok-broken.ensures.noted (sym c.is_some.ensures ∙ c.if-is_some.false) h (midway_in j h _ c.deref.ensures.value taken) in
-    let keep = ap (list_all (λ (st : Step). st.keeps)) (sym c.deref-2.ensures.value) ∙ sym c.all_keep.ensures ∙ c.if-not-all_keep.false in
-    let said = ap (list_all (λ (st : Step). st.right)) (sym c.deref-3.ensures.value) ∙ sym c.all_right.ensures ∙ c.if-not-all_right.false in
+    let keep = ap (list_all (λ (st : NotedStep). st.keeps)) (sym c.deref-2.ensures.value) ∙ sym c.all_keep.ensures ∙ c.if-not-all_keep.false in
+    let said = ap (list_all (λ (st : NotedStep). st.right)) (sym c.deref-3.ensures.value) ∙ sym c.all_right.ensures ∙ c.if-not-all_right.false in
     let walked = rewritten j.script h c.args.entry.now _ _ c.note_acts.new.steps.items c.note_acts.new.board j.worths c.rewrite.new.worths.items
     _ _ c.items-2.ensures.items c.deref-4.ensures.value c.if-not-branch.false noted midway.known (c.in_ok-rewrite.ensures.done h c.args.entry.now.actor.0) in
     let decides = decided_once j.script h c.args.entry.now _ c.does_at_once-at_once.result c.items.ensures.items (c.does_at_once-at_once.ensures (places_of h) midway.view) in
@@ -42,8 +42,8 @@ returns-clause-tried c = λ h taken.
     let j = judge_of c.args.basis.now c.args.board.now c.args.worths.now.items in
     let midway = midway_at j h taken in
     let noted = c.in_ok-broken.ensures.noted (sym c.is_some.ensures ∙ c.if-is_some.false) h (midway_in j h _ c.deref.ensures.value taken) in
-    let keep = ap (list_all (λ (st : Step). st.keeps)) (sym c.deref-2.ensures.value) ∙ sym c.all_keep.ensures ∙ c.if-not-all_keep.false in
-    let said = ap (list_all (λ (st : Step). st.right)) (sym c.deref-3.ensures.value) ∙ sym c.all_right.ensures ∙ c.if-not-all_right.false in
+    let keep = ap (list_all (λ (st : NotedStep). st.keeps)) (sym c.deref-2.ensures.value) ∙ sym c.all_keep.ensures ∙ c.if-not-all_keep.false in
+    let said = ap (list_all (λ (st : NotedStep). st.right)) (sym c.deref-3.ensures.value) ∙ sym c.all_right.ensures ∙ c.if-not-all_right.false in
     let walked = rewritten j.script h c.args.entry.now _ _ c.note_acts.new.steps.items c.note_acts.new.board j.worths c.rewrite.new.worths.items
     _ _ c.items-2.ensures.items c.deref-4.ensures.value c.if-not-branch.false noted midway.known (c.in_ok-rewrite.ensures.done h c.args.entry.now.actor.0) in
     let decides = decided_once j.script h c.args.entry.now _ c.does_at_once-at_once.result c.items.ensures.items (c.does_at_once-at_once.ensures (places_of h) midway.view) in

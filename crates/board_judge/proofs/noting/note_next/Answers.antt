@@ -1,7 +1,7 @@
 use Rattle.std.proofs.Common.{ap, refl, subst, sym, ◌≡◌, List, ◌++◌, ◌∷◌, []}
 use Rattle.std.specs.Prelude.{is_some}
 use Rattle.board_rules.specs.Histories.{Place, places_of}
-use Rattle.board_judge.specs.declared.noting.Step.{Step}
+use Rattle.board_judge.specs.declared.noting.NotedStep.{NotedStep}
 use Rattle.board_judge.specs.inside.Steps.{AreNoted}
 use Rattle.board_judge.proofs.Going.{one_noted, pushed, restored_more}
 use Rattle.board_judge.proofs.noting.note_next.Goals as goal
@@ -16,7 +16,7 @@ returns-clause-noted c = λ moves h ys midway noted.
     let all : c.push.new.self.items ≡ c.args.steps.now.items ++ c.in-Some.step ∷ [] = pushed _ _ _ _ c.if-is_err.ensures.negation c.push.ensures.items in
     let stepped = rw c.in-Some.is at c.in_ok-step.ensures.stepped in
     let step = stepped h (places_of h ++ ys) midway in
-    subst (λ (sts : List Step). AreNoted s h (ys ++ x ∷ []) sts c.note_act.new.board) (sym all)
+    subst (λ (sts : List NotedStep). AreNoted s h (ys ++ x ∷ []) sts c.note_act.new.board) (sym all)
     (one_noted s h ys x c.args.steps.now.items c.in-Some.step c.args.board.now c.note_act.new.board noted step)
 
 pub returns-clause-back : goal.returns-clause-back

@@ -1,7 +1,7 @@
 use Rattle.std.proofs.Common.{◌≡◌, ◌+◌, ◌∙◌, sym, ap, arith}
 use Rattle.client_rows.specs.News.{answered_after}
 use Rattle.client_rows.specs.inside.Places.{place_at}
-use Rattle.client_rows.specs.declared.places.Place.{Place}
+use Rattle.client_rows.specs.declared.places.RowPlace.{RowPlace}
 use Rattle.client_rows.proofs.Further.{furthest-goes, furthest-waits}
 use Rattle.client_rows.proofs.places.furthest.Goals as goal
 
@@ -13,7 +13,7 @@ returns-then-waits-clause-place c =
 
 pub loop-at-preserved : goal.loop-at-preserved
 loop-at-preserved c =
-    let next : c.behind_next-at.result.next ≡ c.loop-at.at.next + 1 = ap (λ (p : Place). p.next) c.behind_next-at.ensures in
+    let next : c.behind_next-at.result.next ≡ c.loop-at.at.next + 1 = ap (λ (p : RowPlace). p.next) c.behind_next-at.ensures in
     let further = furthest-goes _ _ c.args.rows.now c.loop-at.at _ c.loop-at-test.true c.loop-at.invariant.place (sym c.if-waits.ensures) in
     record {
       within = omega arith;

@@ -1,5 +1,5 @@
 use Rattle.std.proofs.Common.{ap, ◌∙◌}
-use Rattle.letter_types.specs.declared.kept.Why.TheVariants.{Called}
+use Rattle.letter_types.specs.declared.kept.KeepReason.TheVariants.{Called}
 use Rattle.letter_types.specs.Kept.{with_called}
 use Rattle.std.specs.Map.{values_of}
 use Rattle.node_keeping.specs.inside.Arrivals.{Arrived, came}

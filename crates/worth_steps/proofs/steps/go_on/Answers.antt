@@ -1,6 +1,6 @@
 use Rattle.std.proofs.Common.{◌≡◌, ◌∙◌, ◌+◌, List, ap, drop, length, rules}
 use Rattle.std.proofs.lemmas.List.{take_rest}
-use Rattle.worth_steps.specs.declared.steps.Step.{Step}
+use Rattle.worth_steps.specs.declared.steps.WorthStep.{WorthStep}
 use Rattle.worth_steps.specs.inside.Editing.{number_below, revalued, step_gone_on, step_valued}
 use Rattle.worth_steps.proofs.Revaluing.{as_many_still, gone_on_back, gone_on_leaves, read_is}
 use Rattle.worth_steps.proofs.steps.go_on.Goals as goal
@@ -12,7 +12,7 @@ swap_above-requires c =
     let y = c.in_ok-step.step in
     let above : c.in_ok-above.above.items ≡ revalued c.args.kind y.value (drop (p + 1) ss)
     = c.in_ok-above.ensures ∙ ap (revalued c.args.kind y.value) (take_rest c.deref-2.result.now (p + 1) ∙ ap (drop (p + 1)) c.deref-2.ensures.value) in
-    ap (λ (xs : List Step). p + 1 + length xs) above ∙ as_many_still c.args.kind y.value p ss y c.requires
+    ap (λ (xs : List WorthStep). p + 1 + length xs) above ∙ as_many_still c.args.kind y.value p ss y c.requires
 
 pub returns-clause-ok : goal.returns-clause-ok
 returns-clause-ok c = λ s at.
@@ -24,7 +24,7 @@ returns-clause-ok c = λ s at.
     = c.in_ok-above.ensures ∙ ap (revalued c.args.kind y.value) (take_rest c.deref-2.result.now (p + 1) ∙ ap (drop (p + 1)) c.deref-2.ensures.value) in
     let is : c.index.result.now ≡ s = read_is ss p c.index.result.now s c.index.ensures at in
     let valued : y ≡ step_valued c.args.kind n (step_gone_on c.args.deed.now c.index.result.now) = search rules in
-    let as_asked = valued ∙ ap (λ (x : Step). step_valued c.args.kind n (step_gone_on c.args.deed.now x)) is in
+    let as_asked = valued ∙ ap (λ (x : WorthStep). step_valued c.args.kind n (step_gone_on c.args.deed.now x)) is in
     gone_on_leaves c.args.kind n p ss c.in_ok-above.above.items c.swap_above.new.steps.items (step_gone_on c.args.deed.now s) y c.requires as_asked above c.swap_above.ensures.steps
 
 pub returns-clause-back : goal.returns-clause-back

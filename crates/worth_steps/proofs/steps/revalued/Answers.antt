@@ -1,5 +1,5 @@
 use Rattle.std.proofs.Common.{◌≡◌, ◌∙◌, ◌+◌, ◌++◌, ap, sym, subst, length, List, drop}
-use Rattle.worth_steps.specs.declared.steps.Step.{Step}
+use Rattle.worth_steps.specs.declared.steps.WorthStep.{WorthStep}
 use Rattle.worth_steps.specs.inside.Editing.{number_below, revalued}
 use Rattle.worth_steps.proofs.Revaluing.{one_more}
 use Rattle.worth_steps.proofs.steps.revalued.Goals as goal
@@ -15,5 +15,5 @@ loop-step-preserved c =
     let there = c.in_ok-next.ensures.ok_part in
     let valued = rw there at c.step_valued.ensures in
     let under = c.last_value.ensures ∙ ap (λ xs. number_below below (length xs) xs) c.deref.ensures.value in
-    subst (λ (xs : List Step). xs ++ revalued k (number_below below (length xs) xs) (drop (i + 1) ss) ≡ revalued k below ss) (sym c.in_ok-push.ensures.items)
+    subst (λ (xs : List WorthStep). xs ++ revalued k (number_below below (length xs) xs) (drop (i + 1) ss) ≡ revalued k below ss) (sym c.in_ok-push.ensures.items)
     (one_more k below c.last_value.result.now i ss made (revalued k below ss) _ y c.loop-step-test.true under valued c.loop-step.invariant)

@@ -8,7 +8,7 @@ use Rattle.client_rows.specs.Held.{kept_here}
 use Rattle.client_rows.specs.News.{sent_first}
 use Rattle.client_rows.specs.inside.Heard.{submit_at}
 use Rattle.client_rows.specs.declared.change.ClientChange.TheVariants.{Submit}
-use Rattle.client_rows.specs.declared.places.Place.{Place}
+use Rattle.client_rows.specs.declared.places.RowPlace.{RowPlace}
 use Rattle.client_rows.proofs.Bounds.{submission-step}
 use Rattle.client_rows.proofs.Counts.{few_more_asked}
 use Rattle.client_rows.proofs.Submits.{Submission, same_place, same_finish}
@@ -40,7 +40,7 @@ returns c =
     let old : Client = held.client in
     let kept : IsKeptOf s held = subst (λ (k : Kept). IsKeptOf s k) (sym c.self.view_is) c.requires in
     let asked : held.asked ≡ advances_sent s old = ap (λ (k : Kept). k.asked) kept.numbers in
-    let from : c.with_news-known.result.next ≡ old.next = ap (λ (p : Place). p.next) c.with_news-known.ensures in
+    let from : c.with_news-known.result.next ≡ old.next = ap (λ (p : RowPlace). p.next) c.with_news-known.ensures in
     let made_here : Submission s news old at c.finishes-finishes.result c.in_ok-out.out = record {
       place = c.furthest-at.ensures.place
           ∙ same_place news c.rows-rows.ensures c.deref-2.ensures.value c.ended_after-ended.ensures from;
