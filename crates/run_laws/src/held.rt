@@ -7,14 +7,14 @@ ghost use Rattle.board_rules.specs.Histories.{places_of};
 ghost use Rattle.world_model.specs.Runs.{IsStepRun};
 ghost use Rattle.run_laws.specs.Held.{AreAllWhole, HoldsWritten, IsWrittenAtEnd};
 
-/// In every run the versions of an item that its node holds above its low one are those in which one of its own acts writes
-/// the item: a Did of an update tree of that version, or the Applied of a commit of that version.
+/// In every run the versions of an item that its node holds above its low version are those in which an act of the node
+/// writes the item: a Did of an update of that version, or the Applied of a commit of that version.
 pub fn what_is_held_was_written()
     ensures { (s : ScriptData) (past : List Entry) (p x : ℕ) → IsValid s → IsStepRun s past → p < s.nodes → HoldsWritten s past p x }
 {}
 
-/// Where every tree is whole, its node's acts write an item in just those versions in which update trees and committed
-/// strict trees change it.
+/// If every transaction is complete, the acts of an item's node write the item in exactly those versions in which
+/// updates and committed strict transactions change it.
 pub fn what_is_written_at_the_end()
     ensures { (s : ScriptData) (past : List Entry) (p x : ℕ) → IsValid s → IsStepRun s past → AreAllWhole s (places_of (reverse past))
         → IsWrittenAtEnd s past p x }

@@ -1,13 +1,14 @@
-//! Laws of every run of every valid script, with strict trees or without. Each letter comes in time and is apt, trees of
-//! every kind go by their stages, counters are balanced, a version is shown that was before, or in quiet, and then for
-//! good, no run stalls, and no run has more entries than its script makes; and where the coordinator remembers, phases
-//! have their letters and versions.
+//! Laws of every run of every valid script, with strict transactions or without. Each message comes in time and is
+//! enabled; transactions of every kind go by their stages; counters are balanced; a version that nodes are told to show
+//! was told before or is quiescent, and what is shown stays complete; no run stalls; and no run has more entries than
+//! its script makes. If the coordinator keeps its state, phases have their messages and versions.
 //!
 //! The locks of votes stand until a decision is applied, and a node sees what its own acts have made of its items. Each
-//! act follows its rule and is a move of the Board, and the root of a strict tree is born at once or waits by its home's
-//! numbers. What nodes read and vote is what items are worth, what reads show stays so, what strict trees that commit
-//! got and wrote has its place in the serial order, and takes effect at all of its nodes or at none; replies tell the
-//! client what trees did, and above its low version a node holds an item in the versions in which its acts write it.
+//! act follows its rule and is a move of the Board, and the root of a strict transaction is begun at once or waits by
+//! its home's numbers. Reads and votes give values in the serial order, and what reads show stays so. What committed
+//! strict transactions got and wrote has its place in the serial order, and takes effect at all of their nodes or at
+//! none. Replies tell the client what transactions did. Above its low version a node holds an item in the versions in
+//! which its acts write it.
 #![tactic(auto)]
 
 mod acts;

@@ -4,26 +4,28 @@ ghost use Rattle.run_laws.specs.EachRun.{OfEachHistory, OfEachTree};
 ghost use Rattle.tree_laws.specs.Dids.{answers};
 ghost use Rattle.run_laws.specs.Replies.{RepliesNameNoes, RepliesShow, RepliesTell};
 
-/// In every run each reply goes from its tree's home to the client, has the version with which the tree was born, and
-/// says what the tree's acts gave: no values of an update tree; of a read tree the values of its Dids, by
-/// subtransaction; of a strict tree that was decided to commit the values of its yes votes, by subtransaction; and of
-/// one that was decided to abort the cause of the no voter with the lowest number.
+/// In every run each reply goes from its transaction's home to the client, has the version with which the transaction
+/// was begun, and says what the transaction's acts gave: of an update no values; of a read the values of its Dids, by
+/// subtransaction; of a committed strict transaction the values of its positive votes, by subtransaction; of an aborted
+/// one the cause of the negative vote with the lowest number.
 pub fn replies_tell_what_was_done()
     ensures { OfEachHistory RepliesTell }
 {}
 
-/// In every run a reply that a tree aborted names the cause of the no voter with the lowest number: a subtransaction of
-/// that number voted no for that cause, and none of a lower number voted no. The tree was decided to abort.
+/// In every run a reply that a transaction aborted names the cause of the negative vote with the lowest number: the
+/// subtransaction of that number voted no for that cause, and none of a lower number voted no. The transaction was
+/// decided to abort.
 pub fn aborted_replies_name_the_lowest_no()
     ensures { OfEachHistory RepliesNameNoes }
 {}
 
-/// In every run the reply of a read tree says what its items are worth at the tree's version in the whole history.
+/// In every run the reply of a read says the values of its items at the read's version in the serial order of the whole
+/// history.
 pub fn read_replies_show_what_is_worth()
     ensures { OfEachHistory RepliesShow }
 {}
 
-/// In every run a tree is answered at most once: of all letters that were sent at most one is its reply.
+/// In every run a transaction is answered at most once: at most one of all messages that were sent is its reply.
 pub fn trees_are_answered_once()
     ensures { OfEachTree (λ s past t. answers past t ≤ 1) }
 {}

@@ -11,31 +11,33 @@ ghost use Rattle.tx_trees.specs.Valid.{IsValid};
 ghost use Rattle.world_model.specs.Runs.{IsStepRun};
 
 /// A version that nodes are told to show is no later than the latest one so far, or it is the next one: then nothing
-/// counted of it is outstanding and every node updates above it. A version that they are told to sweep to is no later than
-/// the latest one so far, or it is the next one: then nothing counted of the version before it is outstanding and every
-/// node reads it, or a later one. Before nodes are told any, the latest one is version 0, which they begin with. So it is
-/// of every script, also where the coordinator forgets and tells nodes again what they have done.
+/// counted of it is outstanding, and every node's update version is above it. A version that nodes are told to sweep to
+/// is no later than the latest one so far, or it is the next one: then nothing counted of the version before it is
+/// outstanding, and every node's read version is at least it. Before nodes are told any, the latest one is version 0,
+/// with which they begin. This holds for every script, also if the coordinator forgets and tells nodes again what they
+/// have done.
 pub fn orders_are_given_before_or_in_quiet()
     ensures { (s : ScriptData) (past : List Entry) (e : Entry) → IsValid s → IsStepRun s (e ∷ past)
         → EachSent (IsGivenAnew s past) e }
 {}
 
-/// Where the coordinator remembers, an entry sends Show(v) only where nothing counted of version v is outstanding and
-/// every node updates above v, and Sweep(v) only where nothing counted of version v - 1 is outstanding and every node
-/// reads v or a later version.
+/// If the coordinator keeps its state, an entry sends Show(v) only if nothing counted of version v is outstanding and
+/// every node's update version is above v, and Sweep(v) only if nothing counted of version v - 1 is outstanding and
+/// every node's read version is at least v.
 pub fn orders_are_given_in_quiet()
     ensures { (s : ScriptData) (past : List Entry) (e : Entry) → IsValid s → is_lossy s ≡ false → IsStepRun s (e ∷ past)
         → EachSent (IsGivenInQuiet s past) e }
 {}
 
-/// While Show(v) is in flight, or an order that stands for it, each tree of version at most v that is born and reads
-/// nothing is whole; while Sweep(v) is, or an order that stands for it, each read tree of a version below v.
+/// While Show(v) is in flight, or an order that stands for it, each begun update and strict transaction of version at
+/// most v is complete. While Sweep(v) is, or an order that stands for it, each begun read of a version below v is
+/// complete.
 pub fn what_is_shown_is_whole()
     ensures { OfEachRun (λ s past. EachInFlight s past (IsBackedBy s (reverse past))) }
 {}
 
-/// Once Show(v) was in flight, no tree that reads nothing comes to a version at most v; once Sweep(v) was, no read tree
-/// to one below v.
+/// Once Show(v) was in flight, no update or strict transaction gets a version at most v any more. Once Sweep(v) was, no
+/// read gets one below v.
 pub fn nothing_comes_to_what_is_shown()
     ensures { OfEachLaterRun (λ s past later. EachInFlight s past (IsClosedBy s (reverse past) (reverse later))) }
 {}

@@ -10,33 +10,34 @@ ghost use Rattle.tx_trees.specs.Valid.{IsValid};
 ghost use Rattle.world_model.specs.Kept.{kept_in};
 ghost use Rattle.world_model.specs.Runs.{client_in, in_flight, IsStepRun};
 
-/// No run stalls, also of a script with strict trees, or of one whose coordinator forgets: where no letter is in flight
-/// any more, every tree is answered, every advancement has ended, and the client has finished.
+/// No run stalls, with strict transactions or without, even if its coordinator forgets: once no message is in flight,
+/// the client has finished, every transaction is answered, and every advancement has ended.
 pub fn no_run_stalls()
     ensures { OfEachEnd (λ s past. ((client_in s past).finished ≡ true) × HasFinished (reverse past)) }
 {}
 
-/// Where no letter is in flight any more, no node keeps one either.
+/// Once no message is in flight, no node defers one either.
 pub fn nothing_is_kept_at_the_end()
     ensures { (s : ScriptData) (past : List Entry) (p : ℕ) → IsValid s → IsStepRun s past → in_flight s past ≡ [] → p < s.nodes
         → kept_in s past p ≡ [] }
 {}
 
-/// A run of a script without strict trees, whose coordinator remembers, in which no letter is in flight any more has as
-/// many entries as its trees, advancements and rounds take.
+/// If a script has no strict transactions and its coordinator keeps its state, a run in which no message is in flight
+/// any more has exactly the entries that its transactions, advancements and rounds take.
 pub fn entries_are_counted()
     ensures { OfEachSimpleRun (λ s past. in_flight s past ≡ [] → length past ≡ entries_of s (rounds_in s (reverse past))) }
 {}
 
-/// A run has at most so many entries: as many as two rounds for each advancement and one for each tree would bring it to,
-/// where there is a strict tree those of its decisions, of marks that are let go and of letters that are woken, and for each
-/// time that the coordinator is made to forget those by which it recovers and does anew what was in progress.
+/// A run has at most `entries_most` entries: those that two rounds for each advancement and one for each transaction
+/// would make; if there are strict transactions, those of their decisions, of freed marks and of woken messages; and
+/// for each time that the coordinator is made to forget, those by which it recovers and does again what was in
+/// progress.
 pub fn entries_are_few()
     ensures { OfEachRun (λ s past. length past ≤ entries_most s) }
 {}
 
-/// Where no tree is strict that is what two rounds for each advancement and one for each tree make, and what forgetting adds:
-/// nothing, where no row makes the coordinator forget.
+/// If no transaction is strict, that bound is what two rounds for each advancement and one for each transaction make,
+/// and what forgetting adds: nothing, if no row makes the coordinator forget.
 pub fn plain_runs_have_fewer_entries()
     ensures { (s : ScriptData) → has_strict s ≡ false
         → entries_most s ≡ entries_of s (2 * advances_in s.rows + length s.trees) + lossy_entries s }

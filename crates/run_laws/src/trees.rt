@@ -13,60 +13,61 @@ ghost use Rattle.tree_laws.specs.Turns.{turns};
 ghost use Rattle.world_model.specs.Counts.{Each};
 ghost use Rattle.world_model.specs.Kept.{outstanding};
 
-/// In every run each subtransaction is asked for by an outstanding letter or has had its turn, a Did or a vote, and
-/// that at most once.
+/// In every run, for each subtransaction, the outstanding messages that ask for it and its turns, each a Did or a vote,
+/// are at most one together.
 pub fn turns_come_once()
     ensures { OfEachSub (λ s past t k. letters_asking s past t k + turns past t k ≤ 1) }
 {}
 
-/// In every run each tree is at one of its stages: it is unborn; or its home gathers its notices, and one is missing; or
-/// it is a strict tree that is decided, and its answer is held until each node that it visits has told that it applied
-/// the decision; or it is answered, once, and each of its subtransactions has had its turn.
+/// In every run each transaction is at one of its stages. It isn't begun; or its home gathers its notices, and one is
+/// missing; or it is strict and decided, and its answer is held until each node that it visits has acknowledged the
+/// decision; or it is answered, once, and each of its subtransactions has had its turn.
 pub fn trees_go_by_stages()
     ensures { OfEachTree StageAt }
 {}
 
-/// In every run each outstanding Sub, notice, decision and acknowledgement is of a tree that is born, and carries the
-/// version with which it was born.
+/// In every run each outstanding Sub, notice, decision and acknowledgement is of a begun transaction, and carries the
+/// version with which it was begun.
 pub fn letters_carry_versions()
     ensures { OfEachRun (λ s past.
         Each (λ (l : Letter). CarriesVersion (places_of (reverse past)) l.body) (outstanding s past)) }
 {}
 
-/// In every run a strict tree is decided on at most once.
+/// In every run a strict transaction is decided at most once.
 pub fn trees_are_decided_once()
     ensures { OfEachTree (λ s past t. decided_as past t true + decided_as past t false ≤ 1) }
 {}
 
-/// In every run a decision was applied at each node that its tree visits, or is on its way there, as often as it was
-/// made: so at most once, and never otherwise than it was made.
+/// In every run a decision was applied at each node that its transaction visits, or is on its way there, as often as it
+/// was made: so at most once, and only as it was made.
 pub fn decisions_are_applied_once()
     ensures { OfEachVisit (λ s past t q commit.
         applied_at past t commit q + decisions_to s past t commit q ≡ decided_as past t commit) }
 {}
 
-/// In every run a strict tree commits only where none of its subtransactions has voted no, and aborts only where one
+/// In every run a strict transaction commits only if none of its subtransactions has voted no, and aborts only if one
 /// has.
 pub fn decisions_follow_votes()
     ensures { OfEachTree (λ s past t.
         (1 ≤ decided_as past t true → noes past t ≡ 0) × (1 ≤ decided_as past t false → 1 ≤ noes past t)) }
 {}
 
-/// In every run no read or commuting step waits for anything but a strict tree's lock: an entry that takes the letter of
-/// a subtransaction of a read tree does it, and one of an update tree does it too, unless the look back over the acts
-/// before names a lock in its way. Then it parks it for that lock's tree. Nothing else is parked.
+/// In every run no step of a read or an update waits for anything but a strict transaction's lock. An entry that takes
+/// the message of a read's subtransaction does it. So does one that takes an update's, unless the look back over the
+/// acts before names a lock in its way; then it blocks the subtransaction, with that lock's transaction as the holder.
+/// Nothing else is blocked.
 pub fn no_step_waits()
     ensures { OfEachHistory IsAtOnce }
 {}
 
-/// In every run of a script without strict trees nothing is ever in the way of a subtransaction: so there each entry that
-/// takes the letter of a subtransaction does it.
+/// In every run of a script without strict transactions nothing is ever in the way of a subtransaction. So there each
+/// entry that takes the message of a subtransaction does it.
 pub fn nothing_is_in_the_way()
     ensures { NothingIsInTheWay }
 {}
 
-/// In every run what is in the way of a subtransaction is the lock of a strict tree, which is born, has had a turn there,
-/// and whose decision wasn't applied there.
+/// In every run, what is in the way of a subtransaction is the lock of a strict transaction that is begun, has had a
+/// turn there, and whose decision wasn't applied there yet.
 pub fn only_strict_trees_are_in_the_way()
     ensures { OnlyHoldersAreInTheWay }
 {}

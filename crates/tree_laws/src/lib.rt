@@ -1,8 +1,9 @@
-//! Laws of trees in every valid script. In runs of apt letters: stages, turns, decisions, versions and bounds of trees,
-//! the client, and what nodes see of their items, as definitions and lemmas alone. Of nodes with strict trees, of their
-//! steps and of every run: a node's locks are what the acts say, and what the look back over all acts finds; locks of
-//! two trees never conflict; what a tree meets is the conflict that the look back names; letters are kept for a named
-//! reason alone; each letter is meant for its addressee, and a Wake finds the letter that it calls.
+//! Laws of transactions in every valid script. For runs of enabled messages: stages, turns, decisions, versions and
+//! bounds of transactions, the client, and what nodes see of their items, as definitions and lemmas alone. For nodes
+//! with strict transactions, in each step and in every run: a node's locks are those that its acts say, and those that
+//! a look back over all acts finds; locks of two transactions never conflict; the lock that a transaction meets is the
+//! conflict that the look back names; messages are deferred only for a named reason; each message is meant for its
+//! addressee; and a Wake finds the message that it wakes.
 #![tactic(auto)]
 
 mod keeping;
