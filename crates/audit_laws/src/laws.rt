@@ -18,7 +18,7 @@ use headline::every_run_is_accepted;
 use letter_types::History;
 use tx_trees::Script;
 
-/// The lines of every run that has finished are accepted, with all its entries, where each of these may be printed.
+/// The lines of every run that has finished are accepted, with all its entries, if each of these may be printed.
 pub fn printed_runs_are_accepted()
     ensures { (s : ScriptData) (h : List Entry) → IsValid s → IsWorldRun s h → HasFinished h
         → AllByRecursion (IsPrintable s) h → Verdict s (history_lines_of s h) (Ok (length h)) }
@@ -26,8 +26,8 @@ pub fn printed_runs_are_accepted()
     every_run_is_accepted();
 }
 
-/// So are those of every history of the script that is such a run: each of its entries may be printed. It walks the
-/// history and changes nothing.
+/// The same of each history of the script that is such a run: each of its entries may be printed. It walks the history
+/// and changes nothing.
 pub fn printed_histories_are_accepted(script: &Script, history: &History)
     requires run { IsWorldRun script.now history.now }
     requires finished { HasFinished history.now }
@@ -39,14 +39,14 @@ pub fn printed_histories_are_accepted(script: &Script, history: &History)
     printed_runs_are_accepted();
 }
 
-/// The lines of every run, finished or not, are read as its history, with the letters that were taken, where each entry may
-/// be printed.
+/// The lines of every run, finished or not, are read back as its history, with the messages that were taken, if each
+/// entry may be printed.
 pub fn printed_runs_are_read_back()
     ensures { (s : ScriptData) (h : List Entry) → IsWorldRun s h → AllByRecursion (IsPrintable s) h
         → Reading s (history_lines_of s h) (Ok h) }
 {}
 
-/// So are those of every history of the script that is such a run. It walks the history and changes nothing.
+/// The same of each history of the script that is such a run. It walks the history and changes nothing.
 pub fn printed_histories_are_read_back(script: &Script, history: &History)
     requires { IsWorldRun script.now history.now }
     ensures { Reading script.now (history_lines_of script.now history.now) (Ok history.now) }
@@ -55,9 +55,9 @@ pub fn printed_histories_are_read_back(script: &Script, history: &History)
     printed_runs_are_read_back();
 }
 
-/// So mode audit accepts them: where a script's text ends with a line feed and has no line that is exactly `history`, this
-/// line and the lines of a run of the script that has finished behind it are divided just there, and come to a history
-/// that is accepted with all its entries.
+/// So mode audit accepts them. If a script's text ends with a line feed and has no line that is exactly `history`, put
+/// that line and the lines of a finished run of the script behind it: the text is divided exactly there, and the
+/// history is accepted with all its entries.
 pub fn printed_runs_pass_audits()
     ensures { (text : List ℕ) (s : ScriptData) (h : List Entry) → read_of text ≡ Ok s → ends_in_feed text ≡ true
         → HasNoHistoryLine text → IsValid s → IsWorldRun s h → HasFinished h → AllByRecursion (IsPrintable s) h
@@ -66,7 +66,7 @@ pub fn printed_runs_pass_audits()
     printed_runs_are_accepted();
 }
 
-/// So it does where the history is one of the script that is such a run. It walks the history and changes nothing.
+/// The same of each history of the script that is such a run. It walks the history and changes nothing.
 pub fn printed_histories_pass_audits(script: &Script, history: &History)
     requires run { IsWorldRun script.now history.now }
     requires finished { HasFinished history.now }

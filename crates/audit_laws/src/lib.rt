@@ -1,5 +1,5 @@
-//! Laws that join runs and their texts: each entry of every run may be printed, the text of a run that has finished is
-//! accepted, that of any run is read back, and a run's report says of each tree what its reply says.
+//! Laws that join runs and their texts: each entry of every run may be printed; the text of a finished run is accepted,
+//! and that of any run is read back; and a run's report says of each answered transaction what its reply says.
 #![tactic(auto)]
 
 mod laws;

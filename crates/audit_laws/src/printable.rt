@@ -12,10 +12,10 @@ use crate::ranges::numbers_have_their_ranges;
 use letter_types::History;
 use tx_trees::Script;
 
-/// In every run of every valid script, strict trees too, each entry's lines are of the script: actors, trees,
-/// subtransactions and items that they name are there, a row has one number for each node, notices and answers are of
-/// the kind of their tree, each value is of its item's kind with magnitudes up to `MOST_AMOUNT` and its bag ascending,
-/// and no Go is sent.
+/// In every run of every valid script, with strict transactions or without, each entry's lines are of the script: it
+/// has the actors, transactions, subtransactions and items that they name; a row has one number for each node; notices
+/// and answers are of the kind of their transaction; each value is of its item's kind, with magnitudes up to
+/// `MOST_AMOUNT` and its bag ascending; and no Go is sent.
 pub fn entries_are_of_the_script()
     ensures { (s : ScriptData) (h : List Entry) → IsValid s → IsWorldRun s h → AllByRecursion (IsOfScript s) h }
 {}

@@ -1,6 +1,7 @@
-//! What is promised of every run. It is one of the Board and keeps to its rows, its reads are right and stay so, and
-//! nodes hold at most three versions and in the end the balances: laws of each for every run, the headline of a run
-//! whose client has finished, as one record of them, and what is so besides once no letter is left.
+//! What is promised of every run: it is a run of the Board and keeps to its rows, its reads are right and stay so, and
+//! nodes hold at most three versions and in the end the balances. Each of these is a law of every run. The headline of
+//! a run whose client has finished is one record of them, and another record says what holds besides once no message is
+//! left.
 #![tactic(auto)]
 
 mod board;

@@ -5,8 +5,8 @@ ghost use Rattle.tx_trees.specs.ScriptData.{ScriptData};
 ghost use Rattle.tx_trees.specs.Valid.{IsValid};
 ghost use Rattle.world_model.specs.Runs.{IsWideRun, IsWorldRun};
 
-/// The window of three versions refuses nothing that a node would do that keeps versions without end: the runs by the
-/// window are the runs by the wider aptness.
+/// The window of three versions refuses nothing that a node with unbounded versions would do: the runs by the window
+/// are the runs by the wider condition under which messages are enabled.
 pub fn the_window_refuses_nothing()
     ensures { (s : ScriptData) (h : List Entry) → IsValid s → (IsWorldRun s h ↔ IsWideRun s h) }
 {}

@@ -16,7 +16,7 @@ use tx_trees::Script;
 /// Why a text isn't accepted as a history.
 #[derive(Clone, Copy, Debug, PartialEq, Eq)]
 pub enum AuditRefusal {
-    /// It fails.
+    /// The history fails.
     Refused(HistoryFault),
     /// No memory was found. It says nothing of the text.
     NoMemory,
@@ -32,10 +32,10 @@ impl From<NoMemory> for AuditRefusal {
     }
 }
 
-/// Judges the text of a history by its verdict: how many entries it has, where it is accepted whole; else the first entry
-/// that fails, and in what. Takes time by the script, by the text's length, and for each entry by the operations and values
-/// of the trees that end there, and for locks by the operations of the script on their items. It keeps no entries, but the
-/// letters that were sent, what the Board's tallies say, and what the items are worth.
+/// Judges the text of a history: gives how many entries it has, if it is accepted as a whole; else the first entry that
+/// fails, and in what. Takes time by the script, by the text's length, and for each entry by the operations and values
+/// of the transactions that end there, and for locks by the operations of the script on their items. It keeps no
+/// entries, but the messages that were sent, the Board's tallies, and the items' values.
 pub fn audit(alloc: Global, script: &Script, text: &[u8]) -> Result<u64, AuditRefusal>
     ensures { IsAudited script.now text.now result }
 {

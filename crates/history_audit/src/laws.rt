@@ -6,13 +6,13 @@ ghost use Rattle.tx_trees.specs.Valid.{IsValid};
 ghost use Rattle.history_audit.specs.declared.rules.AuditRule.{AuditRule};
 ghost use Rattle.history_audit.specs.Verdicts.{IsTaken, Verdict};
 
-/// A text has one verdict: whoever answers a verdict of it answers the same.
+/// A text has one verdict: any two verdicts of it are equal.
 pub fn a_text_has_one_verdict()
     ensures { (s : ScriptData) (text : List ℕ) (a b : Result ℕ (ℕ × AuditRule)) → IsValid s
         → Verdict s text a → Verdict s text b → a ≡ b }
 {}
 
-/// A text that is taken whole is of one history, which it fixes with all letters that were taken.
+/// A text that is taken as a whole fixes its history, with all messages that were taken.
 pub fn an_accepted_text_is_one_history()
     ensures { (s : ScriptData) (text : List ℕ) (h g : List Entry) → IsValid s
         → IsTaken s text h [] → IsTaken s text g [] → h ≡ g }

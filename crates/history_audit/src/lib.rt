@@ -1,7 +1,7 @@
-//! The audit of a printed history: its text is read entry by entry, by a walk, and judged by what each entry may be
-//! after those before it. What it means that a text is accepted or refused is its verdict, by the first entry that
-//! fails; a text has one. In mode audit a script and a printed history are read from a source, in its two parts, the
-//! history is judged, and a line is made of it.
+//! The audit of a printed history. A walk reads its text entry by entry, and a judge says whether each entry may come
+//! after those before it. The verdict of a text, by the first entry that fails, says what it means that the text is
+//! accepted or refused; a text has one. Mode audit reads a script and a printed history from a source, in its two
+//! parts, judges the history, and makes a line of the verdict.
 #![tactic(auto)]
 
 mod auditor;

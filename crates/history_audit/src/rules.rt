@@ -4,12 +4,12 @@ ghost use Rattle.history_audit.specs.Names.{audit_rule_name, rule_name};
 
 use board_rules::Rule;
 
-/// What the text of a history fails in first. The first three are of an entry, in this order.
+/// In what the text of a history fails first. The first three cases are of an entry, in this order.
 #[derive(Clone, Copy, Debug, PartialEq, Eq)]
 pub enum AuditRule {
     /// What comes next isn't the lines of an entry that may be printed.
     Text,
-    /// The stamp isn't the next one, or the letter taken wasn't sent, was taken before or isn't the actor's.
+    /// The stamp isn't the next one, or the message taken wasn't sent, was taken before or isn't the actor's.
     Postal,
     /// The entry breaks this rule of the Board, and none before it.
     Judged(Rule),
@@ -18,7 +18,7 @@ pub enum AuditRule {
 }
 
 impl AuditRule {
-    /// Its name, as a refusal is told: that of the rule that is broken, or the case's own.
+    /// Its name, as a refusal tells it: that of the rule that is broken, or the case's own.
     pub fn name(self) -> &'static str
         ensures { result.now ≡ audit_rule_name self }
     {

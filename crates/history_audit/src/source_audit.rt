@@ -32,7 +32,7 @@ pub enum AuditStop {
     NoMemory,
     /// The source failed.
     Reading,
-    /// The script's part was refused, or there are more bytes than are read.
+    /// The script's part is refused, or there are more bytes than are read.
     Script(ScriptFault),
     /// The history fails.
     History(HistoryFault),
@@ -91,9 +91,10 @@ impl From<AuditRefusal> for AuditStop {
     }
 }
 
-/// Reads a script and a history from a source to its end, judges the history, and gives the line that says how many entries
-/// it has, where it is accepted whole. The first line that is exactly `history` divides what is read; where there is none all
-/// is the script, and the history is empty. Takes memory by what is read, and time by its length and by what `audit` takes.
+/// Reads a script and a history from a source to its end, and judges the history. If it is accepted as a whole, gives
+/// the line that says how many entries it has. The first line that is exactly `history` divides what is read; if there
+/// is none, all is the script, and the history is empty. Takes memory by what is read, and time by its length and by
+/// what `audit` takes.
 pub fn audit_source<S: Source>(alloc: Global, source: &mut S) -> Result<Text, AuditStop>
     ensures accepted { IfOk result (λ text. (n : ℕ) × IsAuditOf (S.left source.old) (S.left source.new) (Ok n)
         × (text ≡ accepted_line n)) }
