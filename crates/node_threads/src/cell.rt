@@ -21,7 +21,7 @@ use tv_base::{ActorNo, NoMemory};
 use tx_trees::Script;
 use world_core::{ActorState, actor_done, actor_plan};
 
-/// An actor: its own log, of the script and the post that `K` names, and its state, to which the log's entries lead.
+/// An actor: its log, for the script and the post that `K` names, and the state to which the log's entries lead.
 /// Contracts see its number and its entries.
 pub struct ActorCell<K: ClusterName> {
     log: OwnLog<K>,
@@ -117,9 +117,9 @@ impl<K: ClusterName> ActorCell<K> {
         self.log.count()
     }
 
-    /// Makes the actor's step for a letter that is addressed to it: all memory first, and then it takes the letter,
-    /// stamps the entry, puts that last among those that were made, and makes the outbox. If memory runs out, the cell
-    /// and what was made are as they were, and the envelope comes back; a cell that has 2^40 entries finds no memory.
+    /// Makes the actor's step for a message that is addressed to it. First it gets all memory; then it takes the
+    /// message, stamps the entry, puts it last into `made`, and makes the outbox. If memory runs out, the cell and
+    /// `made` are as they were, and the envelope comes back. The same happens if the cell has 2^40 entries.
     pub fn handle(
         &mut self,
         alloc: Global,

@@ -18,8 +18,8 @@ use std::sync::{Mutex, Wait};
 use tv_base::{Gate, NoMemory};
 use tx_trees::Script;
 
-/// The actors of the script that `K` names, on the post that it names. Each has a cell, and a mailbox of the letters
-/// that are in flight to it, each under a lock of its own. What they make is recorded by one recorder, under a lock too.
+/// The actors of the script that `K` names, on the post that it names. Each has a cell, and a mailbox of the messages
+/// that are in flight to it, each under a lock of its own. One recorder, under a lock too, records what they make.
 /// Actors are held at the gate.
 pub struct Cluster<'a, K: ClusterName, G: Gate> {
     pub(crate) alloc: Global,
@@ -76,7 +76,7 @@ fn cells_of<K: ClusterName>(
 }
 
 impl<'a, K: ClusterName, G: Gate> Cluster<'a, K, G> {
-    /// A cluster of a new post for the script's actors, and Go.
+    /// A cluster for the script's actors on a new post, and the first envelope, with Go.
     pub fn start(
         alloc: Global,
         script: &'a Script,
@@ -110,16 +110,16 @@ impl<'a, K: ClusterName, G: Gate> Cluster<'a, K, G> {
         Ok((cluster, first))
     }
 
-    /// The post, which gives the letters of each outbox out.
+    /// The post, which gives out the messages of each outbox.
     pub fn post(&self) -> &Post
         ensures { result.now ≡ K.post }
     {
         &self.post
     }
 
-    /// Hands an envelope to its addressee, under that one's lock alone, past the gate. The entry that comes of it is the
-    /// last of those that were made. Where no memory is found for the step, the envelope comes back, what was made is as
-    /// it was, and no actor has changed. So it is too where another actor lies under the lock, which none does.
+    /// Hands an envelope to its addressee, past the gate, under the addressee's lock alone. The entry of its step
+    /// becomes the last of `made`. If the step finds no memory, the envelope comes back, `made` is as it was, and no
+    /// actor has changed. The same happens if another actor lies under the lock, which none does.
     pub fn deliver<R: Wait>(
         &self,
         rt: &R,
@@ -145,8 +145,8 @@ impl<'a, K: ClusterName, G: Gate> Cluster<'a, K, G> {
         }
     }
 
-    /// Hands the entries in that were made, and records all that are next (`Recorder::record`). Where no memory is found
-    /// they are left, or wait in the recorder for a later call.
+    /// Hands in the entries of `made`, and records all that are next (`Recorder::record`). If memory runs out, they are
+    /// left in `made`, or wait in the recorder for a later call.
     pub fn record<R: Wait>(&self, rt: &R, made: &mut VecDeque<Made<K>>) -> Result<(), NoMemory>
         ensures ok { OnOk result (made.new.items ≡ []) }
         ensures err { OnErr result ((made.new.items ≡ made.old.items) ⊎ (made.new.items ≡ [])) }
@@ -154,7 +154,7 @@ impl<'a, K: ClusterName, G: Gate> Cluster<'a, K, G> {
         self.recorder.lock(rt).record(&self.post, made)
     }
 
-    /// The same, where nobody else does so just then. Else they are left too.
+    /// The same, if nobody else is recording just then. If somebody is, the entries are left in `made`.
     pub(crate) fn record_if_free(&self, made: &mut VecDeque<Made<K>>) -> Result<(), NoMemory>
         ensures { (made.new.items ≡ made.old.items) ⊎ (made.new.items ≡ []) }
     {
@@ -166,10 +166,10 @@ impl<'a, K: ClusterName, G: Gate> Cluster<'a, K, G> {
 
     /// All entries by stamp. They are a run of the script, and each receipt's entry is one of them.
     ///
-    /// Where memory is wanting, there are more entries than a history takes, or an entry wasn't handed in, the cluster
-    /// and the receipts come back, so that it can be asked again: what is recorded and the letters in the mailboxes are
-    /// there as before. No clause says so, since what lies under a lock is known by its type alone. So it is too where
-    /// another actor lies under a lock, which none does.
+    /// If memory runs out, if there are more entries than a history takes, or if an entry wasn't handed in, the cluster
+    /// and the receipts come back, and `finish` can be called again: what is recorded and the messages in the mailboxes
+    /// are there as before. No clause says so, since what lies under a lock is known by its type alone. The same
+    /// happens if another actor lies under a lock, which none does.
     pub fn finish(
         self,
         receipts: Receipts,

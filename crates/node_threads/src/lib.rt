@@ -1,5 +1,5 @@
-//! Runs on threads: actors' cells, each behind a lock of its own, a cluster of cells and mailboxes, and workers that
-//! hand letters to them.
+//! Runs on threads: actors' cells, each under a lock of its own, a cluster of cells and mailboxes, and workers that
+//! hand messages to them.
 #![tactic(auto)]
 
 mod cell;

@@ -94,9 +94,9 @@ fn run_named<K: ClusterName + Send + Sync, R: Threads + Wait + Sync, G: Gate + S
     }
 }
 
-/// Runs a script by so many workers, each in a thread of its own where one is found. Actors are held at the gate. The
-/// history is a run of the script to its end, in the order in which the entries were stamped: the client has finished,
-/// and every letter was taken.
+/// Runs a script on `workers` workers, each in a thread of its own if one is found. Actors are held at the gate. The
+/// history is a run of the script to its end, in the order of the entries' stamps: the client has finished, and every
+/// message was taken.
 pub fn run<R: Threads + Wait + Sync, G: Gate + Sync>(
     rt: &R,
     alloc: Global,

@@ -22,8 +22,8 @@ const BATCH: usize = 128;
 // From so many on it waits for that.
 const MOST_KEPT: usize = 1_024;
 
-/// What a worker works with: its desk, and the entries that came of what it delivered and that it hasn't handed in, the
-/// oldest first.
+/// What a worker works with: its desk, and the entries of what it delivered that it hasn't handed in yet, the oldest
+/// first.
 pub struct Bench<K: ClusterName> {
     pub desk: Desk<K>,
     pub made: VecDeque<Made<K>>,
@@ -206,21 +206,23 @@ impl<'a, K: ClusterName, G: Gate> Cluster<'a, K, G> {
         Ok(())
     }
 
-    /// A worker: it serves an actor for which a letter lies in a mailbox and that no other worker serves: the next in
+    /// A worker. It serves an actor that has a message in its mailbox and that no other worker serves: the next in
     /// cyclic order of those that it was the last to serve or that nobody has served, or else of all. It delivers the
-    /// oldest letters of that mailbox, a turn of them at most, sorts what comes out on the desk of its bench, which
-    /// `Cluster::bench` gives, and puts it into the mailboxes at the turn's end. The entries that come of it are handed
-    /// in at the end of some turns, before it sleeps, and at its own end. Then it goes on with the next actor. Where
-    /// there is none, it sleeps until an envelope is put that nobody else is about to take. It ends once the client has
-    /// finished, or once any worker finds no memory. What it had in hand when it stopped itself comes back, lies in its
-    /// mailbox again, or in a tray of its desk; where another worker stopped it has nothing in hand. Either way the
-    /// entries that it hasn't handed in lie on the bench. Clauses say that a worker which ends with the client has
-    /// handed in all that it made, and leaves its trays empty where they were so; and that what comes back is nothing, a
-    /// letter that wasn't delivered, or all that no tray took of what came of one. What its steps leave is said by
-    /// `deliver`, `Desk::sort` and `Recorder::record`, and the rest lies under locks.
+    /// oldest messages of that mailbox, at most a turn of them, sorts what comes out on the desk of its bench
+    /// (`Cluster::bench`), and puts it into the mailboxes at the turn's end. Then it goes on with the next actor. If
+    /// there is none, it sleeps until an envelope is put that nobody else is about to take. It hands its entries in at
+    /// the end of some turns, before it sleeps, and at its own end. It ends once the client has finished, or once any
+    /// worker finds no memory.
     ///
-    /// `worker` is its own number, by which it is known as the last to serve an actor: different workers should have
-    /// different numbers, and 2^32 - 1 stands for nobody.
+    /// If it finds no memory itself, what it had in hand comes back, lies in its mailbox again, or in a tray of its
+    /// desk; if another worker does, it has nothing in hand. Either way the entries that it hasn't handed in lie on the
+    /// bench. Clauses say that a worker that ends with the client has handed in all that it made, and leaves its trays
+    /// empty if they were so; and that what comes back is nothing, a message that wasn't delivered, or all messages of
+    /// a delivered one's step that no tray took. `deliver`, `Desk::sort` and `Recorder::record` say what its steps
+    /// leave; the rest lies under locks.
+    ///
+    /// `worker` is its own number, by which it is known as the last to serve an actor. Different workers should have
+    /// different numbers; 2^32 - 1 stands for nobody.
     #[tactic(auto, using(crate::proofs::Benches::keeping))]
     pub fn serve<R: Wait>(
         &self,

@@ -1,5 +1,5 @@
-//! Runs on one thread: which letter is taken next is chosen by a script's picks and a seed, or by any picker. What laws
-//! of all runs say of a world.
+//! Runs on one thread: a script's picks and a seed, or any picker, choose which message is taken next. And what the
+//! laws of all runs say of a world.
 #![tactic(auto)]
 
 mod laws;

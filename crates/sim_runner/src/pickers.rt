@@ -8,22 +8,23 @@ use letter_types::{Letter, LetterId};
 use tv_base::ActorNo;
 use world_core::World;
 
-/// Chooses which of the letters in flight is taken next. It takes no memory.
+/// Chooses which of the messages in flight is taken next. It takes no memory.
 pub trait Picker {
-    /// The number of the place that it names where these letters wait. It is taken modulo how many they are.
+    /// The number that it names if these messages are in flight. It stands for a place: itself modulo the number of
+    /// messages.
     ghost place: { Self → List Letter → ℕ };
 
-    /// What it is afterwards.
+    /// The picker after it has chosen from these messages.
     ghost after: { Self → List Letter → Self };
 
-    /// Names a place, where a letter waits.
+    /// Names a place at which a message is in flight, by a number that is taken modulo the number of messages.
     fn choose(&mut self, world: &World) -> usize
         requires { 0 < length world.now.bag }
         ensures place { result ≡ place self.old world.now.bag }
         ensures after { self.new ≡ after self.old world.now.bag };
 }
 
-/// Chooses the last letter.
+/// Chooses the message at the last place.
 #[derive(Clone, Copy, Debug, PartialEq, Eq)]
 pub struct Newest;
 
@@ -37,7 +38,7 @@ impl Picker for Newest {
     }
 }
 
-/// Chooses the oldest letter that isn't for this actor, and the oldest where there is none.
+/// Chooses the oldest message that isn't for this actor, or the oldest of all if there is none.
 #[derive(Clone, Copy, Debug, PartialEq, Eq)]
 pub struct Starve(pub ActorNo);
 
@@ -51,7 +52,7 @@ impl Picker for Starve {
     }
 }
 
-/// Chooses the oldest letter with another id, and the oldest where there is none.
+/// Chooses the oldest message with another id, or the oldest of all if there is none.
 #[derive(Clone, Copy, Debug, PartialEq, Eq)]
 pub struct Hold(pub LetterId);
 
@@ -77,7 +78,7 @@ fn has_other_id(letter: &Letter, id: LetterId) -> bool
     id.stamp.0 != letter.id.stamp.0 || id.place != letter.id.place
 }
 
-/// The place of the oldest letter that isn't for this actor, or 0 where there is none.
+/// The place of the oldest message that isn't for this actor, or 0 if there is none.
 fn oldest_for_other(world: &World, actor: ActorNo) -> usize
     ensures { result ≡ oldest_where (λ l. not (l.to.0 == actor.0)) world.now.bag }
 {
@@ -89,7 +90,7 @@ fn oldest_for_other(world: &World, actor: ActorNo) -> usize
     0
 }
 
-/// The place of the oldest letter with another id, or 0 where there is none.
+/// The place of the oldest message with another id, or 0 if there is none.
 fn oldest_of_other(world: &World, id: LetterId) -> usize
     ensures { result ≡ oldest_where (λ l. not (same_id id l.id)) world.now.bag }
 {

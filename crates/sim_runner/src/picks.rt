@@ -7,7 +7,7 @@ use std::marker::Model;
 use tv_base::{next_draw, upper_bits};
 use world_core::World;
 
-/// Numbers one after the other: those that are given, then with a seed its draws, and without a seed 0.
+/// Numbers one after the other: the given ones, then the draws of the seed, or 0 if there is no seed.
 #[derive(Drop)]
 pub struct Picks<'a> {
     given: &'a [u32],

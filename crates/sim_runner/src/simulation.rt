@@ -12,10 +12,11 @@ use tv_base::NoMemory;
 use tx_trees::Script;
 use world_core::World;
 
-/// Runs a script on one thread until no letter is in flight. The letters are taken as the picker chooses, the place
-/// that it names being taken modulo how many letters wait. If memory runs out, nothing is said of the picker.
+/// Runs a script on one thread until no message is in flight. The picker chooses which message is taken next; the
+/// number that it names is taken modulo the number of messages in flight. If memory runs out, nothing is said of the
+/// picker.
 ///
-/// It always returns: a history has at most 2^40 entries, and a run that would pass that finds no memory.
+/// It always returns: a history has at most 2^40 entries, and a run that would pass that fails with `NoMemory`.
 pub fn simulate_by<P: Picker>(
     alloc: Global,
     script: &Script,
@@ -36,8 +37,8 @@ pub fn simulate_by<P: Picker>(
     Ok(world.into_history())
 }
 
-/// Runs a script on one thread until no letter is in flight. The letters are taken by the script's picks, then with a
-/// seed by its draws, and without one the oldest first (docs/ALGORITHM.md, "Schedules"). It always returns.
+/// Runs a script on one thread until no message is in flight. The script's picks choose the messages, then the draws of
+/// the seed, or the oldest first if there is no seed (docs/ALGORITHM.md, "Schedules"). It always returns.
 pub fn simulate(alloc: Global, script: &Script, seed: Option<u64>) -> Result<History, NoMemory>
     ensures ended { IfOk result (λ history. HasEnded script.now history) }
     ensures scheduled { IfOk result (λ history. IsScheduled script.now seed history) }
