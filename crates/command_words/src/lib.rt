@@ -24,13 +24,13 @@ const MOST_WORKERS: u32 = 32;
 // The most trees.
 const MOST_TREES: u32 = 20_000;
 
-/// What is made of a script that is read.
+/// What is made of a script.
 #[derive(Clone, Copy, Debug, PartialEq, Eq)]
 pub enum ScriptMode {
     /// Mode `check`, with no other option: the line that counts the script's parts.
     Check,
-    /// Mode `sim`: a run on one thread, and its report. The letters are taken by the script's picks, then with a seed
-    /// by its draws, and without one the oldest first.
+    /// Mode `sim`: a run on one thread, and its report. The script's picks choose the messages, then the draws of the
+    /// seed, or the oldest first if there is no seed.
     Sim {
         /// The number of `--seed`, 0 to 2^64 - 1, if it is given: the draws are made from it.
         seed: Option<u64>,
@@ -39,7 +39,7 @@ pub enum ScriptMode {
     },
     /// Mode `run`: a run on threads, and its report. The script's picks aren't used.
     Run {
-        /// The number of `--workers`, 1 to 32, 4 where it isn't given: so many threads work at once.
+        /// The number of `--workers`, 1 to 32, or 4 if it isn't given: at most as many threads work at once.
         workers: u32,
         /// Whether `--history` is given: the lines of the history follow the report.
         history: bool,
@@ -57,7 +57,7 @@ pub enum Line {
     Audit,
     /// Mode `soak`: a script is made from a seed, run on threads and summed up. Nothing is read.
     Soak {
-        /// The number of `--workers`, 1 to 32; 4 where it isn't given.
+        /// The number of `--workers`, 1 to 32, or 4 if it isn't given.
         workers: u32,
         /// The number of `--seed`, 0 to 2^64 - 1.
         seed: u64,
@@ -70,13 +70,13 @@ pub enum Line {
     Version,
 }
 
-/// Why words were not read as a line.
+/// Why words aren't read as a line.
 #[derive(Clone, Copy, Debug, PartialEq, Eq, Error)]
 pub enum WordsError {
     /// The words are no line of the program.
     #[error("the words are no line of the program")]
     Refused,
-    /// There was no memory to read them; they may be a line.
+    /// There was no memory to read them. They may be a line.
     #[error("out of memory")]
     NoMemory,
 }
@@ -270,12 +270,12 @@ fn asked(words: &[String]) -> Option<Line>
     }
 }
 
-/// The line that these words are. The first word is the program's name and isn't read; no words at
-/// all are refused. The rest are `--help` or `--version` alone, or options in any order, each at most
-/// once, its value in the option's own word after `=` or in the word after it.
+/// Reads words as a command line. The first word is the program's name and isn't read; no words at all are refused. The
+/// rest are `--help` or `--version` alone, or options in any order, each at most once, with its value in the option's
+/// own word after `=` or in the next word.
 ///
-/// `Refused` comes only where the words are no line, and a line only where they are that line.
-/// `NoMemory` tells nothing of the words.
+/// `Refused` comes only if the words are no line, and a line only if they are that line. `NoMemory` tells nothing of
+/// the words.
 pub fn read_words(alloc: Global, words: &[String]) -> Result<Line, WordsError>
     ensures told { HasReadLine (line_of (map string_bytes words.now)) result }
     ensures range { IfOk result IsInRange }

@@ -11,11 +11,11 @@ use std::alloc::Global;
 use tv_base::NoMemory;
 use tx_trees::{Form, Script};
 
-/// The script of so many trees, at most 20,000, that the seed makes: 4 nodes, 32 items, and update and read trees of
+/// The script of `trees` transactions, at most 20,000, that the seed makes: 4 nodes, 32 items, and updates and reads of
 /// one to four subtransactions with one operation each, all by the draws of the seed. An advancement is asked for after
-/// every 250th tree, and one more when all before it has ended.
+/// every 250th transaction, and one more when all before it has ended.
 ///
-/// Such a script keeps to all limits and rules of scripts, so running out of memory is the only error.
+/// Such a script keeps all limits and rules of scripts, so running out of memory is the only error.
 pub fn generate(alloc: Global, seed: u64, trees: u32) -> Result<Script, NoMemory>
     requires { trees ≤ 20000 }
     ensures { IfOk result (λ script. script ≡ generated seed trees) }

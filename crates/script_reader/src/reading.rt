@@ -17,7 +17,7 @@ use tx_trees::{Refusal, Script, Why};
 #[derive(Clone, Copy, Debug, PartialEq, Eq, Error)]
 #[error("row {row}: {why}")]
 pub struct ScriptFault {
-    /// Its number, from 1. Row 0 is the whole input, which is too long.
+    /// Its number, from 1. Row 0 stands for the whole input, if that is too long.
     pub row: u32,
     /// The first reason that holds, in the order of `Why`.
     pub why: Why,
@@ -54,12 +54,12 @@ fn at_row(row: u32, refusal: Refusal) -> ScriptRefusal
     }
 }
 
-/// The script that these bytes are, or the first fault.
+/// Reads a script, or gives its first fault.
 ///
-/// The bytes are records of comma separated fields, of which none is a header. One byte order mark at the start and
-/// blank lines are passed over. A script whose first record is `threev,2` is of the second form. A text without any
-/// record has the fault `NodesFirst` at row 1, and one of more than 8,388,608 bytes the fault `TooLong` at row 0.
-/// `NoMemory` says nothing of the text.
+/// The bytes are records of comma-separated fields, without a header. One byte order mark at the start and blank lines
+/// are skipped. A script whose first record is `threev,2` is of the second form. A text without any record has the
+/// fault `NodesFirst` at row 1, and one of more than 8,388,608 bytes the fault `TooLong` at row 0. `NoMemory` says
+/// nothing of the text.
 pub fn read_script(alloc: Global, bytes: &[u8]) -> Result<Script, ScriptRefusal>
     ensures script { Gives result (read_of bytes.now) }
     ensures whole { AreAllRecords bytes.now (records_in bytes.now) }

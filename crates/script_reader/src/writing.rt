@@ -17,9 +17,9 @@ use std::alloc::Global;
 use tv_base::{ItemNo, NoMemory, NodeNo, SubNo, Text};
 use tx_trees::{Deed, Form, ItemRow, Script, ScriptRow, Sub, SubOp, Tree, TreeKind};
 
-/// The text of a script: the row of the second form, if it is of that, the `nodes` row, all items, all rows with their
-/// trees, and then all picks, each as a line. Running out of memory is the only error. A text of at most 8,388,608
-/// bytes is read as an equal script.
+/// The text of a script: the row of the second form, if it is of that form, the `nodes` row, all items, all rows with
+/// their transactions, and then all picks, each as a line. Running out of memory is the only error. A text of at most
+/// 8,388,608 bytes is read back as an equal script.
 pub fn write_script(alloc: Global, script: &Script) -> Result<Text, NoMemory>
     ensures text { IfOk result (λ text. text ≡ written script.now) }
     ensures read { IfOk result (λ text. length text ≤ MOST_BYTES → IsReadAs (read_of text) script.now) }
