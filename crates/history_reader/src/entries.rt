@@ -12,17 +12,17 @@ use std::alloc::Global;
 use tv_base::{ActorNo, NoMemory};
 use tx_trees::Script;
 
-/// An entry that was read, and how many bytes its lines have. Of the letter that it took the lines say the id alone: the
-/// body is Go.
+/// An entry that was read, and how many bytes its lines have. Of the message that it took the lines say only the id, so
+/// the body is Go.
 #[derive(Drop)]
 pub struct ReadEntry {
     pub entry: Entry,
     pub length: usize,
 }
 
-/// The entry whose lines the text begins with, where an entry of the script is printed so and its lines end where the
-/// text ends or at the next line that begins an entry. None exactly where there is no such entry. Running out of memory
-/// is the only error. Takes time in proportion to the entry's lines, with a look-up for each name.
+/// The entry with whose lines the text begins: it may be printed so for the script, and its lines end where the text
+/// ends or the next line begins an entry. None exactly if there is no such entry. Running out of memory is the only
+/// error. Takes time in proportion to the entry's lines, with a look-up for each name.
 #[tactic(auto, using(crate::proofs::WholeEntries::heard_length))]
 pub fn read_entry(
     alloc: Global,

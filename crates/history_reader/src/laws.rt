@@ -8,14 +8,14 @@ ghost use Rattle.history_reader.specs.declared.reading.HistoryRefusal.{HistoryRe
 ghost use Rattle.history_reader.specs.OneEntry.{TellTheSame};
 ghost use Rattle.history_reader.specs.Walks.{Reading};
 
-/// Two entries with whose lines a text begins tell the same, and the same text comes behind them: they have one stamp,
-/// one actor, the same letters and acts, and took letters of one id.
+/// If a text begins with the lines of two entries, these tell the same, and the same text comes behind them: they have
+/// one stamp, one actor, the same messages and acts, and took messages of one id.
 pub fn a_text_begins_with_one_entry()
     ensures { (s : ScriptData) (text : List ℕ) (e f : Entry) (rest more : List ℕ)
         → IsValid s → Begins s text e rest → Begins s text f more → (rest ≡ more) × TellTheSame e f }
 {}
 
-/// A text has one reading: whoever reads it finds the same history, with the same letters taken, or the same fault at
+/// A text has one reading: whoever reads it finds the same history, with the same messages taken, or the same fault at
 /// the same entry.
 pub fn a_text_has_one_reading()
     ensures { (s : ScriptData) (text : List ℕ) (a b : Result (List Entry) HistoryRefusal)

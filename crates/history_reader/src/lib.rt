@@ -1,5 +1,5 @@
-//! A history's lines, read back exactly, entry by entry: what may be printed, and nothing else; the walk over such a
-//! text, with the letters that are in flight; and the history that a text is of.
+//! A history's lines, read back exactly, entry by entry: only what may be printed is read. The walk over such a text,
+//! with the messages that are in flight; and the history that a text is of.
 #![tactic(auto)]
 
 mod acts;

@@ -8,19 +8,20 @@ use letter_types::{Entry, History};
 use std::alloc::Global;
 use tx_trees::Script;
 
-/// Why a text is of no history that may be printed. Each number is that of the first entry that fails, counted from 1.
+/// Why a text isn't a history that may be printed. Each number is that of the first entry that fails, counted from 1.
 #[derive(Clone, Copy, Debug, PartialEq, Eq)]
 pub enum HistoryRefusal {
     /// What comes next isn't the lines of an entry that may be printed.
     Text(u64),
-    /// The stamp isn't the next one, or the letter taken wasn't sent, was taken before or isn't the actor's.
+    /// The stamp isn't the next one, or the message taken wasn't sent, was taken before or isn't the actor's.
     Postal(u64),
     /// No memory was found. It says nothing of the text.
     NoMemory,
 }
 
-/// The history that the text is of, with the letters that were taken: its lines are all of the text, each entry may be
-/// printed, and letters went in it as letters do. It takes time by the length of the text.
+/// Reads the history that the text is of, with the messages that were taken. Its lines are all of the text, each entry
+/// may be printed, and messages are sent and taken in it as in a run (`IsPostal`). It takes time by the length of the
+/// text.
 pub fn read_history(alloc: Global, script: &Script, text: &[u8]) -> Result<History, HistoryRefusal>
     ensures { IsReadOutcome script.now text.now result }
 {

@@ -18,7 +18,7 @@ use tx_trees::Script;
 pub enum Fault {
     /// What comes next isn't the lines of an entry that may be printed.
     Text,
-    /// The stamp isn't the next one, or the letter taken wasn't sent, was taken before or isn't the actor's.
+    /// The stamp isn't the next one, or the message taken wasn't sent, was taken before or isn't the actor's.
     Postal,
     /// No memory was found. It says nothing of the text.
     NoMemory,
@@ -34,8 +34,8 @@ impl From<NoMemory> for Fault {
     }
 }
 
-/// A walk over the text of a history: the text that is left, and the letters in flight there. It keeps no entries, so
-/// it takes memory by the letters that were sent. Contracts see it as plain data (`WalkData`).
+/// A walk over the text of a history: the text that is left, and the messages in flight there. It keeps no entries, so
+/// it takes memory by the messages that were sent. Contracts see it as plain data (`WalkData`).
 pub struct Walk<'a> {
     alloc: Global,
     script: &'a Script,
@@ -85,7 +85,7 @@ impl<'a> Walk<'a> {
         }
     }
 
-    /// The next entry, with the letter that it took. None at the text's end, where the walk stays as it is. It takes
+    /// The next entry, with the message that it took. None at the text's end, where the walk stays as it is. It takes
     /// time in proportion to the entry's lines. An error leaves the walk as it was.
     pub fn next(&mut self) -> Result<Option<Entry>, Fault>
         ensures some { IfOk result (λ next. IfSome next (λ e. ComesBehind self.old e self.new)) }
@@ -110,7 +110,7 @@ impl<'a> Walk<'a> {
         Ok(Some(entry_with(entry, letter)))
     }
 
-    /// How many entries it has come behind.
+    /// How many entries it has gone over.
     pub fn count(&self) -> u64
         ensures count { result ≡ self.now.count }
         ensures few { result < 2 ^ 63 }

@@ -12,7 +12,7 @@ use letter_types::Cause;
 use tv_base::{ItemNo, NoMemory, Text};
 use tx_trees::Script;
 
-/// The values of gets, each after the name of its item. Where no memory is found the text stays as it is.
+/// Appends the values of gets, each after the name of its item. If memory runs out, the text stays as it is.
 pub fn push_got(text: &mut Text, script: &Script, got: &Values) -> Result<(), NoMemory>
     ensures ok { OnOk result (text.new ≡ text.old ++ got_text script.now got.now) }
     ensures err { OnErr result (text.new ≡ text.old) }
@@ -45,7 +45,7 @@ fn push_get(text: &mut Text, script: &Script, item: ItemNo, value: &Value) -> Re
     push_value(text, value)
 }
 
-/// The cause of a no. Where no memory is found the text stays as it is.
+/// Appends the cause of a negative vote. If memory runs out, the text stays as it is.
 pub fn push_cause(text: &mut Text, script: &Script, cause: &Cause) -> Result<(), NoMemory>
     ensures ok { OnOk result (text.new ≡ text.old ++ cause_text script.now cause.now) }
     ensures err { OnErr result (text.new ≡ text.old) }

@@ -6,7 +6,7 @@ ghost use Rattle.history_text.specs.Values.{count_text};
 use commute_ops::push_number;
 use tv_base::{NoMemory, Text};
 
-/// A word and a number. Where no memory is found the text stays as it is.
+/// Appends a word and a number. If memory runs out, the text stays as it is.
 pub fn push_count(text: &mut Text, word: &[u8], count: u64) -> Result<(), NoMemory>
     requires { IsAscii word.now }
     ensures ok { OnOk result (text.new ≡ text.old ++ count_text word.now count) }

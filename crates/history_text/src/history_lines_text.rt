@@ -11,9 +11,9 @@ use std::alloc::Global;
 use tv_base::{NoMemory, Text};
 use tx_trees::Script;
 
-/// The lines of a history of the script: for each entry, in order, what it took, then a line for each letter that it
-/// sent, then a line for each act. Actors, trees and items are printed by name; one that the script doesn't have is
-/// printed by its number. Running out of memory is the only error.
+/// The lines of a history of the script: for each entry, in order, what it took, then a line for each message that it
+/// sent, then a line for each act. Actors, transactions and items are printed by name, or by number if the script
+/// doesn't have them. Running out of memory is the only error.
 pub fn history_lines(alloc: Global, script: &Script, history: &History) -> Result<Text, NoMemory>
     ensures { IfOk result (λ text. text ≡ history_lines_of script.now history.now) }
 {
@@ -21,7 +21,7 @@ pub fn history_lines(alloc: Global, script: &Script, history: &History) -> Resul
     Ok(lines)
 }
 
-/// The same lines, behind a text. Running out of memory is the only error.
+/// The text with the same lines behind it. Running out of memory is the only error.
 pub fn history_lines_behind(
     text: Text,
     script: &Script,

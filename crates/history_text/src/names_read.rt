@@ -6,7 +6,7 @@ use crate::numbers_read::read_half;
 use tv_base::{ActorNo, ItemNo, Name, TreeNo};
 use tx_trees::Script;
 
-/// The tree of this name.
+/// The transaction of this name.
 #[tactic(auto, using(crate::proofs::Named::no_tree_name, crate::proofs::Named::tree_found))]
 pub fn read_tree(script: &Script, field: &[u8]) -> Option<TreeNo>
     ensures { IsReadBack (name_of_tree script.now) (HasTree script.now) field.now result }
@@ -26,7 +26,7 @@ pub fn read_item(script: &Script, field: &[u8]) -> Option<ItemNo>
     script.find_item(&name)
 }
 
-/// The actor that is called so: a node is an `n` and its number.
+/// The actor of this name. A node's name is an `n` and its number.
 #[tactic(auto, using(crate::proofs::Actors::no_node))]
 pub fn read_actor(script: &Script, field: &[u8]) -> Option<ActorNo>
     ensures { IsReadBack (name_of_actor script.now) (HasActor script.now) field.now result }

@@ -16,7 +16,7 @@ const MOST_DIGITS: usize = 20;
 // The most digits of an amount.
 const MOST_DIGITS_OF_AMOUNT: usize = 31;
 
-/// The number of 64 bits whose decimal digits these are. A leading zero is none of them.
+/// The number of 64 bits whose decimal digits these are, without a leading zero.
 
 #[tactic(auto, using(crate::proofs::Readings::none_other))]
 pub fn read_number(field: &[u8]) -> Option<u64>
@@ -41,7 +41,7 @@ pub fn read_half(field: &[u8]) -> Option<u32>
     Some(number as u32)
 }
 
-/// The amount whose decimal digits these are, behind a minus if it is negative.
+/// The amount whose decimal digits these are, behind a minus sign if it is negative.
 pub fn read_amount(field: &[u8]) -> Option<Amount>
     ensures { IsReadBack signed_decimal IsAmount field.now result }
 {

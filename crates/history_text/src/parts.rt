@@ -4,7 +4,7 @@ ghost use Rattle.history_text.specs.Parts.{lacks, parts_at};
 
 use std::marker::Model;
 
-/// What is left of the parts of a text, which stand between bytes of one kind. Contracts see it as the list of them.
+/// The parts of a text that are left to read, which one byte separates. Contracts see it as the list of them.
 #[derive(Drop)]
 pub struct Parts<'a> {
     text: &'a [u8],
@@ -23,7 +23,7 @@ impl<'a> Model for Parts<'a> {
 }
 
 impl<'a> Parts<'a> {
-    /// The parts of a text, of which there is one at least: an empty text is one empty part.
+    /// The parts of a text, at least one: an empty text is one empty part.
     pub fn new(text: &'a [u8], byte: u8) -> Parts<'a>
         ensures { result ≡ parts_at byte text.now }
     {
@@ -34,7 +34,7 @@ impl<'a> Parts<'a> {
         }
     }
 
-    /// The same parts, to go through while these stay.
+    /// A copy of these parts, to go through while these stay.
     pub fn again(&self) -> Parts<'a>
         ensures { result ≡ self.now }
     {
@@ -45,7 +45,7 @@ impl<'a> Parts<'a> {
         }
     }
 
-    /// The next part. None exactly where none is left.
+    /// The next part. None exactly if none is left.
     #[tactic(auto, using(crate::proofs::Cuts::one_part, crate::proofs::Cuts::first_part))]
     pub fn next(&mut self) -> Option<&'a [u8]>
         ensures { MatchOption result ((self.old ≡ []) × (self.new ≡ [])) (λ part. self.old ≡ part.now ∷ self.new) }
@@ -61,7 +61,7 @@ impl<'a> Parts<'a> {
         Some(part)
     }
 
-    /// That no part is left.
+    /// Some exactly if no part is left.
     #[tactic(auto, using(crate::proofs::Cuts::some_part))]
     pub fn end(&self) -> Option<()>
         ensures { MatchOption result (self.now ≡ [] → ⊥) (λ _. self.now ≡ []) }
@@ -72,7 +72,7 @@ impl<'a> Parts<'a> {
         Some(())
     }
 
-    /// The one part that is left.
+    /// The one part that is left. None if there isn't exactly one.
     pub fn last_one(&mut self) -> Option<&'a [u8]>
         ensures { MatchOption result ((a : List ℕ) → self.old ≡ a ∷ [] → ⊥) (λ one. self.old ≡ one.now ∷ []) }
     {
@@ -81,7 +81,7 @@ impl<'a> Parts<'a> {
         Some(one)
     }
 
-    /// The three parts that are left.
+    /// The three parts that are left. None if there aren't exactly three.
     pub fn last_three(&mut self) -> Option<(&'a [u8], &'a [u8], &'a [u8])>
         ensures { MatchOption result ((a b c : List ℕ) → self.old ≡ a ∷ b ∷ c ∷ [] → ⊥)
             (λ three. self.old ≡ three.0.now ∷ three.1.now ∷ three.2.now ∷ []) }
@@ -93,7 +93,7 @@ impl<'a> Parts<'a> {
     }
 }
 
-/// A text up to the first such byte, and from behind it. None exactly where no such byte is there.
+/// The text before the first such byte, and the text behind it. None exactly if there is no such byte.
 pub fn cut(text: &[u8], byte: u8) -> Option<(&[u8], &[u8])>
     ensures text { IfSome result (λ two. text.now ≡ two.0.now ++ byte ∷ two.1.now) }
     ensures first { IfSome result (λ two. lacks byte two.0.now ≡ true) }

@@ -19,7 +19,7 @@ use tx_trees::Script;
 // Amounts in the order in which they are printed.
 type Amounts = Seq<Amount, 0xffff_ffff>;
 
-/// The value of this kind that is printed so. Running out of memory is the only error.
+/// The value of this kind that is printed like this. Running out of memory is the only error.
 #[tactic(auto, using(crate::proofs::ByKind::no_sum, crate::proofs::ByKind::no_top, crate::proofs::ByKind::no_bag))]
 pub fn read_value(alloc: Global, kind: Kind, field: &[u8]) -> Result<Option<Value>, NoMemory>
     ensures { IfOk result (λ read. IsReadBack value_text (IsOfKind kind) field.now read) }
@@ -157,8 +157,7 @@ fn kind_of(script: &Script, item: ItemNo) -> Kind
     script.items()[item.0 as usize].kind
 }
 
-/// The values that are left, each behind its item and `=`. Running out of memory is the only error, and nothing that was
-/// lent changes.
+/// The values that are left, each behind its item and `=`. Running out of memory is the only error.
 #[tactic(auto, using(crate::proofs::Each::each_fails, crate::proofs::Each::one_more))]
 pub fn read_values(
     alloc: Global,

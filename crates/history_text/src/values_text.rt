@@ -7,7 +7,7 @@ ghost use Rattle.history_text.specs.Values.{bag_text, more_numbers, value_text};
 use commute_ops::{Amount, Value, push_amount};
 use tv_base::{NoMemory, Text};
 
-/// A number in decimal, or a bag's numbers between braces. Where no memory is found the text stays as it is.
+/// Appends a number in decimal, or a bag's numbers between braces. If memory runs out, the text stays as it is.
 pub fn push_value(text: &mut Text, value: &Value) -> Result<(), NoMemory>
     ensures ok { OnOk result (text.new ≡ text.old ++ value_text value.now) }
     ensures err { OnErr result (text.new ≡ text.old) }

@@ -9,8 +9,8 @@ use std::alloc::Global;
 use tv_base::{NoMemory, Text};
 use tx_trees::{Script, Tree};
 
-/// The line of a script that was read: how many nodes, items, trees, subtransactions (roots are among them) and
-/// advancements it has. Running out of memory is the only error.
+/// The line that counts a script's parts: nodes, items, transactions, subtransactions (with roots) and advancements.
+/// Running out of memory is the only error.
 #[tactic(auto, using(crate::proofs::Counts::fits))]
 pub fn check_line(alloc: Global, script: &Script) -> Result<Text, NoMemory>
     ensures { IfOk result (λ text. text ≡ check_line_of script.now) }

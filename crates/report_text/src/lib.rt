@@ -1,5 +1,5 @@
-//! The report of a run, from its script and its history alone; the summary of a generated run, and the line of a script
-//! that was read.
+//! The report of a run, from its script and its history alone; the summary of a generated run; and the line that counts
+//! a script's parts.
 #![tactic(auto)]
 
 mod check_text;

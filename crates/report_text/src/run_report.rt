@@ -14,17 +14,18 @@ use std::alloc::Global;
 use tv_base::{NoMemory, Text, Version};
 use tx_trees::Script;
 
-/// The report of a script's run: a line for each tree that is born, with its version and, for a read tree, what each of
-/// its gets is worth at that version in the whole history, and for a strict tree whether it commits, with the values of
-/// its votes, or aborts, with the cause of the first subtransaction that voted no; a line for each node, with the
-/// versions of updates and reads after the script's advancements; a line for each item, with what it is worth at the
-/// version that reads are shown, and at the next one if it is written there.
+/// The report of a script's run. It has a line for each transaction that is begun, with its version. For a read the
+/// line also has the value of each get at that version in the serial order of the whole history; for a strict
+/// transaction whether it commits, with the values of its votes, or aborts, with the cause of the first subtransaction
+/// that voted no. Then comes a line for each node, with its update and read version after the script's advancements,
+/// and a line for each item, with its value at the version that reads are shown, and at the next one if it is written
+/// there.
 ///
-/// One pass over the history gives the trees' versions, their wholeness and the serial order; where a tree is strict a
-/// second one gives the votes and what was decided. One pass over the serial order carries the values of all items,
-/// version after version; what a read tree shows, and what the lines of items show, is taken when the version is reached.
-/// So the work grows with the history, with the script and with the text, and with the sorting of the trees by version.
-/// Running out of memory is the only error.
+/// One pass over the history gives the transactions' versions, which of them are complete, and the serial order; if one
+/// is strict, a second pass gives the votes and decisions. One pass over the serial order carries the values of all
+/// items from version to version; what a read shows, and what the lines of items show, is taken when the version is
+/// reached. So the work grows with the history, the script and the text, and with the sorting of the transactions by
+/// version. Running out of memory is the only error.
 pub fn report(alloc: Global, script: &Script, history: &History) -> Result<Text, NoMemory>
     ensures { IfOk result (λ text. text ≡ report_of script.now history.now) }
 {

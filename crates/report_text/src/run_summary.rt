@@ -24,9 +24,9 @@ struct Totals {
     top: Amount,
 }
 
-/// The summary of a run: a line that says what the script has that this seed made, how many trees, update trees, read
-/// trees, subtransactions (roots are among them) and advancements; and a line that says what all items of kind `sum`
-/// and all of kind `top` are worth, added up, at the version that reads are shown after the script's advancements.
+/// The summary of a run, in two lines. The first says how many transactions, updates, reads, subtransactions (with
+/// roots) and advancements the script has that this seed made. The second has the values of all items of kind `sum`,
+/// added up, and those of all of kind `top`, at the version that reads are shown after the script's advancements.
 ///
 /// One pass over the history, and one over the serial order up to that version. Running out of memory is the only
 /// error.
