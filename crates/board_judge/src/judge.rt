@@ -35,22 +35,22 @@ use worth_steps::Worths;
 pub struct Wrong {
     /// The entry's stamp.
     pub stamp: Stamp,
-    /// The first rule that it breaks: that of its first act which isn't a move of the Board; where all are moves, the first
-    /// of `Fits`, `Right` and `AtOnce`.
+    /// The first rule that it breaks: that of its first act that isn't a move of the Board, or if all are moves, the
+    /// first of `Fits`, `Right` and `AtOnce`.
     pub rule: Rule,
 }
 
-/// Why an entry isn't taken. The judge is then what it was.
+/// Why an entry isn't taken. The judge is then as it was.
 #[derive(Clone, Copy, Debug, PartialEq, Eq)]
 pub enum Refused {
     /// It breaks a rule.
     Wrong(Wrong),
-    /// Memory ran out; nothing is said of the entry.
+    /// Memory ran out. Nothing is said of the entry.
     NoMemory,
 }
 
-/// A judge of histories of a script. It takes a history entry by entry, and keeps none: of the entries so far it knows the
-/// Board's tallies and what each item is worth at each version. It knows nothing of counters, waves and locks.
+/// A judge of histories of a script. It takes a history entry by entry, and keeps none: of the entries so far it knows
+/// the Board's tallies and the value of each item at each version. It knows nothing of counters, rounds and locks.
 #[derive(Drop)]
 pub struct Judge<'a> {
     basis: Basis<'a>,
@@ -77,7 +77,8 @@ impl<'a> Model for Judge<'a> {
 }
 
 impl<'a> Judge<'a> {
-    /// A judge that has taken no entry yet; all its memory is asked of this allocator. Takes time and memory by the script.
+    /// A judge that has taken no entry yet. It asks this allocator for all its memory. Takes time and memory by the
+    /// script.
     pub fn new(alloc: Global, script: &'a Script) -> Result<Judge<'a>, NoMemory>
         ensures script { IfOk result (λ j. j.script ≡ script.now) }
         ensures taken { IfOk result (λ j. HasJudged j []) }
@@ -101,9 +102,9 @@ impl<'a> Judge<'a> {
         })
     }
 
-    /// Takes an entry, if it may come after those that were taken: then the judge has taken it too. Else it is refused, by
-    /// the first rule that it breaks, and the judge is what it was. Takes time by the entry's acts, with the operations and
-    /// values of the trees that they end, and for locks by the operations of the script on these items.
+    /// Takes an entry, if it may come after those that were taken. Else the entry is refused, by the first rule that it
+    /// breaks, and the judge is as it was. Takes time by the entry's acts, with the operations and values of the
+    /// transactions that they end, and for locks by the operations of the script on these items.
     pub fn take(&mut self, entry: &Entry) -> Result<(), Refused>
         ensures script { self.new.script ≡ self.old.script }
         ensures ok { OnOk result ((h : List Entry) → HasJudged self.old h
@@ -130,7 +131,8 @@ impl<'a> Judge<'a> {
         Err(refused)
     }
 
-    /// What an item is worth at a version after the entries that were taken. Only a bag needs memory.
+    /// The value of an item in the serial order at a version, after the entries that were taken. Only a bag needs
+    /// memory.
     pub fn worth(&self, item: ItemNo, version: Version) -> Result<Value, NoMemory>
         requires { item.0 < length self.now.script.items }
         ensures { IfOk result (λ worth. (h : List Entry) → HasJudged self.now h

@@ -13,16 +13,16 @@ use std::alloc::Global;
 use tv_base::{ItemNo, NoMemory, Seq, TreeNo, Version};
 use tx_trees::{Deed, ItemRow, Script, Sub, SubOp, Tree, TreeKind};
 
-/// What each item is worth, by item number.
+/// The value of each item, by item number.
 pub type Balances = Seq<Value, 0xffff_ffff>;
 
 /// Which items are written, by item number.
 pub type Marks = Seq<bool, 0xffff_ffff>;
 
-/// Which items of the script are written in a version: an update tree of it, whole or not, has an operation on the
-/// item, or a committed strict tree of it a set or a draw. `standings` are those of the history.
+/// Which items of the script are written in a version: an update of that version, complete or not, has an operation on
+/// the item, or a committed strict transaction of it has a set or a draw. `standings` are those of the history.
 ///
-/// It goes over the trees once. Running out of memory is the only error.
+/// It goes over the transactions once. Running out of memory is the only error.
 #[tactic(auto, using(crate::proofs::AllItems::marks))]
 pub fn written_at(
     alloc: Global,

@@ -12,7 +12,7 @@ use std::marker::Model;
 use tv_base::{NoMemory, SubNo, TreeNo};
 use tx_trees::{Script, Tree};
 
-/// The votes of one tree and what was decided of it, in the order of the history. Contracts see it as these acts.
+/// The votes of one transaction and the decision on it, in the order of the history. Contracts see it as these acts.
 #[derive(Drop)]
 pub struct Ballot<'a> {
     acts: Vec<&'a Act>,
@@ -45,7 +45,7 @@ impl<'a> Ballot<'a> {
         Ok(())
     }
 
-    /// The first vote of this subtransaction of the tree. None where it hasn't voted.
+    /// The first vote of this subtransaction of the transaction. None if it hasn't voted.
     pub fn vote(&self, tree: TreeNo, sub: SubNo) -> Option<&'a Vote>
         ensures { option_copied result ≡ vote_in tree.0 sub.0 self.now }
     {
@@ -57,7 +57,7 @@ impl<'a> Ballot<'a> {
         None
     }
 
-    /// Whether it was decided that the tree commits. None where nothing was decided.
+    /// Whether it was decided that the transaction commits. None if nothing was decided.
     pub fn decision(&self, tree: TreeNo) -> Option<bool>
         ensures { result ≡ decision_in tree.0 self.now }
     {
@@ -109,7 +109,7 @@ fn decision_by(act: &Act, tree: TreeNo) -> Option<bool>
     }
 }
 
-/// The votes of all trees and what was decided of them. Contracts see it as a list by tree number.
+/// The votes of all transactions and the decisions on them. Contracts see it as a list by transaction number.
 #[derive(Drop)]
 pub struct Ballots<'a> {
     rows: Vec<Ballot<'a>>,
@@ -125,7 +125,7 @@ impl<'a> Model for Ballots<'a> {
 }
 
 impl<'a> Ballots<'a> {
-    /// Those of each tree, by number.
+    /// Those of each transaction, by number.
     pub fn rows(&self) -> &[Ballot<'a>]
         ensures { result.now ≡ self.now }
     {
@@ -133,7 +133,7 @@ impl<'a> Ballots<'a> {
     }
 }
 
-/// The votes of all trees of the script in the history, and what was decided of them.
+/// The votes of all transactions of the script in the history, and the decisions on them.
 ///
 /// It goes over the history once, and keeps a reference to each such act. Running out of memory is the only error.
 #[tactic(auto, using(crate::proofs::Voting::ballots_are))]

@@ -11,12 +11,12 @@ use std::alloc::Global;
 use tv_base::{NoMemory, Version};
 use tx_trees::Script;
 
-/// What all items are worth at a version that has been reached in the serial order.
+/// The values of all items in the serial order, at a version that has been reached.
 #[derive(Drop)]
 pub struct Carried {
     /// The version.
     pub version: Version,
-    /// How many members of the serial order are of at most this version.
+    /// How many members of the serial order have at most this version.
     pub place: usize,
     /// The values, by item number.
     pub values: Balances,
@@ -35,8 +35,8 @@ pub fn start(alloc: Global, script: &Script, serial: &Members) -> Result<Carried
     })
 }
 
-/// The values carried on to this version, which isn't below the one that was reached: what each item is worth there.
-/// `serial` is the serial order of the history.
+/// Carries the values on to this version, which isn't below the one that was reached. `serial` is the serial order of
+/// the history.
 ///
 /// It goes on over the members up to this version. Running out of memory is the only error.
 #[tactic(auto, using(crate::proofs::Carrying::carrying))]
@@ -70,8 +70,8 @@ pub fn carry(
     })
 }
 
-/// What all items are worth at a version of a history: their initial values, and all that the trees that take effect up
-/// to this version did to them.
+/// The values of all items at a version of a history: their initial values, and all that the transactions that take
+/// effect up to this version did to them.
 ///
 /// One pass over the history, and one over the serial order up to the version. Running out of memory is the only error.
 pub fn worths_at(

@@ -1,5 +1,5 @@
-//! What a history says of trees and items, worked out for the report: versions, wholeness, the serial order, the values
-//! of all items along it, and the votes of trees.
+//! What a history says of transactions and items, worked out for the report: versions, which transactions are complete,
+//! the serial order, the values of all items along it, and votes.
 #![tactic(auto)]
 
 mod balances;

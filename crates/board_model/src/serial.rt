@@ -15,29 +15,29 @@ use std::alloc::Global;
 use tv_base::{ActorNo, NoMemory, Seq, TreeNo, Version};
 use tx_trees::{Script, Tree, TreeKind};
 
-/// A tree with its version.
+/// A transaction with its version.
 #[derive(Clone, Copy, Debug, PartialEq, Eq)]
 pub struct Member {
     pub version: Version,
     pub tree: TreeNo,
 }
 
-/// Trees with their versions, in order.
+/// Transactions with their versions, in order.
 pub type Members = Seq<Member, 0xffff_ffff>;
 
-/// What a history says of a script's trees.
+/// What a history says of a script's transactions.
 #[derive(Drop)]
 pub struct Outcomes {
-    /// What it says of each tree, by tree number.
+    /// What it says of each transaction, by number.
     pub standings: Standings,
-    /// The trees whose deeds count, in serial order: by version, and within a version by their last closing act.
+    /// The transactions that take effect, in serial order: by version, and within a version by their last closing act.
     pub serial: Members,
 }
 
-/// What a history says of each tree of the script, and the serial order.
+/// What a history says of each transaction of the script, and the serial order.
 ///
-/// It goes over the history once, from its end, and then over the trees; those that count are sorted by version.
-/// Running out of memory is the only error.
+/// It goes over the history once, from its end, and then over the transactions; those that take effect are sorted by
+/// version. Running out of memory is the only error.
 pub fn outcomes_of(alloc: Global, script: &Script, history: &History) -> Result<Outcomes, NoMemory>
     ensures standings { IfOk result (λ o. o.standings ≡ standings_of script.now history.now) }
     ensures serial { IfOk result (λ o. IsSerial script.now history.now o.serial) }
@@ -144,7 +144,7 @@ fn counts_by(kind: TreeKind, standing: Standing) -> bool
     }
 }
 
-/// The trees by version; those of one version stay in order. Running out of memory is the only error.
+/// The transactions by version; those of one version stay in order. Running out of memory is the only error.
 pub fn by_version(alloc: Global, members: Members) -> Result<Members, NoMemory>
     ensures { IfOk result (λ sorted. IsByVersion members sorted) }
 {

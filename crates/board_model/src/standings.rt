@@ -1,17 +1,17 @@
 // What a history says of each tree, side by side.
 use tv_base::{Seq, Version};
 
-/// What a history says of one tree.
+/// What a history says of one transaction.
 #[derive(Clone, Copy, Debug, PartialEq, Eq)]
 pub struct Standing {
-    /// The version with which it was born. None where it isn't born.
+    /// The version with which it was begun. None if it isn't begun.
     pub born: Option<Version>,
-    /// Whether it is whole: it is born, and each of its subtransactions was done. A strict tree is whole where it is
-    /// born and what was decided of it was applied at each node that it visits.
+    /// Whether it is complete: it is begun, and each of its subtransactions was done or, if it is strict, the decision
+    /// on it was applied at each node that it visits.
     pub whole: bool,
-    /// Whether it was decided to commit. Only strict trees are.
+    /// Whether it was decided to commit. Only strict transactions are.
     pub committed: bool,
 }
 
-/// What a history says of each tree, by tree number.
+/// What a history says of each transaction, by number.
 pub type Standings = Seq<Standing, 0xffff_ffff>;

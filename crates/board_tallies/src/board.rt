@@ -21,9 +21,9 @@ use std::marker::Model;
 use tv_base::{ActorNo, NoMemory, TreeNo};
 use tx_trees::{Script, Tree};
 
-/// The Board after some acts, in tallies: of each node its version numbers, of each tree what the acts say of it, how
-/// many born trees aren't whole, how many trees from the first on are, and whether the client has finished. Contracts see
-/// it as these, as plain data; that they are the tallies of acts is `IsBoardOf`.
+/// The Board after some acts, in tallies: each node's version numbers; what the acts say of each transaction; how many
+/// begun transactions aren't complete; how many are complete from the first one on; and whether the client has
+/// finished. Contracts see it as plain data; `IsBoardOf` says that these are the tallies of acts.
 #[derive(Drop)]
 pub struct Board {
     pub(crate) nodes: Vec<Numbers>,
@@ -47,11 +47,11 @@ impl Model for Board {
     } };
 }
 
-/// What an act has changed, by which it is taken back.
+/// What an act changed, by which it is taken back.
 #[derive(Clone, Copy)]
 pub struct NotedAct {
-    /// The tree that became a member of the serial order by the act: an update tree that is whole by it, or a strict tree
-    /// that it decides to commit.
+    /// The transaction that became a member of the serial order by the act: an update that it completes, or a strict
+    /// transaction that it decides to commit.
     pub closed: Option<TreeNo>,
     node: ActorNo,
     numbers: Numbers,
@@ -93,8 +93,8 @@ impl Board {
         })
     }
 
-    /// Whether an act of this actor is a move of the Board after the acts so far, but for the cause of a vote. Takes time
-    /// by the nodes or by a tree's subtransactions.
+    /// Whether an act of this actor is a move of the Board after the acts so far, except for the cause of a vote. Takes
+    /// time by the nodes or by a transaction's subtransactions.
     pub fn moves(&self, script: &Script, node: ActorNo, act: &Act) -> bool
         ensures yes { result ≡ true → (before : List Entry) (xs : List Place) → IsBoardOf script.now xs self.now
             → IsMoveButCause script.now before xs (record { node = node.0; act = act.now }) }
@@ -122,9 +122,9 @@ impl Board {
         }
     }
 
-    /// Whether an act of this actor keeps to the script, whose gates these are, after the acts so far: a tree is born and a
-    /// node's update version is raised where the gate of the row is open, and the client finishes once, at the end. Takes
-    /// time by the nodes.
+    /// Whether an act of this actor keeps to the script, whose gates these are, after the acts so far: a transaction is
+    /// begun, and a node's update version is raised, only if the gate of the row is open, and the client finishes once,
+    /// at the end. Takes time by the nodes.
     pub fn keeps(&self, script: &Script, gates: &Gates, node: ActorNo, act: &Act) -> bool
         ensures yes { result ≡ true → AreGatesOf script.now gates.now → (xs : List Place) → IsBoardOf script.now xs self.now
             → KeepsTo script.now xs (record { node = node.0; act = act.now }) }
@@ -168,8 +168,8 @@ impl Board {
             && all_gone(&self.nodes, asked)
     }
 
-    /// Notes an act of this actor, which has to be a move but for the cause of a vote, and gives by what it is taken back.
-    /// `NoMemory` leaves the Board as it was; it also comes where a count stands at its type's greatest number.
+    /// Notes an act of this actor, which has to be a move except for the cause of a vote, and gives that by which it is
+    /// taken back. `NoMemory` leaves the Board as it was; it also comes if a count is at its type's greatest number.
     pub fn note(&mut self, script: &Script, node: ActorNo, act: &Act) -> Result<NotedAct, NoMemory>
         ensures noted { OnOk result ((before : List Entry) (xs : List Place) → IsBoardOf script.now xs self.old
             → IsMoveButCause script.now before xs (record { node = node.0; act = act.now })
@@ -210,8 +210,8 @@ impl Board {
         })
     }
 
-    /// Takes back an act that was noted, if all that was noted after it has been taken back: then the Board is what it was
-    /// before.
+    /// Takes back an act that was noted, if all that were noted after it have been taken back. Then the Board is what
+    /// it was before.
     pub fn undo(&mut self, noted: NotedAct)
         ensures { self.new ≡ taken_back noted self.old }
     {
@@ -221,8 +221,8 @@ impl Board {
         self.finished = noted.finished;
     }
 
-    /// Drops the counts of versions in which every tree is whole, so that there are few. An act that was noted before it
-    /// can't be taken back any more, so it is called between entries.
+    /// Drops the counts of versions in which every transaction is complete, so that there are few. An act that was
+    /// noted before can't be taken back any more, so it is called between entries.
     pub fn settle(&mut self)
         ensures { (s : ScriptData) (xs : List Place) → IsBoardOf s xs self.old → IsBoardOf s xs self.new }
     {

@@ -14,8 +14,9 @@ pub(crate) struct RowGate {
     pub(crate) advances: usize,
 }
 
-/// For each tree row and each `advance` row of a script how many trees, and how many advancements, stand before the last
-/// `settle` above it. Contracts see it as these numbers, row by row; that they are those of a script is `AreGatesOf`.
+/// For each row of a script that begins a transaction or asks for an advancement, how many transactions, and how many
+/// advancements, stand before the last `settle` above it. Contracts see it as these numbers, row by row; `AreGatesOf`
+/// says that they are those of a script.
 #[derive(Drop)]
 pub struct Gates {
     trees: Vec<RowGate>,

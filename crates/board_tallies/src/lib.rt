@@ -1,6 +1,6 @@
-//! The Board of an accepted history, kept in tallies while its acts come one by one: so a program judges a history
-//! without keeping it. Whether an act is a move, but for the cause of a vote, and keeps to the script; what it changes,
-//! noted and taken back. It knows nothing of locks, values and causes.
+//! The Board of an accepted history, kept in tallies while its acts come one by one, so that a program judges a history
+//! without keeping it. It says whether an act is a move, except for the cause of a vote, and whether it keeps to the
+//! script; it notes what an act changes, and takes that back. It knows nothing of locks, values and causes.
 #![tactic(auto)]
 
 mod board;

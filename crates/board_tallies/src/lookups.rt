@@ -17,7 +17,7 @@ use tx_trees::Script;
 impl Board {
     ghost use Rattle.board_tallies.specs.Board.{IsBoardOf};
 
-    /// The version with which a tree was born. None where it isn't born.
+    /// The version with which a transaction was begun. None if it isn't begun.
     pub fn version_of(&self, tree: TreeNo) -> Option<Version>
         ensures { (s : ScriptData) (xs : List Place) → IsBoardOf s xs self.now → result ≡ version_in tree.0 xs }
     {
@@ -45,35 +45,36 @@ impl Board {
         marked_at(&self.trees, tree, Marked::Yes, sub.0 as usize)
     }
 
-    /// Whether a tree's marks were freed at a node.
+    /// Whether a transaction's marks were freed at a node.
     pub fn was_freed(&self, tree: TreeNo, node: ActorNo) -> bool
         ensures { (s : ScriptData) (xs : List Place) → IsBoardOf s xs self.now → result ≡ was_freed tree.0 node.0 xs }
     {
         marked_at(&self.trees, tree, Marked::Freed, node.0 as usize)
     }
 
-    /// Whether what was decided of a tree was applied at a node.
+    /// Whether the decision on a transaction was applied at a node.
     pub fn was_applied(&self, tree: TreeNo, node: ActorNo) -> bool
         ensures { (s : ScriptData) (xs : List Place) → IsBoardOf s xs self.now → result ≡ was_applied tree.0 node.0 xs }
     {
         marked_at(&self.trees, tree, Marked::Applied, node.0 as usize)
     }
 
-    /// Whether a tree was decided to commit.
+    /// Whether a transaction was decided to commit.
     pub fn is_committed(&self, tree: TreeNo) -> bool
         ensures { (s : ScriptData) (xs : List Place) → IsBoardOf s xs self.now → result ≡ was_decided_as tree.0 true xs }
     {
         committed_at(&self.trees, tree.0 as usize)
     }
 
-    /// Whether a tree is whole: it is born, and all that is to come of it has come. Takes time by its subtransactions.
+    /// Whether a transaction is complete: it is begun, and all that is to come of it has come. Takes time by its
+    /// subtransactions.
     pub fn is_whole(&self, script: &Script, tree: TreeNo) -> bool
         ensures { (xs : List Place) → IsBoardOf script.now xs self.now → result ≡ is_whole_in script.now xs tree.0 }
     {
         whole_at(script.trees(), &self.trees, tree.0 as usize)
     }
 
-    /// Whether every tree is whole. Takes no walk.
+    /// Whether every transaction is complete. It doesn't go over them.
     pub fn all_whole(&self) -> bool
         ensures { (s : ScriptData) (xs : List Place) → IsBoardOf s xs self.now
             → (IsTrue result ↔ ((t : ℕ) → t < length s.trees → IsTrue (is_whole_in s xs t))) }

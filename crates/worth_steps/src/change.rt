@@ -1,7 +1,7 @@
 // What takes a deed back.
 use crate::steps::StepChange;
 
-/// What a deed has changed of an item, by which the deed is taken back.
+/// What a deed changed in an item, by which the deed is taken back.
 #[derive(Drop)]
 pub struct WorthChange {
     pub(crate) changed: Changed,

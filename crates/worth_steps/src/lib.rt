@@ -1,4 +1,4 @@
-//! What an item is worth at any version, kept version by version while deeds of any versions come in any order, and
+//! The value of an item at any version, kept version by version while deeds of any versions come, in any order, and are
 //! taken back.
 #![tactic(auto)]
 

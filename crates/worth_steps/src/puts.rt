@@ -30,7 +30,7 @@ pub(crate) fn put_of(version: Version, deed: &Deed) -> Option<Put>
     }
 }
 
-/// How many of the puts, which ascend by number, are of lesser numbers.
+/// How many of the puts, which ascend by number, have lesser numbers.
 fn place(puts: &[Put], number: &Amount) -> usize
     ensures place { result ≡ put_rank number.now puts.now }
     ensures within { result ≤ length puts.now }
@@ -43,7 +43,7 @@ fn place(puts: &[Put], number: &Amount) -> usize
     puts.len()
 }
 
-/// A put more, at its place, which it gives.
+/// Inserts a put at its place, and gives the place.
 pub(crate) fn note_put(puts: &mut Vec<Put>, put: &Put) -> Result<usize, NoMemory>
     ensures ok { OnOk result (puts.new.items ≡ with_put put.now puts.old.items) }
     ensures back { IfOk result (λ i. remove puts.new.items i ≡ puts.old.items) }
@@ -63,7 +63,7 @@ pub(crate) fn take_out(puts: &mut Vec<Put>, place: usize)
     }
 }
 
-/// The bag of those that were put in versions of at most this one.
+/// The bag of the numbers that were put in versions of at most this one.
 pub(crate) fn bag_at(alloc: Global, puts: &[Put], version: Version) -> Result<Value, NoMemory>
     ensures { IfOk result (λ w. Rises puts.now → w ≡ Bag (shown_to version.0 puts.now)) }
 {
@@ -76,7 +76,7 @@ pub(crate) fn bag_at(alloc: Global, puts: &[Put], version: Version) -> Result<Va
     Ok(bag)
 }
 
-/// Whether these are the numbers of versions of at most this one.
+/// Whether these are the numbers that were put in versions of at most this one.
 pub(crate) fn shows(puts: &[Put], version: Version, numbers: &[Amount]) -> bool
     ensures yes { result ≡ true → shown_to version.0 puts.now ≡ numbers.now }
     ensures no { result ≡ false → shown_to version.0 puts.now ≡ numbers.now → ⊥ }
@@ -104,7 +104,7 @@ fn is_at(numbers: &[Amount], place: usize, number: &Amount) -> bool
     }
 }
 
-/// The greatest version of a put, 0 where there is none.
+/// The greatest version of a put, or 0 if there is none.
 pub(crate) fn newest_put(puts: &[Put]) -> Version
     ensures { result.0 ≡ newest_put puts.now }
 {

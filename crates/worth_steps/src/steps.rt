@@ -9,23 +9,23 @@ use script_parts::parts::Deed;
 use std::alloc::Global;
 use tv_base::{NoMemory, Seq, Version};
 
-/// What the deeds of one version make of any value, and what the item is worth there.
+/// What the deeds of one version make of any value, and the item's value there.
 #[derive(Clone, Copy, Debug, PartialEq, Eq)]
 pub(crate) struct WorthStep {
     /// The version.
     pub(crate) version: Version,
-    /// Whether a set is among the deeds: then what is below doesn't count.
+    /// Whether a set is among the deeds. Then what is below doesn't count.
     pub(crate) cut: bool,
     /// What the deeds make, from the last set on.
     pub(crate) own: Amount,
-    /// What the item is worth at the version.
+    /// The item's value at the version.
     pub(crate) value: Amount,
 }
 
 /// Steps as they were.
 type Steps = Seq<WorthStep, 0xffff_ffff_ffff_ffff>;
 
-/// What a deed has changed of the steps. Where no step stood above, it needs no memory.
+/// What a deed changed in the steps. It needs no memory if no step stood above.
 #[derive(Drop)]
 pub(crate) enum StepChange {
     /// The step at a place went on: what it was, and what those above it were.
@@ -34,7 +34,7 @@ pub(crate) enum StepChange {
     Begun(usize, Steps),
 }
 
-/// The number after a deed. None where it isn't in the range of amounts.
+/// The number after a deed. None if it isn't in the range of amounts.
 fn changed_number(number: &Amount, deed: &Deed) -> Option<Amount>
     ensures { IfSome result (λ n. n ≡ changed_number number.now deed.now) }
 {
@@ -48,7 +48,7 @@ fn changed_number(number: &Amount, deed: &Deed) -> Option<Amount>
     }
 }
 
-/// What the first deed of a version makes. None where it isn't in the range of amounts.
+/// What the first deed of a version makes. None if it isn't in the range of amounts.
 fn first_own(deed: &Deed) -> Option<Amount>
     ensures { IfSome result (λ n. n ≡ first_own deed.now) }
 {
@@ -62,7 +62,7 @@ fn first_own(deed: &Deed) -> Option<Amount>
     }
 }
 
-/// Whether what is below doesn't count after the deed.
+/// Whether the deed is a set, after which what is below doesn't count.
 fn is_set(deed: &Deed) -> bool
     ensures { result ≡ is_set deed.now }
 {
@@ -99,7 +99,7 @@ fn step_valued(kind: Kind, below: &Amount, step: &WorthStep) -> Option<WorthStep
     Some(WorthStep { value, ..*step })
 }
 
-/// What a step makes of the number below it. None where it isn't in the range of amounts.
+/// What a step makes of the number below it. None if it isn't in the range of amounts.
 fn acted(kind: Kind, below: &Amount, step: &WorthStep) -> Option<Amount>
     ensures { IfSome result (λ n. n ≡ act_on kind step.now.cut step.now.own below.now) }
 {
@@ -129,7 +129,7 @@ fn revalued(
     Ok(made)
 }
 
-/// The value of the last step, or the number below all where there is none.
+/// The value of the last step, or the number below all if there is none.
 fn last_value<'a>(below: &'a Amount, steps: &'a [WorthStep]) -> &'a Amount
     ensures { result.now ≡ number_below below.now (length steps.now) steps.now }
 {
@@ -163,7 +163,7 @@ fn valued_at(
     step_valued(kind, below, step).ok_or(NoMemory)
 }
 
-/// How many of the steps, which ascend, are of at most this version. Where all are it doesn't search.
+/// How many of the steps, which ascend, are of at most this version. If all are, it doesn't search.
 fn steps_up_to(steps: &[WorthStep], version: Version) -> usize
     ensures within { result ≤ length steps.now }
     ensures place { Ascends steps.now → result ≡ steps_up_to version.0 steps.now }
@@ -199,7 +199,8 @@ fn stands_before(steps: &[WorthStep], place: usize, version: Version) -> bool
     }
 }
 
-/// The number that is seen at a version: that of the last step that isn't above it, or the first one.
+/// The number that is seen at a version: that of the last step that isn't above it, or the first number if there is
+/// none.
 pub(crate) fn number_at<'a>(
     first: &'a Amount,
     steps: &'a [WorthStep],
@@ -210,7 +211,7 @@ pub(crate) fn number_at<'a>(
     number_below(first, steps, steps_up_to(steps, version))
 }
 
-/// The version of the last step, 0 where there is none.
+/// The version of the last step, or 0 if there is none.
 pub(crate) fn newest_step(steps: &[WorthStep]) -> Version
     ensures { Ascends steps.now → result.0 ≡ newest_step steps.now }
 {
@@ -220,7 +221,7 @@ pub(crate) fn newest_step(steps: &[WorthStep]) -> Version
     }
 }
 
-/// Notes a deed of the version, after all that came. Where no step stands above, only a new step needs memory.
+/// Notes a deed of the version, after all that came. If no step stands above, only a new step needs memory.
 pub(crate) fn note_step(
     kind: Kind,
     first: &Amount,
@@ -285,7 +286,7 @@ fn begin(
     Ok(StepChange::Begun(place, Steps::from_vec(above)))
 }
 
-/// Lets the steps from a place on and as many others change places.
+/// Exchanges the steps from a place on with as many others.
 fn swap_above(steps: &mut Vec<WorthStep>, place: usize, above: &mut Vec<WorthStep>)
     requires { place + length above.old.items ≡ length steps.old.items }
     ensures steps { steps.new.items ≡ take place steps.old.items ++ above.old.items }

@@ -15,7 +15,7 @@ use std::alloc::Global;
 use std::marker::Model;
 use tv_base::{NoMemory, Version};
 
-/// What an item is worth at each version, after deeds that come in any order of versions.
+/// An item's value at each version, after deeds that come in any order of versions.
 #[derive(Drop)]
 pub struct Worths {
     kind: Kind,
@@ -47,10 +47,10 @@ impl Worths {
         }
     }
 
-    /// Notes a deed of a member of this version, which comes after all deeds that were noted, whatever their versions.
-    /// A get changes nothing. What it gives takes the deed back.
+    /// Notes a deed of a transaction of this version, behind all deeds that were noted, whatever their versions. A get
+    /// changes nothing. Gives the change by which `undo` takes the deed back.
     ///
-    /// `NoMemory` comes, too, where a number would leave the range of `Amount`. No script comes near that: it takes more
+    /// `NoMemory` also comes if a number would leave the range of `Amount`. No script comes near that: it takes more
     /// than a hundred million deeds of the greatest magnitude. After an error the worths are as they were.
     pub fn note(&mut self, version: Version, deed: &Deed) -> Result<WorthChange, NoMemory>
         requires { IsTrue (deed_suits self.old.kind deed.now) }
@@ -87,8 +87,8 @@ impl Worths {
         }
     }
 
-    /// Takes the last deed back, by the change that noting it gave. Needs no memory. The change of an earlier deed, or of
-    /// another item, leaves worths of which nothing is said.
+    /// Takes the last deed back, by the change that `note` gave for it. Needs no memory. If the change is of an earlier
+    /// deed or of another item, nothing is said of the worths that are left.
     pub fn undo(&mut self, change: WorthChange)
         ensures { self.new ≡ worths_back change self.old }
     {
@@ -99,7 +99,7 @@ impl Worths {
         }
     }
 
-    /// What the item is worth at a version. Only a bag needs memory.
+    /// The item's value at a version. Only a bag needs memory.
     pub fn at(&self, alloc: Global, version: Version) -> Result<Value, NoMemory>
         ensures worth { IfOk result (λ w. (first : Value) (ns : List Noted) → AreWorths first ns self.now → w ≡ worth_of first ns version.0) }
         ensures only_bags { OnErr result (self.now.kind ≡ Kind.Bag) }
@@ -108,7 +108,7 @@ impl Worths {
         Ok(value)
     }
 
-    /// Whether this is what the item is worth at a version.
+    /// Whether this is the item's value at a version.
     pub fn is_at(&self, version: Version, value: &Value) -> bool
         ensures yes { result ≡ true → (first : Value) (ns : List Noted) → AreWorths first ns self.now → worth_of first ns version.0 ≡ value.now }
         ensures no { result ≡ false → (first : Value) (ns : List Noted) → AreWorths first ns self.now → worth_of first ns version.0 ≡ value.now → ⊥ }
@@ -116,7 +116,7 @@ impl Worths {
         self.shows(version, value)
     }
 
-    /// The greatest version with a deed that alters the item, 0 where there is none.
+    /// The greatest version with a deed that alters the item, or 0 if there is none.
     pub fn last(&self) -> Version
         ensures { (first : Value) (ns : List Noted) → AreWorths first ns self.now → result.0 ≡ last_altered ns }
     {
