@@ -1,5 +1,5 @@
-//! An example of 3V's parts as libraries: a script of meter readings is built by calls, with a picker of its own, run
-//! on one thread and on four, and what its monthly report read is printed, with what each item is worth.
+//! An example of 3V's parts as libraries. It builds a script of meter readings by calls, runs it on one thread with a
+//! picker of its own and on four threads, and prints what its monthly report read, and the items' values.
 #![tactic(auto)]
 
 mod month;
@@ -22,7 +22,7 @@ use tx_trees::Refusal;
 /// Why there is no ledger.
 #[derive(Debug, Drop, Error)]
 pub(crate) enum LedgerFault {
-    /// A name has no byte, or more than 32.
+    /// A name is empty, or has more than 32 bytes.
     #[error("a name is empty or too long")]
     Name,
     /// The script refused a record.

@@ -12,7 +12,7 @@ const SOUTH: &[u8] = b"south";
 
 const NIGHT: &[u8] = b"night-hours";
 
-/// A script, and the number of the read tree that is its monthly report.
+/// A script, and the number of the read that is its monthly report.
 #[derive(Drop)]
 pub(crate) struct Month {
     pub(crate) script: Script,

@@ -61,7 +61,7 @@ fn print_balances(
     Ok(())
 }
 
-/// Prints what the report got, and what each item is worth at the versions of May and of June.
+/// Prints what the report got, and the value of each item at the versions of May and of June.
 pub(crate) fn print_ledger(
     rt: &impl Print,
     alloc: Global,

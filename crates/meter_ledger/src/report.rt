@@ -57,10 +57,11 @@ fn got_in(acts: &[Act], tree: TreeNo, sub: SubNo) -> Option<&Values>
     None
 }
 
-/// The values that a subtransaction of a read tree got while the script ran. They are right, because the history has
-/// the promise: each is what its item is worth at the tree's version in the whole history, however early it was read.
+/// The values that a subtransaction of a read got while the script ran. They are right, because the history has the
+/// headline: each is its item's value at the read's version in the serial order of the whole history, however early it
+/// was read.
 ///
-/// None where there is no such read tree, or its subtransaction isn't in the history.
+/// None if there is no such read, or if its subtransaction isn't in the history.
 pub(crate) fn reported<'a>(
     script: &Script,
     history: &'a History,

@@ -14,8 +14,8 @@ use tv_base::NoGate;
 use tx_trees::Script;
 use world_core::World;
 
-/// A picker of the program's own, which takes the letter in the middle of those in flight. Its contract says which, and
-/// `simulate_by` says what follows of the run.
+/// A picker of the program's own, which takes the message in the middle of those in flight. Its contract says which,
+/// and `simulate_by` says what follows of the run.
 #[derive(Drop)]
 struct Middle;
 
@@ -29,7 +29,7 @@ impl Picker for Middle {
     }
 }
 
-/// The script run on one thread by that picker. Its history has what is promised of every run (`HasHeadline`).
+/// Runs the script on one thread by that picker. The history has what is promised of every run (`HasHeadline`).
 pub(crate) fn run_middle_first(alloc: Global, script: &Script) -> Result<History, LedgerFault>
     ensures { IfOk result (λ history. HasHeadline script.now history) }
 {
@@ -37,7 +37,7 @@ pub(crate) fn run_middle_first(alloc: Global, script: &Script) -> Result<History
     Ok(history)
 }
 
-/// The script run on four threads. Whatever the threads do, its history has the same promise.
+/// Runs the script on four threads. Whatever the threads do, the history has the same promise.
 pub(crate) fn run_on_threads<R: Threads + Wait + Sync>(
     rt: &R,
     alloc: Global,

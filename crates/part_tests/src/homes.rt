@@ -4,7 +4,7 @@ use std::test::Fail;
 use tree_home::{Homes, Noted};
 use tv_base::{ItemNo, NoMemory, SubNo, TreeNo, Version};
 
-/// A home at which tree 0 has begun, of two subtransactions.
+/// A home at which transaction 0, of two subtransactions, has begun.
 fn begun_home(alloc: Global) -> Result<Homes, NoMemory> {
     let mut homes = Homes::new(alloc);
     homes.begin(TreeNo(0), 2, Version(1))?;
@@ -18,8 +18,8 @@ fn one_value(alloc: Global) -> Result<Values, NoMemory> {
     Ok(values)
 }
 
-/// How many notices of tree 0 are missing once that of a subtransaction is taken down, and with how many values the
-/// tree is answered.
+/// How many notices of transaction 0 are missing once that of a subtransaction is taken down, and with how many values
+/// the transaction is answered.
 fn noted(alloc: Global, homes: &mut Homes, sub: SubNo) -> Result<(u32, usize), Fail> {
     let values = one_value(alloc)?;
     if !homes.misses(TreeNo(0), sub) {

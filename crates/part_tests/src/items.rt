@@ -33,7 +33,7 @@ fn touch(alloc: Global, item: &mut Item, v: u64, amount: Amount) -> Result<Sums,
     Ok(sums(item))
 }
 
-/// Collects the item to version `f`, where it has a version that is at most `f`.
+/// Collects the item to version `f`, if it has a version of at most `f`.
 fn collect(item: &mut Item, f: u64) -> Sums {
     if item.held()[0].0 <= Version(f) {
         item.collect(Version(f));

@@ -1,5 +1,5 @@
-//! Tests of the parts below the actors: sources and sinks (`outside`), and calls that no run of the program makes of
-//! `values`, `items`, `rounds`, `homes`, `locks`, and votes and decisions (`votes`).
+//! Tests of the parts below the actors: of sources and sinks (`outside`), and of calls that no run of the program
+//! makes, of `values`, `items`, `rounds`, `homes`, `locks`, and votes and decisions (`votes`).
 #![tactic(auto)]
 
 #[cfg(test)]

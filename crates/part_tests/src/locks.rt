@@ -3,7 +3,7 @@ use std::alloc::Global;
 use std::test::Fail;
 use tv_base::{ItemNo, NoMemory, TreeNo};
 
-/// What a tree meets: the item, the holder and the mode, as numbers.
+/// What a transaction meets: the item, the holder and the mode, as numbers.
 fn numbers(met: Option<Met>) -> [u32; 3] {
     match met {
         None => [0; 3],
@@ -11,8 +11,8 @@ fn numbers(met: Option<Met>) -> [u32; 3] {
     }
 }
 
-/// Trees 1 and 2 mark item 3, tree 5 holds item 4 and looks at item 6. What tree 6 meets that marks items 3, 6 and 4,
-/// and what tree 0 meets that looks at item 3, before and after tree 1 is freed.
+/// Transactions 1 and 2 mark item 3, transaction 5 holds item 4 and looks at item 6. What transaction 6 meets if it
+/// marks items 3, 6 and 4, and what transaction 0 meets if it looks at item 3, before and after transaction 1 is freed.
 fn meetings(alloc: Global) -> Result<[[u32; 3]; 4], NoMemory> {
     let mut locks = Locks::new(alloc);
     let one = locks.try_mark(TreeNo(1), &[ItemNo(3), ItemNo(7)])?;

@@ -29,8 +29,8 @@ fn root(alloc: Global, amount: Amount) -> Result<Sub, NoMemory> {
     })
 }
 
-/// How a draw is voted on beside a mark of tree 3, if it is marked: None for a yes, else what is found short, or the
-/// tree whose lock is met.
+/// How a draw is voted on beside a mark of transaction 3, if it is marked: None for a positive vote, else what is found
+/// short, or the transaction whose lock is met.
 fn voted(alloc: Global, amount: Amount, marked: bool) -> Result<Option<Amount>, NoMemory> {
     let mut locks = Locks::new(alloc);
     if marked {
@@ -56,7 +56,7 @@ fn a_draw_is_voted_on(rt: HostRuntime) -> Result<(), Fail> {
     Ok(())
 }
 
-/// A sum of 6 at node 0, and a strict tree that draws 4 from it.
+/// A sum of 6 at node 0, and a strict transaction that draws 4 from it.
 fn one_draw(alloc: Global) -> Result<Script, Fail> {
     let mut script = Script::new(alloc, Form::One, 1);
     let item = Name::new(b"a").ok_or("a name")?;
@@ -83,8 +83,8 @@ fn seen(items: &ItemTable) -> Amount {
     }
 }
 
-/// What a decision on this tree leaves: what is seen of the item, whether the tree's lock is there, and whether that of
-/// another tree is.
+/// What a decision on this transaction leaves: what is seen of the item, whether the transaction's lock is there, and
+/// whether that of another one is.
 fn decided(alloc: Global, script: &Script, commit: bool) -> Result<(Amount, bool, bool), Fail> {
     let mut items = table(alloc)?;
     let mut locks = Locks::new(alloc);

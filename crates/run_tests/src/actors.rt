@@ -10,15 +10,15 @@ use tv_base::{ActorNo, NoMemory, Stamp, TreeNo};
 use tx_trees::Script;
 use world_core::{ActorState, actor_step};
 
-/// Two trees of a root alone.
+/// Two transactions that have only a root.
 const TWO_TREES: &[u8] = b"nodes,2\nupdate,s,1\nupdate,t,0\n";
 
-/// How many letters a step sends, and how many are kept of it.
+/// How many messages a step sends, and how many of them are kept.
 fn sent(step: &Step) -> (usize, usize) {
     (step.given.sent.items().len(), step.kept.sent.items().len())
 }
 
-/// What the client does at Go: both trees' roots go out.
+/// What the client does at Go: the roots of both transactions go out.
 fn by_client(alloc: Global) -> Result<(usize, usize), Fail> {
     let script = script_of(alloc, TWO_TREES)?;
     let mut client = Client::new(alloc, &script)?;
@@ -40,7 +40,7 @@ fn by_restarting(alloc: Global) -> Result<(usize, usize), NoMemory> {
     Ok(sent(&step))
 }
 
-/// What a node does at the Root of tree 0, whose home is node 1: a Reply there, and nothing elsewhere.
+/// What a node does at the Root of transaction 0, whose home is node 1: a Reply there, and nothing elsewhere.
 fn by_node(alloc: Global, script: &Script, node: u8) -> Result<(usize, usize), Fail> {
     if node >= script.nodes() {
         return Err("no node".into());

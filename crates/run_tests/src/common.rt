@@ -15,7 +15,7 @@ pub(crate) fn script_of(alloc: Global, text: &[u8]) -> Result<Script, Fail> {
     Ok(read_script(alloc, text)?)
 }
 
-/// A letter between these actors.
+/// A message between these actors.
 pub(crate) fn letter(from: u8, to: u8, body: Body) -> Letter {
     Letter {
         id: LetterId {
@@ -28,7 +28,7 @@ pub(crate) fn letter(from: u8, to: u8, body: Body) -> Letter {
     }
 }
 
-/// Takes at most so many letters of a world, as a picker chooses.
+/// Takes at most `most` messages of a world, as a picker chooses.
 pub(crate) fn take<P: Picker>(
     script: &Script,
     world: &mut World,

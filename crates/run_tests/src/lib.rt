@@ -1,5 +1,5 @@
-//! Tests of steps and runs on one thread: steps of `nodes` and of other `actors` made by one call, `worlds` letter by
-//! letter, and pickers (`schedules`); all use `common`.
+//! Tests of steps and runs on one thread: steps of `nodes` and of other `actors` made by one call, `worlds` message by
+//! message, and pickers (`schedules`); all use `common`.
 #![tactic(auto)]
 
 #[cfg(test)]

@@ -17,7 +17,7 @@ use tv_base::{ActorNo, ItemNo, NoMemory, TreeNo, Version};
 use tx_trees::Script;
 use update_step::run_update;
 
-/// Tree 0 is an update tree with a child at node 1, tree 1 a read tree without one. Both begin at node 0.
+/// Transaction 0 is an update with a child at node 1, transaction 1 a read without one. Both begin at node 0.
 const TWO_TREES: &[u8] =
     b"nodes,2\nitem,a,0,sum,10\nitem,b,1,sum,10\nupdate,t,0\nadd,a,5\nsub,0,1\nadd,b,7\nread,r,0\nget,a\n";
 
@@ -40,7 +40,7 @@ fn first_node(alloc: Global, script: &Script, at: ActorNo) -> Result<NodeParts, 
     })
 }
 
-/// The node that a letter goes to, where the letter is due there.
+/// The node that a message goes to, if the message is due there.
 fn node_for(alloc: Global, script: &Script, letter: &Letter) -> Result<NodeParts, Fail>
     ensures { IfOk result (λ node. IsReady script.now letter.now.to.0 node) }
 {
@@ -50,7 +50,7 @@ fn node_for(alloc: Global, script: &Script, letter: &Letter) -> Result<NodeParts
     Ok(first_node(alloc, script, letter.to)?)
 }
 
-/// What is seen of item 0 in version 1, and how many letters and acts a step has.
+/// What is seen of item 0 in version 1, and how many messages and acts a step has.
 fn seen_in(node: &NodeParts, step: &Step) -> (Amount, usize, usize) {
     let sum = match node.items.item(ItemNo(0)) {
         Some(item) => match item.seen(Version(1)) {

@@ -6,10 +6,10 @@ use std::alloc::Global;
 use std::test::Fail;
 use tv_base::{ActorNo, Stamp};
 
-/// Two trees of one subtransaction each, at the only node.
+/// Two transactions of one subtransaction each, at the only node.
 const TWO_TREES: &[u8] = b"nodes,1\nupdate,t,0\nupdate,u,0\n";
 
-/// Whether the letters that a picker takes are these, each by its stamp and place.
+/// Whether a picker takes these messages, each given by its stamp and place.
 fn takes<P: Picker>(alloc: Global, picker: &mut P, wanted: &[(u64, u32)]) -> Result<bool, Fail> {
     let script = script_of(alloc, TWO_TREES)?;
     let history = simulate_by(alloc, &script, picker)?;

@@ -10,7 +10,7 @@ use tv_base::{ActorNo, ItemNo, NodeNo, Version};
 use tx_trees::Script;
 use world_core::{ActorState, NodeState, World};
 
-/// The state of a node, where there is one of this number.
+/// The state of a node, if there is one of this number.
 fn node_at<'a>(script: &Script, world: &'a World, node: u8) -> Option<&'a NodeState>
     requires { IsWorldOf script.now world.now }
 {
@@ -65,7 +65,7 @@ fn a_late_older_step_writes_the_newer_version_too(rt: HostRuntime) -> Result<(),
     Ok(())
 }
 
-/// Two items, 10 at node 0 and 0 at node 1, and a tree that adds 5 and 7 to them.
+/// Two items, 10 at node 0 and 0 at node 1, and an update that adds 5 and 7 to them.
 const ONE_TREE: &[u8] =
     b"nodes,2\nitem,a,0,sum,10\nitem,b,1,sum,0\nupdate,t,0\nadd,a,5\nsub,0,1\nadd,b,7\n";
 

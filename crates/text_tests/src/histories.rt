@@ -7,7 +7,7 @@ use std::test::Fail;
 use tv_base::{ItemNo, NoMemory, Version};
 use tx_trees::Script;
 
-/// Two items, 10 at node 0 and 0 at node 1, and a tree that adds 5 and 7 to them.
+/// Two items, 10 at node 0 and 0 at node 1, and an update that adds 5 and 7 to them.
 const ONE_TREE: &[u8] =
     b"nodes,2\nitem,a,0,sum,10\nitem,b,1,sum,0\nupdate,t,0\nadd,a,5\nsub,0,1\nadd,b,7\n";
 
@@ -19,7 +19,7 @@ const SIX: &[u8] = b"entry 1 client took 0.0\nsent n0 root t\n\
     entry 5 client took 4.0\nsent coordinator nudge\nact finished\n\
     entry 6 coordinator took 5.0\n";
 
-/// The first two entries, and one that takes a letter that nobody sent.
+/// The first two entries, and one that takes a message that nobody sent.
 const NOT_SENT: &[u8] = b"entry 1 client took 0.0\nsent n0 root t\n\
     entry 2 n0 took 1.0\nsent n1 sub t 1 version 1\nact born t version 1\nact did t 0\n\
     entry 3 n1 took 9.0\n";
@@ -29,8 +29,8 @@ const CUT: &[u8] = b"entry 1 client took 0.0\nsent n0 root t\n\
     entry 2 n0 took 1.0\nsent n1 sub t 1 version 1\nact born t version 1\nact did t 0\n\
     entry 3 n1";
 
-/// How many entries the history has that the text is of; else the number of the entry whose text is at fault, or of the
-/// one whose letter is.
+/// How many entries the history of the text has; else the number of the entry whose text is at fault, or of the one
+/// whose message is.
 fn outcome(alloc: Global, script: &Script, text: &[u8]) -> Result<[u64; 3], NoMemory> {
     match read_history(alloc, script, text) {
         Ok(history) => Ok([history.items().len() as u64, 0, 0]),
@@ -50,7 +50,7 @@ fn a_history_is_read_or_its_first_fault_is_named(rt: HostRuntime) -> Result<(), 
     Ok(())
 }
 
-/// An item that starts with 10, and a tree that adds 5 to it.
+/// An item that starts with 10, and an update that adds 5 to it.
 const ONE_ROOT: &[u8] = b"nodes,1\nitem,a,0,sum,10\nupdate,t,0\nadd,a,5\n";
 
 /// The lines of its first three entries.
@@ -58,7 +58,7 @@ const THREE: &[u8] = b"entry 1 client took 0.0\nsent n0 root t\n\
     entry 2 n0 took 1.0\nsent client reply t version 1\nact born t version 1\nact did t 0\n\
     entry 3 client took 2.0\nsent coordinator nudge\nact finished\n";
 
-/// What the item is worth in version 1 once a judge has taken these entries, and whether the client has finished then.
+/// The item's value in version 1 once a judge has taken these entries, and whether the client has finished then.
 fn judged(alloc: Global) -> Result<(Amount, bool), Fail> {
     let script = read_script(alloc, ONE_ROOT)?;
     if script.items().is_empty() {

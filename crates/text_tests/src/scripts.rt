@@ -3,7 +3,7 @@ use std::alloc::Global;
 use std::test::Fail;
 use tx_trees::{Refusal, Why};
 
-/// Two nodes, two trees, an advancement and picks.
+/// Two nodes, two transactions, an advancement and picks.
 const WHOLE: &[u8] =
     b"nodes,2\nitem,a,0,sum,10\nitem,b,1,sum,0\nupdate,t,0\nadd,a,5\nsub,0,1\nadd,b,7\n\
     advance\nupdate,u,1\nadd,b,3\npick,0\npick,0\npick,0\npick,3\n";

@@ -12,14 +12,14 @@ const SMALLEST: &str = "nodes,1\nitem,a,0,sum,10\n";
 
 const TEXT: &[u8] = b"node 0 update 1 read 0\nitem a 0:10\n";
 
-/// The ends of a call: what is read and what fails. The call of a number fails, and with number 0 none does.
+/// The ends of a call: what is read, and which calls of the ends fail, each by its number; 0 stands for none.
 #[derive(Clone, Copy)]
 struct Ends {
     script: &'static str,
-    /// The source gives a byte a call.
+    /// The call of the source that fails. Each call gives one byte.
     failing_read: u32,
     out_room: usize,
-    /// How many bytes out takes a call, at least 1.
+    /// How many bytes a call of out takes, at least 1.
     out_most: usize,
     failing_write: u32,
     err_room: usize,

@@ -29,7 +29,7 @@ const WHOLE_ADVANCEMENT: &str =
 const WHOLE_ADVANCEMENT_TEXT: &str =
     "tree t version 1\nread r version 1 b=7 a=15\nnode 0 update 2 read 1\nnode 1 update 2 read 1\nitem a 1:15\nitem b 1:7\n";
 
-/// The first hold of node 0 and that of node 1 each wait until the other has begun, or are missed. All are counted.
+/// The first holds of nodes 0 and 1 each wait until the other has begun, or are missed. All holds are counted.
 #[derive(Drop)]
 struct Meeting {
     held: [AtomicU64; 6],
@@ -112,7 +112,7 @@ impl Gate for EveryThird {
     }
 }
 
-/// The history of a call over ends in memory, where it ends with status 0 and writes a text that ends with this one.
+/// The history of a call over ends in memory, if it ends with status 0 and writes a text that ends with this one.
 fn history_of<R: Threads + Wait + Sync, G: Gate + Sync>(
     rt: &R,
     alloc: Global,
@@ -183,7 +183,7 @@ fn a_generated_run_steps_side_by_side(rt: HostRuntime) -> Result<(), Fail> {
     Ok(())
 }
 
-/// Whether a judge takes the whole history of a script, at whose end the client has finished.
+/// Whether a judge takes the whole history of a script, and the client has finished at its end.
 fn is_right(alloc: Global, script: &[u8], history: &History) -> Result<bool, Fail> {
     let script = read_script(alloc, script)?;
     let mut judge = Judge::new(alloc, &script)?;

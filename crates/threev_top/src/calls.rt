@@ -33,7 +33,7 @@ pub struct Ended {
     pub status: u8,
     /// The history of the run at the statuses 0 and 5 of a mode that runs; empty at all others.
     pub history: History,
-    /// The script of that run; None where `history` is empty.
+    /// The script of that run. None if `history` is empty.
     script: Option<Script>,
 }
 
@@ -42,8 +42,8 @@ const LONG: usize = 10_000;
 
 impl Ended {
     /// Gives the status as the program ends, and leaves a long history and its script to the system, which takes a
-    /// program's memory back at once: to give them back piece by piece before costs a twentieth of the run, and serves
-    /// nobody. A caller that goes on lets an `Ended` go out of scope instead.
+    /// program's memory back at once. To free them piece by piece costs a twentieth of the run, and serves nobody. A
+    /// caller that goes on drops the `Ended` instead.
     pub fn leave(self) -> u8
         ensures { result ≡ self.status }
     {
@@ -60,8 +60,8 @@ impl Ended {
     }
 }
 
-/// How far a call came: why the text was not written whole, if it wasn't, and the history and script of the run, if there
-/// was one.
+/// How far a call came: why the text wasn't written in full, if it wasn't, and the history and script of the run, if
+/// there was one.
 #[derive(Drop)]
 struct Outcome {
     stop: Option<Stop>,
@@ -126,8 +126,8 @@ fn tell_line<E: Sink>(err: &mut E, line: &[u8])
     }
 }
 
-/// Tells `err` why the text was not written whole, and gives the reason that was told: out of memory where there is
-/// none for the line of a refused script or history.
+/// Tells `err` why the text wasn't written in full, and gives the reason that was told: out of memory if there is none
+/// for the line of a refused script or history.
 fn tell_stop<E: Sink>(alloc: Global, stop: Stop, err: &mut E) -> Stop
     ensures told { Tells (E.written err.old) (E.written err.new) (E.faults err.old) (E.faults err.new)
         (line_told result) }
@@ -183,8 +183,8 @@ fn tell_history<E: Sink>(alloc: Global, fault: HistoryFault, err: &mut E) -> Sto
     }
 }
 
-/// Ends a call whose words can't be had: tells `err` why, and gives the status. Nothing is read, and nothing else is
-/// written.
+/// Ends a call whose words couldn't be collected: tells `err` why, and gives the status. Nothing is read, and nothing
+/// else is written.
 pub fn end_without_words<E: Sink>(alloc: Global, why: WordsError, err: &mut E) -> u8
     ensures { TellsEnd E.written E.faults err.old err.new (Some (words_stop why)) result }
 {
@@ -192,9 +192,9 @@ pub fn end_without_words<E: Sink>(alloc: Global, why: WordsError, err: &mut E) -
     told.status()
 }
 
-/// The whole program: reads the words, reads a script from `source` if they ask for it, runs it on one thread or on
-/// many, writes the text that they ask for to `out`, and where that didn't come about writes one line to `err`. In a
-/// run on threads the gate is called before each step, under the lock of its actor.
+/// The whole program. It reads the words, reads a script from `source` if they ask for it, runs it on one thread or
+/// many, and writes the text that they ask for to `out`. If the text isn't written in full, it writes one line to
+/// `err`. In a run on threads the gate is called before each step, under the lock of its actor.
 ///
 /// In the modes that run, the history at the statuses 0 and 5 has the headline (`HasHeadline`). On threads the call may
 /// wait, and what is promised holds if it returns.

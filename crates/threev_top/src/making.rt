@@ -71,7 +71,7 @@ fn made_of_source<R: Threads + Wait + Sync, S: Source, G: Gate + Sync>(
     Ok(made)
 }
 
-/// What a line asks for. Before writing, no stop comes of that.
+/// Makes what a line asks for. It writes nothing, so no stop is about writing.
 fn made_by_line<R: Threads + Wait + Sync, S: Source, G: Gate + Sync>(
     rt: &R,
     alloc: Global,

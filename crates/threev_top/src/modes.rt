@@ -67,7 +67,7 @@ impl MadeText {
     }
 }
 
-/// The report of a run, and the lines of its history after it where they are asked for.
+/// The report of a run, followed by the lines of its history if they are asked for.
 fn report_with(
     alloc: Global,
     script: &Script,

@@ -8,7 +8,7 @@ use script_reader::{ScriptFault, ScriptRefusal};
 use tv_base::{NoMemory, ReadEnd};
 use tx_trees::Why;
 
-/// Why the text was not written whole.
+/// Why the text wasn't written in full.
 #[derive(Clone, Copy, Debug, PartialEq, Eq)]
 pub enum Stop {
     /// Out of memory.
@@ -21,7 +21,7 @@ pub enum Stop {
     Reading,
     /// The output failed.
     Writing,
-    /// The history that is audited fails.
+    /// The audited history fails.
     History(HistoryFault),
 }
 

@@ -4,8 +4,8 @@ ghost use Rattle.letter_types.specs.declared.entries.Entry.{Entry};
 ghost use Rattle.tx_trees.specs.ScriptData.{ScriptData};
 ghost use Rattle.threev_top.specs.Upgraded.{HasSameRun};
 
-/// A history is a run by the tables of a script exactly where it is one of the upgraded script, and the two reports of
-/// it are equal.
+/// A history is a run by the tables of a script exactly if it is one of the upgraded script, and its two reports are
+/// equal.
 pub fn upgraded_scripts_have_the_same_runs()
     ensures { (s : ScriptData) (h : List Entry) → HasSameRun s h }
 {}
