@@ -78,8 +78,7 @@ impl Coordinator {
         Ok(Step { given, kept })
     }
 
-    /// Prepares what the coordinator does with a letter: its row of the coordinator's table. It takes all memory that
-    /// the step needs, and changes nothing.
+    /// Prepares what `on` does with a letter. It takes all memory that the step needs, and changes nothing.
     pub fn prepare(&self, alloc: Global, letter: &Letter) -> Result<CoordinatorPrepared, NoMemory>
         ensures { IfOk result (IsCoordinatorStepOf (coordinator_row self.now letter.now.from.0 letter.now.body) self.now) }
     {

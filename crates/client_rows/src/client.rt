@@ -95,8 +95,8 @@ impl Client {
         Ok(Step { given, kept })
     }
 
-    /// Prepares what the client does with a letter: its row of the client's table. It takes all memory that the step
-    /// needs, and changes nothing. It takes time for the rows that are submitted, and not for those before them.
+    /// Prepares what `on` does with a letter, in the same time. It takes all memory that the step needs, and changes
+    /// nothing.
     pub fn prepare(
         &self,
         alloc: Global,

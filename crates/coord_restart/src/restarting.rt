@@ -89,8 +89,7 @@ impl Restarting {
         Ok(Step { given, kept })
     }
 
-    /// Prepares what the coordinator does with a letter: its row of the coordinator's table. It takes all memory that
-    /// the step needs, and changes nothing.
+    /// Prepares what `on` does with a letter. It takes all memory that the step needs, and changes nothing.
     pub fn prepare(&self, alloc: Global, letter: &Letter) -> Result<RestartPrepared, NoMemory>
         ensures { IfOk result (IsRestartStepOf (restarting_row self.now letter.now.from.0 letter.now.body) self.now) }
     {

@@ -16,8 +16,7 @@ pub const MOST_VERSIONS: usize = 3;
 /// The places of an item's versions.
 type Places = ArrayVec<(Version, Value), MOST_VERSIONS>;
 
-/// The values of an item, by ascending version, in places of its own. There is always at least one, and there are at
-/// most `MOST_VERSIONS`.
+/// The values of an item, by ascending version, in places of its own: at least 1, and at most `MOST_VERSIONS`.
 pub struct Item {
     held: Places,
 }
@@ -79,7 +78,7 @@ impl Item {
     }
 
     /// Makes an update in version `v`: applies `op` to what is seen in version `v`, which then is the value of version
-    /// `v`, and to the value of every version above `v`. Versions below `v` stay. Only a bag needs memory. If none is
+    /// `v`, and to the value of every version above `v`. Versions below `v` stay. Only a bag needs memory; if none is
     /// found, the item is unchanged.
     ///
     /// Sums and tops are changed in the item itself. Of the bags, each from version `v` up is copied once, and none

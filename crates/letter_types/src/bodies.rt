@@ -85,24 +85,24 @@ pub enum Body {
     Sweep {
         version: Version,
     },
-    /// The update version was raised.
+    /// A node has raised its update version.
     Turned {
         version: Version,
     },
-    /// The version is shown.
+    /// A node shows this version.
     Shown {
         version: Version,
     },
-    /// It was collected.
+    /// A node has collected to this version.
     Swept {
         version: Version,
     },
-    /// Tell the completions of a version.
+    /// A node is asked for its completions of a version.
     AskDone {
         version: Version,
         round: u64,
     },
-    /// Tell the requests of a version.
+    /// A node is asked for its requests of a version.
     AskAsked {
         version: Version,
         round: u64,

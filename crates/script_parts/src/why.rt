@@ -15,7 +15,7 @@ pub enum Why {
     /// The first field isn't the word of a row.
     #[error("the first field is none of the row words")]
     UnknownRow,
-    /// The number of fields isn't the row's.
+    /// The row has another number of fields.
     #[error("the number of fields isn't the row's")]
     WrongFields,
     /// The first record isn't a `nodes` row, or there is no record.

@@ -74,7 +74,7 @@ impl Name {
         })
     }
 
-    /// The bytes.
+    /// The name's bytes.
     pub fn bytes(&self) -> &[u8]
         ensures value { result.now ≡ self.now }
         ensures some { 0 < length self.now }
