@@ -10,8 +10,8 @@ use std::alloc::Global;
 use std::marker::Model;
 use tv_base::NoMemory;
 
-/// A worker's desk. In hand are the letters that it took out of an actor's mailbox and hasn't delivered. For each actor
-/// there is a tray of letters that came of what it delivered, and that it puts into that actor's mailbox together.
+/// A worker's desk. In its hand are the letters that it took out of an actor's mailbox and hasn't delivered. For each
+/// actor there is a tray of letters that its deliveries sent, which it puts into that actor's mailbox together.
 /// Contracts see both.
 pub struct Desk<P: PostName> {
     pub(crate) hand: Bag<P>,
@@ -52,7 +52,7 @@ impl<P: PostName> Desk<P> {
         })
     }
 
-    /// Takes the first letter out of the hand. None exactly where nothing is in hand.
+    /// Takes the first letter out of the hand. None exactly if nothing is in hand.
     pub fn take_in_hand(&mut self) -> Option<Envelope>
         ensures hand { self.old.hand ≡ option_to_list result ++ self.new.hand }
         ensures none { IsNone result → self.old.hand ≡ [] }
@@ -74,7 +74,7 @@ impl<P: PostName> Desk<P> {
         self.trays[to as usize].put(envelope)
     }
 
-    /// Sorts the letters of an outbox into the trays. Where a tray finds no memory for one, that is held with those
+    /// Sorts the letters of an outbox into the trays. If a tray finds no memory for one, the error has it and those
     /// after it, and those before it lie in the trays.
     pub fn sort(&mut self, post: &Post, out: Outbox) -> Result<(), InHand>
         requires post { post.now ≡ P.post }

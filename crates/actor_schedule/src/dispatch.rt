@@ -21,9 +21,9 @@ pub enum Ending {
     Stopped,
 }
 
-/// The mailboxes of the actors of the post that `P` names, each under a lock of its own, and which actors are ready.
-/// An actor is ready where a letter lies in its mailbox and no worker has it. No clause says who is served when, since
-/// what lies under a lock is known by its type alone.
+/// The mailboxes of the actors of the post that `P` names, each under a lock of its own, and which actors are ready. An
+/// actor is ready if a letter lies in its mailbox and no worker has the actor. No clause says who is served when, since
+/// only the type of what lies under a lock is known.
 pub struct Dispatch<P: PostName> {
     actors: u8,
     mailboxes: Vec<CachePadded<Mutex<Mailbox<P>>>>,
@@ -97,7 +97,7 @@ impl<P: PostName> Dispatch<P> {
         Ok(())
     }
 
-    /// Puts what lies in the trays of a desk into the mailboxes, for a worker that takes an actor itself then. Where a
+    /// Puts what lies in the trays of a desk into the mailboxes, for a worker that then takes an actor itself. If a
     /// mailbox finds no memory, that tray and those after it are as they were.
     pub fn flush<R: Wait>(&self, rt: &R, desk: &mut Desk<P>) -> Result<(), NoMemory>
         ensures hand { desk.new.hand ≡ desk.old.hand }
@@ -111,8 +111,8 @@ impl<P: PostName> Dispatch<P> {
         Ok(())
     }
 
-    /// The oldest envelope for an actor. Those after it come into the worker's hand, which is empty. Where there is
-    /// none, nobody attends to the actor any more.
+    /// Takes the oldest envelope for an actor. Those after it go into the worker's hand, which is empty. If there is
+    /// none, no worker has the actor any more.
     pub fn take<R: Wait>(&self, rt: &R, actor: u8, desk: &mut Desk<P>) -> Option<Envelope>
         requires { actor < P.post.actors }
         ensures trays { desk.new.trays ≡ desk.old.trays }
@@ -123,7 +123,7 @@ impl<P: PostName> Dispatch<P> {
         lock.lock(rt).take_into(&mut desk.hand)
     }
 
-    /// What a worker has left in hand of an actor's letters goes back into the mailbox, before those that came since.
+    /// Puts what a worker has left in hand of an actor's letters back into the mailbox, before those that came since.
     pub fn give_back<R: Wait>(&self, rt: &R, actor: u8, desk: &mut Desk<P>)
         requires { actor < P.post.actors }
         ensures { desk.new.trays ≡ desk.old.trays }
@@ -135,7 +135,7 @@ impl<P: PostName> Dispatch<P> {
         lock.lock(rt).give_back(&mut desk.hand);
     }
 
-    /// The oldest envelope for the first actor that has one.
+    /// Takes the oldest envelope for the first actor that has one.
     pub fn take_any<R: Wait>(&self, rt: &R) -> Option<Envelope>
         ensures { IfSome result (λ e. e.post ≡ P.post) }
     {
@@ -149,8 +149,8 @@ impl<P: PostName> Dispatch<P> {
         None
     }
 
-    /// An actor that wasn't ready is so now. Where so many actors more are ready than `own`, which the caller takes
-    /// itself, a worker that sleeps is notified.
+    /// Marks an actor ready that wasn't. If more actors are ready than `own`, which the caller takes itself, and those
+    /// that notified workers take, a worker that sleeps is notified.
     pub fn mark_ready<R: Wait>(&self, rt: &R, actor: u8, own: u64) {
         let mut schedule = self.schedule.lock(rt);
         schedule.mark(actor);
@@ -162,7 +162,8 @@ impl<P: PostName> Dispatch<P> {
     }
 
     /// The actor that a worker serves next, which was ready: the first from this place on, in cyclic order, of those
-    /// that it was the last to serve or that nobody has served, or else of all. None where none is ready.
+    /// that it was the last to serve or that nobody has served, or else of all. None if none is ready, and an error if
+    /// workers are to end.
     pub fn next<R: Wait>(&self, rt: &R, worker: u32, from: u8) -> Result<Option<u8>, Ending>
         ensures { IfOk result (λ next. IfSome next (λ actor. actor < P.post.actors)) }
     {
@@ -176,7 +177,7 @@ impl<P: PostName> Dispatch<P> {
         Ok(schedule.take(worker, from, self.actors))
     }
 
-    /// A worker sleeps until it is notified, unless an actor is ready. Then it is to look for the next again.
+    /// Lets a worker sleep until it is notified, unless an actor is ready. Then it is to look for the next again.
     pub fn sleep<R: Wait>(&self, rt: &R) {
         let mut schedule = self.schedule.lock(rt);
         if schedule.has_ready(self.actors) {
@@ -189,13 +190,13 @@ impl<P: PostName> Dispatch<P> {
         up.get_up();
     }
 
-    /// The client has finished: all workers end.
+    /// Notes that the client has finished: all workers end.
     pub fn finish<R: Wait>(&self, rt: &R) {
         self.schedule.lock(rt).finish();
         self.wakes.notify_all();
     }
 
-    /// A worker has found no memory: all others stop too.
+    /// Notes that a worker has found no memory: all others stop too.
     pub fn stop<R: Wait>(&self, rt: &R) {
         self.schedule.lock(rt).stop();
         self.wakes.notify_all();

@@ -23,18 +23,18 @@ pub enum Next {
     Begin(Phase),
     /// A round begins.
     Count { reads: bool, round: Round },
-    /// The next update version, in the phase in which its advancement is, and so many advances wait.
+    /// The update version is the next one, its advancement is in this phase, and this many advances wait.
     GoOn { phase: Phase, waits: u64 },
 }
 
-/// What the coordinator does: it keeps a row, and then comes what comes next.
+/// What the coordinator does: it keeps a row, if any, and then does what comes next.
 #[derive(Drop)]
 pub struct CoordinatorChange {
     pub row: RowChange,
     pub next: Next,
 }
 
-/// A step of the coordinator that is prepared: what it does, and what goes out.
+/// A prepared step of the coordinator: what it does, and what goes out.
 #[derive(Drop)]
 pub struct CoordinatorPrepared {
     pub change: CoordinatorChange,

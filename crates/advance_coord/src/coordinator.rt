@@ -49,7 +49,7 @@ impl Model for Coordinator {
 }
 
 impl Coordinator {
-    /// The coordinator of so many nodes as a run begins.
+    /// The coordinator of `nodes` nodes as a run begins.
     pub fn new(alloc: Global, nodes: u8) -> Coordinator
         requires { nodes ≤ MOST_NODES }
         ensures { result ≡ start_coordinator nodes }
@@ -64,8 +64,8 @@ impl Coordinator {
         }
     }
 
-    /// What the coordinator does with a letter: its row of the coordinator's table. What goes out is given, and an
-    /// equal copy kept. If memory runs out, the coordinator is as it was.
+    /// Does with a letter what its row of the coordinator's table says. The result has what goes out twice, as `given`
+    /// and as `kept`. If memory runs out, the coordinator is as it was.
     pub fn on(&mut self, alloc: Global, letter: &Letter) -> Result<Step, NoMemory>
         ensures row { IfOk result
             (λ step. made self.new step.given ≡ coordinator_row self.old letter.now.from.0 letter.now.body) }
@@ -78,8 +78,7 @@ impl Coordinator {
         Ok(Step { given, kept })
     }
 
-    /// Prepares what the coordinator does with a letter: its row of the coordinator's table. It takes all memory that
-    /// the step needs, and changes nothing.
+    /// Prepares what `on` does with a letter. It takes all memory that the step needs, and changes nothing.
     pub fn prepare(&self, alloc: Global, letter: &Letter) -> Result<CoordinatorPrepared, NoMemory>
         ensures { IfOk result (IsCoordinatorStepOf (coordinator_row self.now letter.now.from.0 letter.now.body) self.now) }
     {
@@ -114,7 +113,7 @@ impl Coordinator {
         }
     }
 
-    /// Does a step that was prepared, and gives what goes out. Needs no memory.
+    /// Does a prepared step, and gives what goes out. It needs no memory.
     pub fn done(&mut self, prepared: CoordinatorPrepared) -> StepOut
         requires { CoordinatorMayDo prepared.change self.old }
         ensures after { self.new ≡ after_coordinator_change prepared.change self.old }
@@ -320,7 +319,7 @@ impl Coordinator {
         self.after_row(alloc, reads, RowChange::Asked { from, row }, counted)
     }
 
-    /// What the count asks for is done, where this row is kept.
+    /// What the count asks for is done, once this row is kept.
     fn after_row(
         &self,
         alloc: Global,
@@ -341,7 +340,7 @@ impl Coordinator {
         Ok(CoordinatorPrepared::sending(alloc, row, next, Letters::new(alloc)))
     }
 
-    /// Every node is asked for its requests, where this row is kept.
+    /// Every node is asked for its requests, once this row is kept.
     fn ask_requests(&self, alloc: Global, row: RowChange) -> Result<CoordinatorPrepared, NoMemory>
         requires { MayKeep row self.now.count.current }
         ensures { IfOk result (IsCoordinatorStepOf (ask_requests (with_kept_row row self.now)) self.now) }
@@ -355,7 +354,7 @@ impl Coordinator {
         Ok(CoordinatorPrepared::sending(alloc, row, Next::Stay, sent))
     }
 
-    /// The counted version is quiet.
+    /// The counted version is quiescent.
     fn end_count(
         &self,
         alloc: Global,

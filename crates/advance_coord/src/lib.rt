@@ -1,5 +1,5 @@
-//! The coordinator of advancements: it lets every node turn to a new update version, counts until the old one is quiet,
-//! lets every node show it, counts until what reads have left is quiet, and lets every node sweep it.
+//! The coordinator of advancements. Every node turns to a new update version; once the old one is quiescent, every node
+//! shows it; once the version that reads have left is quiescent, every node collects.
 #![tactic(auto)]
 
 mod change;

@@ -8,14 +8,14 @@ ghost use Rattle.board_rules.specs.Right.{IsAtOnce, IsRight};
 ghost use Rattle.letter_types.specs.declared.entries.Entry.{Entry};
 ghost use Rattle.script_parts.specs.ScriptData.{ScriptData};
 
-/// A history is accepted, entry by entry, exactly where it keeps all rules: its acts are moves of the Board, keep to the
-/// script, show what was worth, and its entries do at once what they are asked for.
+/// A history is accepted, entry by entry, exactly if it keeps all rules: its acts are moves of the Board, keep to the
+/// script and show the values in the serial order, and its entries do at once what they are asked for.
 pub fn accepted_histories_keep_all_rules()
     ensures { (s : ScriptData) (h : List Entry)
         → (IsAccepted s h ↔ IsBoardRun s h × Fits s h × IsRight s h × IsAtOnce s h) }
 {}
 
-/// An accepted history with one entry more is accepted exactly where the entry may come after it.
+/// An accepted history with one entry more is accepted exactly if the entry may come after it.
 pub fn one_entry_more_is_accepted()
     ensures { (s : ScriptData) (h : List Entry) (e : Entry) → IsAccepted s h
         → (IsAccepted s (h ++ e ∷ []) ↔ MayCome s h e) }

@@ -1,6 +1,6 @@
-//! What a history says of trees and items: versions, wholeness, how trees come out, the serial order and worth; what a
-//! right read is, and what is done at once; the Board, its moves, and the gates of rows; and what an entry may be that
-//! comes after an accepted history. It has definitions, lemmas and laws alone, and the names of the rules.
+//! What a history says of transactions and items: versions, complete transactions, outcomes, the serial order and the
+//! values in it; when a read is right, and what is done at once; the Board, its moves, and the gates of rows; which
+//! entries may come after an accepted history. It has definitions, lemmas and laws alone, and the names of the rules.
 #![tactic(auto)]
 
 mod laws;

@@ -20,7 +20,7 @@ pub enum ClientChange {
     },
 }
 
-/// A step of the client that is prepared: what it does, and what goes out.
+/// A prepared step of the client: what it does, and what goes out.
 #[derive(Drop)]
 pub struct ClientPrepared {
     pub change: ClientChange,

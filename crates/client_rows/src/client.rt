@@ -78,9 +78,9 @@ impl Client {
         self.at.next
     }
 
-    /// What the client does with a letter: its row of the client's table. The script is the one that the client was
-    /// made with. It takes time for the rows that are submitted, and not for those before them. What goes out is given,
-    /// and an equal copy kept. If memory runs out, the client is as it was.
+    /// Does with a letter what its row of the client's table says. The script is the one that the client was made with.
+    /// It takes time for the rows that are submitted, and not for those before them. The result has what goes out
+    /// twice, as `given` and as `kept`. If memory runs out, the client is as it was.
     pub fn on(&mut self, alloc: Global, letter: &Letter, script: &Script) -> Result<Step, NoMemory>
         requires { IsKeptOf script.now self.old }
         ensures row { IfOk result
@@ -95,8 +95,8 @@ impl Client {
         Ok(Step { given, kept })
     }
 
-    /// Prepares what the client does with a letter: its row of the client's table. It takes all memory that the step
-    /// needs, and changes nothing. It takes time for the rows that are submitted, and not for those before them.
+    /// Prepares what `on` does with a letter, in the same time. It takes all memory that the step needs, and changes
+    /// nothing.
     pub fn prepare(
         &self,
         alloc: Global,
@@ -147,7 +147,7 @@ impl Client {
         })
     }
 
-    /// Does a step that was prepared, and gives what goes out. Needs no memory.
+    /// Does a prepared step, and gives what goes out. It needs no memory.
     pub fn done(&mut self, prepared: ClientPrepared) -> StepOut
         ensures after { self.new ≡ after_client_change prepared.change self.old }
         ensures out { result ≡ prepared.out }

@@ -33,7 +33,7 @@ fn sent_first(alloc: Global, script: &Script, news: News) -> Result<Letters, NoM
     Ok(sent)
 }
 
-/// The letter that asks for the advancement after so many.
+/// The letter that asks for an advancement, after `asked` earlier ones.
 fn advance_letter(script: &Script, asked: u32) -> Body
     requires { asked + 1 < 2 ^ 32 }
     ensures { result ≡ advance_letter script.now asked }
@@ -45,7 +45,7 @@ fn advance_letter(script: &Script, asked: u32) -> Body
     }
 }
 
-/// The letters of these rows, in order, after those that are sent first. So many advancements were asked for before.
+/// The letters of these rows, in order, after those that are sent first. Before, `before` advancements were asked for.
 fn letters(
     alloc: Global,
     script: &Script,
@@ -86,7 +86,7 @@ fn acts(alloc: Global, finishes: bool) -> Result<Acts, NoMemory>
     Ok(acts)
 }
 
-/// What the client sends and does as it submits these rows. So many advancements were asked for before them.
+/// What the client sends and does as it submits these rows. Before them, `before` advancements were asked for.
 pub(crate) fn out(
     alloc: Global,
     script: &Script,

@@ -16,14 +16,14 @@ pub enum News {
     Answered(TreeNo),
     /// One more advancement has ended.
     Ended,
-    /// So many advancements have ended.
+    /// This many advancements have ended.
     EndedTo(Version),
 }
 
 /// What the client of a script hears from a letter.
 #[derive(Clone, Copy)]
 pub(crate) enum Heard {
-    /// Nothing that it goes by.
+    /// Nothing that matters to it.
     Nothing,
     /// News, at which it submits what it may.
     Told(News),
@@ -58,7 +58,7 @@ fn news_of_end(script: &Script, version: Version) -> News
     }
 }
 
-/// Whether a tree is answered once the news is known. False where it isn't there.
+/// Whether a tree is answered once the news is known. False if it isn't there.
 pub(crate) fn is_answered(answered: &[bool], news: News, tree: TreeNo) -> bool
     ensures { result ≡ get_or (answered_after news answered.now) tree.0 false }
 {

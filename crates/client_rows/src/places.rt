@@ -29,7 +29,7 @@ pub(crate) fn is_over(at: RowPlace, ended: u64) -> bool
     at.unanswered == 0 && u64::from(at.asked) <= ended
 }
 
-/// The same place once the news is known: a tree that is answered by it counts as open no more.
+/// The same place once the news is known: a tree that it answers no longer counts as open.
 pub(crate) fn with_news(rows: &[ScriptRow], answered: &[bool], news: News, at: RowPlace) -> RowPlace
     requires names { NamesInOrder 0 (length answered.now) rows.now }
     requires at { at ≡ place_at rows.now answered.now at.next }

@@ -6,7 +6,7 @@ use crate::kinds::Amount;
 use itoa::Buffer;
 use tv_base::{NoMemory, Text};
 
-/// A number in decimal. Where no memory is found the text stays as it is.
+/// A number in decimal. If no memory is found, the text stays as it is.
 pub fn push_number(text: &mut Text, number: u64) -> Result<(), NoMemory>
     ensures ok { OnOk result (text.new ≡ text.old ++ decimal number) }
     ensures err { OnErr result (text.new ≡ text.old) }
@@ -15,7 +15,7 @@ pub fn push_number(text: &mut Text, number: u64) -> Result<(), NoMemory>
     text.push_all(buffer.format(number).as_bytes())
 }
 
-/// An amount in decimal, with a minus where it is negative. Where no memory is found the text stays as it is.
+/// An amount in decimal, with a minus if it is negative. If no memory is found, the text stays as it is.
 pub fn push_amount(text: &mut Text, amount: Amount) -> Result<(), NoMemory>
     ensures ok { OnOk result (text.new ≡ text.old ++ signed_decimal amount) }
     ensures err { OnErr result (text.new ≡ text.old) }

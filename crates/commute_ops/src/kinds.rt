@@ -10,7 +10,7 @@ use tv_base::NoMemory;
 /// An amount, or the value of an item: a whole number whose magnitude a script keeps at `MOST_AMOUNT` or less.
 pub type Amount = i128;
 
-/// The greatest magnitude of an amount, of an initial value, and of what an item's magnitudes add up to.
+/// 10^30: the greatest magnitude of an amount or an initial value, and the greatest sum of an item's magnitudes.
 pub const MOST_AMOUNT: u128 = 1_000_000_000_000_000_000_000_000_000_000;
 
 /// The kind of an item.
@@ -35,10 +35,10 @@ pub enum Op {
     Put(Amount),
 }
 
-/// Values whose operations may change places: `commutes` says that two operations in either order give
-/// equal values, where both orders are allowed.
+/// Values whose operations commute: `commutes` says that two operations give equal values in either order, if both
+/// orders are allowed.
 pub trait Commute {
-    /// What is applied to a value.
+    /// An operation on such a value.
     type Op;
 
     /// When an operation may be applied.

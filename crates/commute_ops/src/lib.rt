@@ -1,5 +1,5 @@
-//! Values of three kinds, the operations on them that may change places, the law that they may, and the values of gets;
-//! numbers and amounts as texts.
+//! Values of three kinds; the operations on them that commute, and the law that they do; the values of gets; numbers
+//! and amounts as texts.
 #![tactic(auto)]
 
 mod bag;

@@ -7,7 +7,7 @@ use tv_base::{ItemNo, NoMemory, Seq};
 /// The values that the gets of a subtransaction or of a tree gave, each with its item, in order.
 pub type Values = Seq<(ItemNo, Value), 0xffff_ffff>;
 
-/// An equal list of values. Most lists have none, and such a copy needs no memory.
+/// An equal list of values. The copy of an empty list, which most are, needs no memory.
 pub fn copy_values(alloc: Global, values: &Values) -> Result<Values, NoMemory>
     ensures { IfOk result (λ copy. copy ≡ values.now) }
 {

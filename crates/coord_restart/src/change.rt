@@ -7,7 +7,7 @@ use std::alloc::Global;
 use tv_base::{NodeNo, Seq};
 use world_model::{RestartPhase, Told};
 
-/// What each node told, or None where it hasn't.
+/// What each node told, or None if it hasn't.
 pub type AllTold = Seq<Option<Told>, 0xff>;
 
 /// What is kept of a letter.
@@ -15,9 +15,9 @@ pub type AllTold = Seq<Option<Told>, 0xff>;
 pub enum Taken {
     /// Nothing.
     Nothing,
-    /// A node's row, by the count.
+    /// A node's row, for the count.
     Row(RowChange),
-    /// That a tree was answered since the round began.
+    /// The news that a tree was answered since the round began.
     Nudge,
     /// What a node told, in place of an earlier one.
     Numbers { from: NodeNo, told: Told },
@@ -30,7 +30,7 @@ pub enum Taken {
 pub enum RestartNext {
     /// All else stays.
     Stay,
-    /// So many advances are wanted.
+    /// This many advances are wanted.
     Want(u64),
     /// One acknowledgement more.
     Acknowledge,
@@ -41,7 +41,7 @@ pub enum RestartNext {
         reads: bool,
         round: Round,
     },
-    /// A phase begins, where so many advances are wanted and so many have ended.
+    /// A phase begins: this many advances are wanted, and this many have ended.
     GoOn {
         wanted: u64,
         ended: u64,
@@ -54,14 +54,14 @@ pub enum RestartNext {
     },
 }
 
-/// What the coordinator does: it keeps what the letter says, and then comes what comes next.
+/// What the coordinator does: it keeps what the letter says, and then does what comes next.
 #[derive(Drop)]
 pub struct RestartChange {
     pub taken: Taken,
     pub next: RestartNext,
 }
 
-/// A step of the coordinator that is prepared: what it does, and what goes out.
+/// A prepared step of the coordinator: what it does, and what goes out.
 #[derive(Drop)]
 pub struct RestartPrepared {
     pub change: RestartChange,

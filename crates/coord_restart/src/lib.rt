@@ -1,4 +1,4 @@
-//! The coordinator that may forget its state: all but its epoch. It goes on from what the nodes and the client tell,
+//! The coordinator that may forget its state, all but its epoch. It goes on from what the nodes and the client tell it,
 //! and its orders carry the epoch.
 #![tactic(auto)]
 

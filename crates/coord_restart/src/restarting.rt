@@ -57,7 +57,7 @@ impl Model for Restarting {
 }
 
 impl Restarting {
-    /// The coordinator of so many nodes as a run begins.
+    /// The coordinator of `nodes` nodes as a run begins.
     pub fn new(alloc: Global, nodes: u8) -> Restarting
         requires { nodes ≤ MOST_NODES }
         ensures { result ≡ start_restarting nodes }
@@ -75,8 +75,8 @@ impl Restarting {
         }
     }
 
-    /// What the coordinator does with a letter: its row of the coordinator's table. What goes out is given, and an
-    /// equal copy kept. If memory runs out, the coordinator is as it was.
+    /// Does with a letter what its row of the coordinator's table says. The result has what goes out twice, as `given`
+    /// and as `kept`. If memory runs out, the coordinator is as it was.
     pub fn on(&mut self, alloc: Global, letter: &Letter) -> Result<Step, NoMemory>
         ensures row { IfOk result
             (λ step. made self.new step.given ≡ restarting_row self.old letter.now.from.0 letter.now.body) }
@@ -89,8 +89,7 @@ impl Restarting {
         Ok(Step { given, kept })
     }
 
-    /// Prepares what the coordinator does with a letter: its row of the coordinator's table. It takes all memory that
-    /// the step needs, and changes nothing.
+    /// Prepares what `on` does with a letter. It takes all memory that the step needs, and changes nothing.
     pub fn prepare(&self, alloc: Global, letter: &Letter) -> Result<RestartPrepared, NoMemory>
         ensures { IfOk result (IsRestartStepOf (restarting_row self.now letter.now.from.0 letter.now.body) self.now) }
     {
@@ -155,7 +154,7 @@ impl Restarting {
         }
     }
 
-    /// Does a step that was prepared, and gives what goes out. Needs no memory.
+    /// Does a prepared step, and gives what goes out. It needs no memory.
     pub fn done(&mut self, prepared: RestartPrepared) -> StepOut
         requires { MayTakeUp prepared.change.taken self.old }
         ensures after { self.new ≡ after_restart_change prepared.change self.old }
@@ -253,7 +252,7 @@ impl Restarting {
         Ok(RestartPrepared::sending(alloc, Taken::Nothing, next, sent))
     }
 
-    /// These letters, and after them the orders with which a phase begins, where so many advancements have ended.
+    /// These letters, and after them the orders with which a phase begins, if `ended` advancements have ended.
     fn with_orders(
         &self,
         alloc: Global,
@@ -511,7 +510,7 @@ impl Restarting {
         self.after_row(alloc, reads, RowChange::Asked { from, row }, counted)
     }
 
-    /// What the count asks for is done, where this row is kept.
+    /// What the count asks for is done, once this row is kept.
     fn after_row(
         &self,
         alloc: Global,
@@ -532,7 +531,7 @@ impl Restarting {
         Ok(RestartPrepared::silent(alloc, Taken::Row(row), next))
     }
 
-    /// Every node is asked for its requests, where this row is kept.
+    /// Every node is asked for its requests, once this row is kept.
     fn ask_requests(&self, alloc: Global, row: RowChange) -> Result<RestartPrepared, NoMemory>
         requires { MayTakeUp (Taken.Row row) self.now }
         ensures { IfOk result (IsRestartStepOf (ask_all_requests (with_taken (Taken.Row row) self.now)) self.now) }
@@ -546,7 +545,7 @@ impl Restarting {
         Ok(RestartPrepared::sending(alloc, Taken::Row(row), RestartNext::Stay, sent))
     }
 
-    /// The counted version is quiet, where this row is kept: it is shown, or what is older than the next one is swept.
+    /// The counted version is quiescent, once this row is kept: it is shown, or nodes collect to the next one.
     fn end_counting(
         &self,
         alloc: Global,
@@ -563,7 +562,7 @@ impl Restarting {
     }
 }
 
-/// The version that nodes are told to turn to, to show or to sweep to, where so many advancements have ended.
+/// The version that nodes are told to turn to, to show or to collect to, once `ended` advancements have ended.
 fn target(what: What, ended: u64) -> Version
     ensures { result ≡ target what ended }
 {
@@ -584,7 +583,7 @@ fn same_what(what: What, other: What) -> bool
     }
 }
 
-/// A place for what each of so many nodes tells.
+/// A place for what each of `nodes` nodes tells.
 #[tactic(auto, using(std::proofs::lemmas::Grind::replicate_next))]
 fn none_told(alloc: Global, nodes: u8) -> Result<AllTold, NoMemory>
     ensures told { IfOk result (λ told. told ≡ replicate nodes None) }

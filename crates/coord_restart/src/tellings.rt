@@ -74,7 +74,7 @@ impl<'a> Tellings<'a> {
         all_told(self.before) && (all_told(self.new) && all_told(self.after))
     }
 
-    /// The least low version, or the greatest number where no node has told one.
+    /// The least low version, or the greatest number if no node has told one.
     #[tactic(auto, using(crate::proofs::Parts::least_parts))]
     pub(crate) fn least_low(&self) -> u64
         ensures { result ≡ least_low self.now }
@@ -90,7 +90,7 @@ impl<'a> Tellings<'a> {
         some_told(self.before, test) || (some_told(self.new, test) || some_told(self.after, test))
     }
 
-    /// The phase in which the coordinator goes on, where so many advances are wanted and have ended.
+    /// The phase in which the coordinator goes on, by how many advances are wanted and how many have ended.
     pub(crate) fn phase(&self, wanted: u64, ended: u64) -> RestartPhase
         ensures { result ≡ phase_by self.now wanted ended }
     {
@@ -108,7 +108,7 @@ impl<'a> Tellings<'a> {
     }
 }
 
-/// The phase in which no advancement is in progress: turning begins where one more is wanted than have ended.
+/// The phase in which no advancement is in progress: turning begins if more are wanted than have ended.
 pub(crate) fn next_advance(wanted: u64, ended: u64) -> RestartPhase
     ensures { result ≡ next_advance wanted ended }
 {

@@ -6,7 +6,7 @@ ghost use Rattle.history_merge.specs.Histories.{HasTakenAll};
 
 use letter_types::{Act, Acts, History};
 
-/// Whether one of the acts is the client's end.
+/// Whether one of the acts is `Finished`.
 pub fn ends(acts: &Acts) -> bool
     ensures { result ≡ list_any finishes acts.now }
 {
@@ -55,7 +55,7 @@ fn has_taken_all(history: &History) -> bool
     }
 }
 
-/// Whether a history goes to its end: the client has finished, and every letter was taken.
+/// Whether a history has ended: the client has finished, and every letter was taken.
 pub fn has_ended(history: &History) -> bool
     ensures { IsTrue result ↔ HasFinished history.now × HasTakenAll history.now }
 {

@@ -1,5 +1,5 @@
-//! Actors' own logs, whose entries are a run of their tables, and the one history that the entries of all are recorded
-//! in by stamp, which is a run; whether a history goes to its end.
+//! Each actor's own log, whose entries follow the actor's table; the one history in which the entries of all actors are
+//! recorded by stamp, which is a run; and whether a history has ended.
 #![tactic(auto)]
 
 mod ending;

@@ -9,7 +9,7 @@ use stamp_post::Witness;
 use std::marker::{Model, PhantomData};
 
 /// An entry that an actor made, with a witness of its posting, of the script and the post that `K` names. Contracts see
-/// the entry. It can be neither copied nor made otherwise.
+/// the entry. It can be neither copied nor forged.
 pub struct Made<K: ClusterName> {
     entry: Entry,
     witness: Witness,

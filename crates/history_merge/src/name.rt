@@ -2,7 +2,7 @@
 use stamp_post::PostName;
 use std::marker::Brand;
 
-/// Which post and which script it is. Whoever calls a function that is generic over a name picks what it means there.
+/// The name of a post and a script. The caller of a function that is generic over a name picks what it means there.
 pub trait ClusterName: PostName {
     ghost use Rattle.tx_trees.specs.ScriptData.{ScriptData};
 

@@ -18,8 +18,8 @@ use tv_base::{ActorNo, MOST_ENTRIES};
 use tx_trees::Script;
 
 /// An actor's own log, of the script and the post that `K` names: its seat, and how many entries it has. Contracts see
-/// its number, and its entries in order, which are a run of the actor's table. It doesn't hold them: what it enters is
-/// handed out.
+/// its number, and its entries in order, which follow the actor's table. It doesn't hold them: each entry is handed out
+/// as it is made.
 pub struct OwnLog<K: ClusterName> {
     number: u8,
     count: usize,
@@ -92,9 +92,9 @@ impl<K: ClusterName> OwnLog<K> {
         self.count() < MOST_ENTRIES
     }
 
-    /// Enters what the actor's step made of a letter that is addressed to it: takes the letter, stamps the entry, puts
-    /// that last among those that were made, for which there is room, and makes the outbox, of a copy of what is sent.
-    /// The step is the row of the actor's table where its entries have led.
+    /// Enters the actor's step for a letter that is addressed to it: takes the letter, stamps the entry, puts the entry
+    /// last in `made`, which has room, and makes the outbox of `copy`, an equal copy of what is sent. The step is the
+    /// row of the actor's table in the state to which its entries have led.
     pub fn enter(
         &mut self,
         post: &Post,

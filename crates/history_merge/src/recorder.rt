@@ -94,7 +94,7 @@ impl<K: ClusterName> Recorder<K> {
         }
     }
 
-    /// Entries that were made are handed in. Where no memory is found they are left, and the recorder is as it was.
+    /// Takes entries in, and leaves `made` empty. If no memory is found, `made` and the recorder are as they were.
     pub fn take_in(&mut self, made: &mut VecDeque<Made<K>>) -> Result<(), NoMemory>
         ensures ok { OnOk result (self.new ≡ handed_in made.old.items self.old) }
         ensures emptied { OnOk result (made.new.items ≡ []) }
@@ -128,7 +128,7 @@ impl<K: ClusterName> Recorder<K> {
         Ok(true)
     }
 
-    /// Records the entries that are next, one after the other. Where no memory is found the others wait.
+    /// Records the entries that are next, one after the other. If no memory is found, the others wait.
     pub fn advance(&mut self, post: &Post) -> Result<(), NoMemory>
         requires { post.now ≡ K.post }
         ensures moved { (es : List Entry) × Records es self.old self.new }
@@ -138,8 +138,8 @@ impl<K: ClusterName> Recorder<K> {
         Ok(())
     }
 
-    /// Entries that were made are handed in, and those that are next are recorded. Where no memory is found, nothing has
-    /// changed, or all of them wait to be recorded but for those that are.
+    /// Takes entries in, and records those that are next. If no memory is found, nothing has changed, or all are taken
+    /// in and those that aren't recorded yet wait.
     pub fn record(&mut self, post: &Post, made: &mut VecDeque<Made<K>>) -> Result<(), NoMemory>
         requires { post.now ≡ K.post }
         ensures ok { OnOk result ((made.new.items ≡ []) × HandsIn made.old.items self.old self.new) }

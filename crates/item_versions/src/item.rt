@@ -16,8 +16,7 @@ pub const MOST_VERSIONS: usize = 3;
 /// The places of an item's versions.
 type Places = ArrayVec<(Version, Value), MOST_VERSIONS>;
 
-/// The values of an item, by ascending version, in places of its own. There is always at least one, and there are at
-/// most `MOST_VERSIONS`.
+/// The values of an item, by ascending version, in places of its own: at least 1, and at most `MOST_VERSIONS`.
 pub struct Item {
     held: Places,
 }
@@ -57,7 +56,7 @@ impl Item {
         self.held.as_slice()
     }
 
-    /// The value of the greatest version that is at most `v`, or of the lowest version where all are above `v`.
+    /// The value of the greatest version that is at most `v`, or of the lowest version if all are above `v`.
     pub fn seen(&self, v: Version) -> &Value
         ensures { seen v self.now ≡ Some result.now }
     {
@@ -78,9 +77,9 @@ impl Item {
         holds(self.held.as_slice(), v) || self.held.len() < MOST_VERSIONS
     }
 
-    /// An update in version `v`: `op` is applied to what is seen in version `v`, which then is the value of version
-    /// `v`, and to the value of every version above `v`. Versions below `v` stay. Only a bag needs memory: where none
-    /// is found the item is unchanged.
+    /// Makes an update in version `v`: applies `op` to what is seen in version `v`, which then is the value of version
+    /// `v`, and to the value of every version above `v`. Versions below `v` stay. Only a bag needs memory; if none is
+    /// found, the item is unchanged.
     ///
     /// Sums and tops are changed in the item itself. Of the bags, each from version `v` up is copied once, and none
     /// below it.
@@ -114,7 +113,7 @@ impl Item {
         Ok(Item { held })
     }
 
-    /// Gives version `v` this value. All other versions stay. Needs no memory.
+    /// Gives version `v` this value. All other versions stay. It needs no memory.
     #[tactic(auto, using(crate::proofs::Order::kept))]
     pub(crate) fn put_value(&mut self, v: Version, value: Value)
         requires { IsTrue (has_room v self.old) }
@@ -311,7 +310,7 @@ fn put_in_place(held: &mut Places, v: Version, value: Value)
     held.insert(place, (v, value));
 }
 
-/// Takes version `v` out, where it is held. `place` versions are below it.
+/// Takes version `v` out, if it is held. `place` versions are below it.
 #[tactic(auto, using(crate::proofs::Rooms::taking))]
 fn take_out(held: &mut Places, place: usize, v: Version)
     requires held { IsHeld held.old.items }

@@ -1,5 +1,5 @@
-//! Items that keep their values by version, at most three, in places of their own: what is seen, room, update,
-//! collection; tables of them; staging of updates and of values; windows of versions.
+//! Items with at most three versions each, in places of their own: what is seen, whether there is room, update and
+//! collection. Tables of items, in which updates and values are staged. Windows of versions.
 #![tactic(auto)]
 
 mod item;

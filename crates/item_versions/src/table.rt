@@ -28,8 +28,8 @@ impl Model for ItemTable {
     ghost invariant = { λ t. IsTable t.entries.items };
 }
 
-/// Items as they will be, which a table has yet to take. It is searched from end to end, so it serves for a few.
-/// Each item is copied once, when it is first staged, and then changed in place.
+/// Changed copies of items, which a table has yet to take. It is searched from end to end, so it serves for a few
+/// items. Each item is copied once, when it is first staged, and then changed in place.
 #[derive(Drop)]
 pub struct Staged {
     entries: Vec<(ItemNo, Item)>,
@@ -53,7 +53,7 @@ impl Staged {
         }
     }
 
-    /// Nothing staged, with room for so many items.
+    /// Nothing staged, with room for `room` items.
     pub fn with_capacity(alloc: Global, room: usize) -> Result<Staged, NoMemory>
         ensures { IfOk result (λ staged. staged ≡ []) }
     {
@@ -72,8 +72,8 @@ impl ItemTable {
         }
     }
 
-    /// Adds an item, of a number above every other, with this value in version 0. Where no memory is found the
-    /// table is unchanged and the value is let go.
+    /// Adds an item with this value in version 0. Its number is above every other. If no memory is found, the table is
+    /// unchanged and the value is dropped.
     #[tactic(auto, using(crate::proofs::Holding::adding))]
     pub fn add(&mut self, item: ItemNo, value: Value) -> Result<(), NoMemory>
         requires { IsAfter item self.old }
@@ -104,7 +104,7 @@ impl ItemTable {
         (entry.0, &entry.1)
     }
 
-    /// The item of a number, found by halving. None exactly where the number is not there.
+    /// The item of a number, found by binary search. None exactly if no item has the number.
     #[tactic(auto, using(crate::proofs::Halving::finding))]
     pub fn item(&self, item: ItemNo) -> Option<&Item>
         ensures { option_copied result ≡ item_in item self.now }
@@ -136,7 +136,7 @@ impl ItemTable {
         }
     }
 
-    /// Whether the table has the item, and it has room for version `v` as it is with what is staged.
+    /// Whether the table has the item and, with what is staged, the item has room for version `v`.
     pub fn has_room(&self, staged: &Staged, v: Version, item: ItemNo) -> bool
         ensures { result ≡ has_room_in v item (pending staged.now self.now) }
     {
@@ -146,9 +146,9 @@ impl ItemTable {
         }
     }
 
-    /// Stages an update of one item in version `v`, where it may be made to the item as it is with what is staged.
-    /// False exactly where the table hasn't the item or the update may not be made; then nothing changes. The table
-    /// stays as it is. Where no memory is found, so does what is staged.
+    /// Stages an update of one item in version `v`, if it may be made to the item with what is staged. False exactly if
+    /// the table hasn't the item or the update may not be made; then nothing changes. The table never changes. If no
+    /// memory is found, what is staged doesn't change either.
     ///
     /// An item that is staged already is changed in place, and needs memory only for bags: each from version `v` up is
     /// copied once. Any other is copied.
@@ -184,8 +184,8 @@ impl ItemTable {
         Ok(true)
     }
 
-    /// Stages an update of one item in version `v`, made to the item as it is with what is staged. The table stays
-    /// as it is. Where no memory is found, so does what is staged.
+    /// Stages an update of one item in version `v`, made to the item with what is staged. The table never changes. If
+    /// no memory is found, what is staged doesn't change either.
     ///
     /// An item that is staged already is changed in place, and needs memory only for bags: each from version `v` up is
     /// copied once. Any other is copied.
@@ -206,8 +206,8 @@ impl ItemTable {
         Ok(())
     }
 
-    /// Stages that version `v` of one item has this value. All other versions stay as they are with what is staged.
-    /// The table stays as it is. Where no memory is found, so does what is staged, and the value is let go.
+    /// Stages that version `v` of one item has this value. All its other versions stay as they are with what is staged.
+    /// The table never changes. If no memory is found, what is staged doesn't change either, and the value is dropped.
     ///
     /// An item that is staged already is changed in place, and needs no memory. Any other is copied.
     #[tactic(auto, using(crate::proofs::Staging::staging))]
@@ -235,7 +235,7 @@ impl ItemTable {
         Ok(())
     }
 
-    /// Puts every staged item in its place. Needs no memory.
+    /// Puts every staged item in its place. It needs no memory.
     #[tactic(auto, using(crate::proofs::Holding::putting))]
     pub fn put_staged(&mut self, staged: Staged)
         ensures { self.new ≡ pending staged self.old }
@@ -249,7 +249,7 @@ impl ItemTable {
     }
 }
 
-/// The place of an item, found by halving.
+/// The place of an item, found by binary search.
 #[tactic(auto, using(crate::proofs::Halving::halving))]
 fn place(entries: &[(ItemNo, Item)], item: ItemNo) -> Option<usize>
     requires { HasAscendingItems entries.now }
@@ -308,7 +308,7 @@ fn find(entries: &[(ItemNo, Item)], item: ItemNo) -> Option<&Item>
     None
 }
 
-/// The place of an item, or the number of entries where it is not there, searched from end to end.
+/// The place of an item, or the number of entries if it isn't there, searched from end to end.
 fn staged_place(entries: &[(ItemNo, Item)], item: ItemNo) -> usize
     ensures { result ≡ item_place item entries.now }
 {
@@ -320,7 +320,7 @@ fn staged_place(entries: &[(ItemNo, Item)], item: ItemNo) -> usize
     entries.len()
 }
 
-/// Makes an update to the item at a place, where it may be made. False exactly where it may not.
+/// Makes an update to the item at a place, if it may be made. False exactly if it may not.
 fn touch_entry(
     entries: &mut Vec<(ItemNo, Item)>,
     place: usize,

@@ -13,7 +13,7 @@ use tv_base::NoMemory;
 /// Items in the order in which they were put. The one at any place may be taken.
 ///
 /// Contracts see the items, the oldest first, and the room: how many more may be put without failing. Items are put
-/// into a queue. Once it fills a block it becomes one, behind the older ones, and a new queue is begun.
+/// into a queue. Once it fills a block, it becomes one, behind the older blocks, and a new queue is begun.
 #[derive(Drop)]
 pub struct OrderedBag<T> {
     older: Blocks<T>,
@@ -67,7 +67,7 @@ impl<T: Drop> OrderedBag<T> {
         &self.newer[k - older]
     }
 
-    /// Makes room for so many more. Where no memory is found the bag is as it was.
+    /// Makes room for `room` more. If no memory is found, the bag is as it was.
     pub fn reserve(&mut self, room: usize) -> Result<(), NoMemory>
         ensures ok { OnOk result (self.new ≡ record { items = self.old.items; room = room }) }
         ensures err { OnErr result (self.new ≡ self.old) }
@@ -80,7 +80,7 @@ impl<T: Drop> OrderedBag<T> {
         Ok(())
     }
 
-    /// Puts an item last, where there is room for it.
+    /// Puts an item last. There is room for it.
     pub fn put_reserved(&mut self, item: T)
         requires { 0 < self.old.room }
         ensures { self.new ≡ record { items = self.old.items ++ item ∷ []; room = self.old.room - 1 } }
@@ -89,7 +89,7 @@ impl<T: Drop> OrderedBag<T> {
         self.newer.push_back_reserved(item);
     }
 
-    /// Puts an item last. Where no memory is found the bag is as it was, and the item comes back.
+    /// Puts an item last. Then the room is 0. If no memory is found, the bag is as it was, and the item comes back.
     pub fn put(&mut self, item: T) -> Result<(), (NoMemory, T)>
         ensures ok { OnOk result (self.new ≡ record { items = self.old.items ++ item ∷ []; room = 0 }) }
         ensures refused { IfErr result (λ e. e.1 ≡ item) }
@@ -116,8 +116,8 @@ impl<T: Drop> OrderedBag<T> {
     }
 }
 
-/// Makes room for so many more in the queue. One that fills a block doesn't grow: it becomes the block itself, and a new
-/// one is begun. Of one that is longer, since many items were put at once, whole blocks move away before.
+/// Makes room for `room` more in the queue. One that fills a block doesn't grow: it becomes the block itself, and a new
+/// one is begun. If it is longer, since many items were put at once, whole blocks move away first.
 fn make_room<T: Drop>(
     older: &mut Blocks<T>,
     newer: &mut VecDeque<T>,

@@ -52,7 +52,7 @@ impl<T> Block<T> {
         take_item(&mut self.items, i)
     }
 
-    /// Takes over all items of another, or none where no memory is found.
+    /// Takes over all items of another, or none if no memory is found.
     pub(crate) fn join(&mut self, other: &mut Block<T>)
         ensures { self.new ++ other.new ≡ self.old ++ other.old }
     {

@@ -67,7 +67,7 @@ impl<T: Drop> Blocks<T> {
         take_at(&mut self.blocks, k)
     }
 
-    /// Moves the first items of a queue into a block at the end. Where no memory is found both are as they were.
+    /// Moves the first items of a queue into a block at the end. If no memory is found, both are as they were.
     pub(crate) fn cut(&mut self, queue: &mut VecDeque<T>) -> Result<(), AllocError>
         requires full { BLOCK ≤ deque_len queue.old }
         requires fits { length self.old + deque_len queue.old < 2 ^ 64 }
@@ -87,7 +87,7 @@ impl<T: Drop> Blocks<T> {
         Ok(())
     }
 
-    /// Makes a block of a queue, at the end, and begins a new queue, with room for so many. Where no memory is found
+    /// Makes a block of a queue, at the end, and begins a new queue, with room for `room` items. If no memory is found,
     /// both are as they were.
     pub(crate) fn add(&mut self, queue: &mut VecDeque<T>, room: usize) -> Result<(), AllocError>
         requires { length self.old + deque_len queue.old < 2 ^ 64 }
@@ -146,8 +146,8 @@ fn take_at<T: Drop>(blocks: &mut Vec<Block<T>>, k: usize) -> T
     item
 }
 
-/// Keeps the blocks few once block `j` got shorter: an empty one goes, and two in a row that fill no more than half
-/// of one become one, where memory is found for it.
+/// Keeps the blocks few once block `j` got shorter: an empty one goes, and two in a row that fill no more than half of
+/// one become one, if memory is found for it.
 fn settle<T: Drop>(blocks: &mut Vec<Block<T>>, j: usize)
     requires { j < length blocks.old.items }
     ensures { joined blocks.new.items ≡ joined blocks.old.items }
@@ -162,7 +162,7 @@ fn settle<T: Drop>(blocks: &mut Vec<Block<T>>, j: usize)
     }
 }
 
-/// Makes one of block `j` and the next where there is one and the two fill no more than half of a block.
+/// Makes one of block `j` and the next, if there is one and the two fill no more than half of a block.
 fn join_next<T: Drop>(blocks: &mut Vec<Block<T>>, j: usize)
     ensures { joined blocks.new.items ≡ joined blocks.old.items }
 {
@@ -175,7 +175,7 @@ fn join_next<T: Drop>(blocks: &mut Vec<Block<T>>, j: usize)
     }
 }
 
-/// Moves the items of the block after block `j` to it, or leaves both where no memory is found.
+/// Moves the items of the block after block `j` to it, or leaves both if no memory is found.
 fn join_two<T: Drop>(blocks: &mut Vec<Block<T>>, j: usize)
     requires { j + 1 < length blocks.old.items }
     ensures joined { joined blocks.new.items ≡ joined blocks.old.items }

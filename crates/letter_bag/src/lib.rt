@@ -1,5 +1,5 @@
-//! The letters in flight: a list that grows at its end, and from which the item at any place may be taken in time of
-//! about the square root of its length.
+//! The messages in flight: a list that grows at its end. Taking the item at any place takes time of about the square
+//! root of its length.
 #![tactic(auto)]
 
 mod bag;

@@ -35,7 +35,7 @@ pub enum Act {
     },
     /// All trees are answered and all advancements have ended.
     Finished,
-    /// A strict tree isn't born yet: its home's update version isn't its read version plus one.
+    /// A strict tree waits to begin: its home's update version isn't the home's read version plus one.
     Waits {
         tree: TreeNo,
         update: Version,
@@ -54,7 +54,7 @@ pub enum Act {
         sub: SubNo,
         vote: Boxed<Vote>,
     },
-    /// The marks of an update tree have gone.
+    /// The marks of an update tree were freed at a node.
     Freed {
         tree: TreeNo,
     },
@@ -63,7 +63,7 @@ pub enum Act {
         tree: TreeNo,
         commit: bool,
     },
-    /// What a strict tree decided was applied at a node.
+    /// The decision on a strict tree was applied at a node.
     Applied {
         tree: TreeNo,
         commit: bool,

@@ -10,27 +10,27 @@ use tv_base::{NoMemory, Seq, SubNo, TreeNo, Version};
 /// Numbers by node.
 pub type Row = Seq<u64, 0xffff_ffff>;
 
-/// What a subtransaction tells its home.
+/// What a subtransaction reports to its tree's home.
 #[derive(Drop)]
 pub enum Notice {
     /// It was done, and its gets gave these values. From an update or a read tree.
     Did(Values),
     /// It voted yes, and its gets gave these values. From a strict tree.
     Yes(Values),
-    /// It voted no, for this cause. From a strict tree.
+    /// Its vote is negative, for this cause. From a strict tree.
     No(Boxed<Cause>),
 }
 
-/// What the client is told of a tree.
+/// What the client learns of a tree.
 #[derive(Drop)]
 pub enum Answer {
     /// All of it was done, and its gets gave these values, by subtransaction and then by operation.
     Whole(Values),
-    /// A strict tree was aborted, for the cause of the no voter of the lowest number.
+    /// A strict tree was aborted, for the cause of its lowest-numbered negative vote.
     Aborted(Boxed<Cause>),
 }
 
-/// What a coordinator has a node do with a version.
+/// What a coordinator orders a node to do with a version.
 #[derive(Clone, Copy, Debug, PartialEq, Eq)]
 pub enum What {
     /// Raise the update version to it.
@@ -41,7 +41,7 @@ pub enum What {
     Sweep,
 }
 
-/// What a letter says (docs/ALGORITHM.md, "Letters").
+/// What a message says (docs/ALGORITHM.md, "Letters").
 #[derive(Drop)]
 pub enum Body {
     /// The client begins.
@@ -85,24 +85,24 @@ pub enum Body {
     Sweep {
         version: Version,
     },
-    /// The update version was raised.
+    /// A node has raised its update version.
     Turned {
         version: Version,
     },
-    /// The version is shown.
+    /// A node shows this version.
     Shown {
         version: Version,
     },
-    /// It was collected.
+    /// A node has collected to this version.
     Swept {
         version: Version,
     },
-    /// Tell the completions of a version.
+    /// A node is asked for its completions of a version.
     AskDone {
         version: Version,
         round: u64,
     },
-    /// Tell the requests of a version.
+    /// A node is asked for its requests of a version.
     AskAsked {
         version: Version,
         round: u64,
@@ -119,7 +119,7 @@ pub enum Body {
         round: u64,
         row: Row,
     },
-    /// An advancement has ended. Where the coordinator may forget: so many have ended, `version`.
+    /// An advancement has ended. From a coordinator that may forget, `version` is how many have ended.
     Advanced {
         version: Version,
     },
@@ -134,11 +134,11 @@ pub enum Body {
         tree: TreeNo,
         version: Version,
     },
-    /// An update tree is whole: its marks may go.
+    /// An update tree is complete: its marks may go.
     Release {
         tree: TreeNo,
     },
-    /// A node looks again at a letter that it has kept.
+    /// A node looks again at a message that it has deferred.
     Wake {
         tree: TreeNo,
         sub: SubNo,
@@ -165,13 +165,13 @@ pub enum Body {
         epoch: u64,
         advances: u32,
     },
-    /// A node is told what to do with a version.
+    /// A node is ordered to do this with a version.
     Order {
         epoch: u64,
         what: What,
         version: Version,
     },
-    /// A node has done it.
+    /// A node has obeyed an order.
     Obeyed {
         epoch: u64,
         what: What,

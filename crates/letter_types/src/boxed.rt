@@ -5,8 +5,8 @@ use std::alloc::Global;
 use std::marker::Model;
 use tv_base::NoMemory;
 
-/// A value behind a pointer, which contracts see as the value. An enum of which one variant is large and rare holds that
-/// one so, and has no room for it in each of its values; and a large value that goes through many hands is small so.
+/// A value behind a pointer. Contracts see the value. It keeps an enum small of which one variant is large and rare,
+/// and makes a large value small to move.
 #[derive(Drop)]
 pub struct Boxed<T> {
     inner: Box<T>,

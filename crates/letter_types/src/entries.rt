@@ -8,14 +8,14 @@ use std::alloc::Global;
 use std::mem::size_of;
 use tv_base::{ActorNo, MOST_ENTRIES, NoMemory, Seq, Stamp};
 
-/// A letter's identity: the stamp of the entry that sent it, and its place there from 0. Go has stamp 0 and place 0.
+/// A message's identity: the stamp of the entry that sent it, and its place there from 0. Go has stamp 0 and place 0.
 #[derive(Clone, Copy, Debug, PartialEq, Eq)]
 pub struct LetterId {
     pub stamp: Stamp,
     pub place: u32,
 }
 
-/// A letter in flight or taken.
+/// A message that is in flight, deferred or taken. In code a message is a letter.
 #[derive(Drop)]
 pub struct Letter {
     pub id: LetterId,
@@ -24,7 +24,7 @@ pub struct Letter {
     pub body: Body,
 }
 
-/// A letter that is to be sent.
+/// A message that is to be sent.
 #[derive(Drop)]
 pub struct Outgoing {
     pub to: ActorNo,
@@ -41,14 +41,14 @@ pub struct StepOut {
     pub acts: Acts,
 }
 
-/// What a step sends and does, twice over: the two are equal, one goes out and one stays in the history.
+/// What a step sends and does, in two equal copies: one goes out, and one stays in the history.
 #[derive(Drop)]
 pub struct Step {
     pub given: StepOut,
     pub kept: StepOut,
 }
 
-/// The first letter, which the client of this number has from itself.
+/// The first letter of a run, Go, from the client of this number to itself.
 pub fn go(client: ActorNo) -> Letter
     ensures { result ≡ go client.0 }
 {
@@ -89,7 +89,7 @@ pub fn copy_letters(alloc: Global, letters: &Letters) -> Result<Letters, NoMemor
 }
 
 impl StepOut {
-    /// An equal one.
+    /// An equal copy.
     pub fn copy(&self, alloc: Global) -> Result<StepOut, NoMemory>
         ensures { IfOk result (λ copy. copy ≡ self.now) }
     {
@@ -124,7 +124,7 @@ impl Step {
     }
 }
 
-/// One event: an actor took a letter, sent letters and acted. Stamps count a history's entries from 1.
+/// The record of one step: an actor took a letter, sent letters and acted. Stamps count a history's entries from 1.
 #[derive(Drop)]
 pub struct Entry {
     pub stamp: Stamp,
@@ -134,7 +134,7 @@ pub struct Entry {
     pub acts: Acts,
 }
 
-/// An entry without its acts: what the passing of letters looks at.
+/// An entry without its acts: all that the rules of passing messages look at.
 #[derive(Drop)]
 pub struct Posting {
     pub stamp: Stamp,
@@ -143,7 +143,7 @@ pub struct Posting {
     pub sent: Letters,
 }
 
-/// Entries by stamp. At most 2^40 of them: a growth past that finds no memory.
+/// Entries by stamp, at most 2^40: adding one more is refused, as if memory had run out.
 pub type History = Seq<Entry, MOST_ENTRIES>;
 
 // What a history of a million entries takes depends on these: a letter has 80 bytes, one that is to be sent 64, an act

@@ -3,18 +3,18 @@
 use crate::entries::Letter;
 use tv_base::{SubNo, TreeNo};
 
-/// Why a node keeps a letter.
+/// Until when a node defers a message.
 #[derive(Clone, Copy, Debug, PartialEq, Eq)]
 pub enum KeepReason {
     /// Until the node shows a version.
     ForShow,
-    /// Until this tree lets go of its locks there.
+    /// Until this tree frees its locks there.
     ForHolder(TreeNo),
     /// Until its Wake comes, which is in flight.
     Called,
 }
 
-/// A letter that asks for a subtransaction, and why it is kept.
+/// A deferred message, which asks for a subtransaction, and why it is deferred.
 #[derive(Drop)]
 pub struct KeptLetter {
     pub letter: Letter,

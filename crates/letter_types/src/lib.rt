@@ -1,5 +1,5 @@
-//! Letters, notices, answers, acts, votes, steps, entries and histories, and when a history's letters went as letters
-//! do.
+//! Messages (letters), notices, answers, acts, votes, steps, entries and histories; and when the messages of a history
+//! are passed by the rules: each was sent before it is taken, and none is taken twice.
 #![tactic(auto)]
 
 mod acts;

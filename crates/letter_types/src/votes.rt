@@ -6,14 +6,14 @@ use commute_ops::{Amount, Values, copy_values};
 use std::alloc::Global;
 use tv_base::{ItemNo, NoMemory, TreeNo, Version};
 
-/// Why a subtransaction of a strict tree votes no.
+/// The cause of a negative vote of a strict tree's subtransaction.
 #[derive(Clone, Copy, Debug, PartialEq, Eq)]
 pub enum Cause {
     /// Another tree has a lock on the item that conflicts with the one requested.
     Conflict { item: ItemNo, holder: TreeNo },
-    /// The item is held in a version above the tree's; this is the greatest.
+    /// The item has a version above the tree's; this is the greatest.
     Newer { item: ItemNo, version: Version },
-    /// The item has less than is to be drawn.
+    /// The item has less than is to be drawn; this is what it has.
     Short { item: ItemNo, found: Amount },
 }
 

@@ -1,4 +1,4 @@
-//! Mailboxes of letters in flight, in order of arrival, which can lie behind a lock.
+//! Mailboxes of messages in flight, in order of arrival, which can lie behind a lock.
 #![tactic(auto)]
 
 ghost use Rattle.std.specs.Prelude.{◌≡◌, ◌<◌, ◌%◌, ◌↔◌, [], ◌∷◌, ◌++◌, length, option_to_list, OnOk, OnErr, IfErr, IfSome, IsNone, IsTrue, Some, remove, slice_get};
@@ -9,7 +9,7 @@ use std::collections::VecDeque;
 use std::marker::{Model, PhantomData};
 use tv_base::NoMemory;
 
-/// Envelopes of the post that `P` names, in the order in which they came. Contracts see it as their list.
+/// Envelopes of the post that `P` names, in the order in which they came. Contracts see the list of them.
 pub struct Bag<P: PostName> {
     envelopes: VecDeque<Envelope>,
     post: PhantomData<P>,
@@ -47,7 +47,7 @@ impl<P: PostName> Bag<P> {
         }
     }
 
-    /// Puts an envelope last. Where no memory is found the mailbox stays as it is and the envelope comes back.
+    /// Puts an envelope last. If no memory is found, the mailbox stays as it is and the envelope comes back.
     pub fn put(&mut self, envelope: Envelope) -> Result<(), (NoMemory, Envelope)>
         requires { envelope.post ≡ P.post }
         ensures ok { OnOk result (self.new ≡ self.old ++ envelope ∷ []) }
@@ -60,8 +60,8 @@ impl<P: PostName> Bag<P> {
         }
     }
 
-    /// Puts all envelopes of another mailbox last, in order, and leaves that one empty. Where no memory is found both stay
-    /// as they are.
+    /// Puts all envelopes of another mailbox last, in order, and leaves that one empty. If no memory is found, both
+    /// stay as they are.
     pub fn append(&mut self, other: &mut Bag<P>) -> Result<(), NoMemory>
         ensures ok { OnOk result (self.new ≡ self.old ++ other.old) }
         ensures emptied { OnOk result (other.new ≡ []) }
@@ -79,7 +79,7 @@ impl<P: PostName> Bag<P> {
         self.envelopes.is_empty()
     }
 
-    /// Takes the oldest envelope out. None exactly where the mailbox is empty.
+    /// Takes the oldest envelope out. None exactly if the mailbox is empty.
     pub fn take_first(&mut self) -> Option<Envelope>
         ensures first { self.old ≡ option_to_list result ++ self.new }
         ensures none { IsNone result ↔ (self.old ≡ []) }
@@ -88,8 +88,8 @@ impl<P: PostName> Bag<P> {
         self.envelopes.pop_front()
     }
 
-    /// Takes the envelope at `place` modulo the length out, and leaves the others in order. None exactly where the
-    /// mailbox is empty.
+    /// Takes the envelope at `place` modulo the length out, and leaves the others in order. None exactly if the mailbox
+    /// is empty.
     pub fn take(&mut self, place: usize) -> Option<Envelope>
         ensures none { IsNone result ↔ (self.old ≡ []) }
         ensures empty { IsNone result → self.new ≡ [] }

@@ -1,5 +1,5 @@
-//! Locks of trees on items: marks of update trees, and looks and holds of strict trees; what a tree meets that needs
-//! some.
+//! Locks of transactions on items: marks of updates, looks and holds of strict transactions; and which lock is in the
+//! way of a transaction that needs some.
 #![tactic(auto)]
 
 mod laws;

@@ -10,10 +10,10 @@ use std::collections::BTreeSet;
 use std::marker::Model;
 use tv_base::{ItemNo, NoMemory, TreeNo};
 
-/// The locks that are. Contracts see the list of them, by item, then by mode, then by tree.
+/// The locks that trees have. Contracts see the list of them, by item, then by mode, then by tree.
 ///
-/// To look for a lock that conflicts takes time by the logarithm of how many are, and so does each that is taken or
-/// freed: whatever depends on an item, at most one lock of each mode is passed over.
+/// To find a lock that conflicts, and to take or free one, takes time logarithmic in their number: however many locks
+/// an item has, at most one of each mode is passed over.
 #[derive(Drop)]
 pub struct Locks {
     alloc: Global,
@@ -46,9 +46,9 @@ impl Locks {
         }
     }
 
-    /// What the tree would meet if it took these locks, each an item with a mode: at the first of them that conflicts
-    /// with a lock of another tree, the lock of the least such tree, and of its locks on the item the one of the
-    /// first mode. None exactly where nothing conflicts.
+    /// The lock that would be in the tree's way if it took these locks, each an item with a mode. At the first of them
+    /// that conflicts with a lock of another tree, it is the lock of the least such tree, and of that tree's locks that
+    /// conflict the one of the first mode. None exactly if nothing conflicts.
     pub fn met(&self, tree: TreeNo, wanted: &[(ItemNo, Mode)]) -> Option<Met>
         ensures met { result ≡ met_in tree wanted.now self.now }
         ensures ascending { AreLocks self.now }
@@ -66,8 +66,8 @@ impl Locks {
         None
     }
 
-    /// Marks items for a tree. Where it meets a look or a hold of another tree it gets none, and the answer says what
-    /// `met` would. Where no memory is found the locks are unchanged.
+    /// Marks items for a tree. If a look or a hold of another tree is in the way, it gets none, and the answer is that
+    /// of `met`. If no memory is found, the locks are unchanged.
     pub fn try_mark(&mut self, tree: TreeNo, items: &[ItemNo]) -> Result<Option<Met>, NoMemory>
         ensures met { IfOk result (λ met. met ≡ met_in tree (marks_on items.now) self.old) }
         ensures locks { IfOk result (λ met. self.new ≡ locks_after met tree (marks_on items.now) self.old) }
@@ -77,8 +77,8 @@ impl Locks {
         self.try_strict(tree, wanted.items())
     }
 
-    /// Takes locks for a tree, each an item with a mode. Where it meets a lock of another tree that conflicts it gets
-    /// none, and the answer says what `met` would. Where no memory is found the locks are unchanged.
+    /// Takes locks for a tree, each an item with a mode. If a lock of another tree conflicts, it gets none, and the
+    /// answer is that of `met`. If no memory is found, the locks are unchanged.
     pub fn try_strict(
         &mut self,
         tree: TreeNo,
@@ -96,7 +96,7 @@ impl Locks {
         Ok(None)
     }
 
-    /// Frees every lock of a tree. The others stay. Needs no memory.
+    /// Frees every lock of a tree. The others stay. It needs no memory.
     pub fn free(&mut self, tree: TreeNo)
         ensures { self.new ≡ without tree self.old }
     {
@@ -136,7 +136,7 @@ impl Locks {
         other_lock(&self.by_item, Lock { item, mode, tree })
     }
 
-    /// Takes locks for a tree, whatever is in their way. Where no memory is found the locks are unchanged.
+    /// Takes locks for a tree, whatever is in their way. If no memory is found, the locks are unchanged.
     pub fn take(&mut self, tree: TreeNo, wanted: &[(ItemNo, Mode)]) -> Result<(), NoMemory>
         ensures ok { OnOk result (self.new ≡ with_locks tree wanted.now self.old) }
         ensures err { OnErr result (self.new ≡ self.old) }
@@ -151,14 +151,14 @@ impl Locks {
         }
     }
 
-    /// Whether the lock is.
+    /// Whether there is this lock.
     fn has(&self, lock: &Lock) -> bool
         ensures { result ≡ has_lock lock.now self.now }
     {
         self.by_item.contains(lock)
     }
 
-    /// The wanted locks that aren't yet.
+    /// The wanted locks that aren't there yet.
     fn missing(&self, tree: TreeNo, wanted: &[(ItemNo, Mode)]) -> Result<Vec<Lock>, NoMemory>
         ensures missing { IfOk result (λ missing. missing.items ≡ missing_locks tree wanted.now self.now) }
         ensures ascending { AreLocks self.now }
@@ -177,7 +177,7 @@ impl Locks {
         Ok(missing)
     }
 
-    /// Adds locks. Where no memory is found some of them may be added.
+    /// Adds locks. If no memory is found, some of them may be added.
     fn add_all(&mut self, locks: &[Lock]) -> Result<(), NoMemory>
         ensures ok { OnOk result (AreAdded locks.now self.old self.new) }
         ensures err { OnErr result (OthersStay locks.now self.old self.new) }
@@ -199,7 +199,7 @@ impl Locks {
         }
     }
 
-    /// Adds a lock, unless it is. Where no memory is found the locks are unchanged.
+    /// Adds a lock, unless it is there. If no memory is found, the locks are unchanged.
     fn add(&mut self, lock: Lock) -> Result<(), NoMemory>
         ensures ok { OnOk result (AreAdded (lock ∷ []) self.old self.new) }
         ensures err { OnErr result (self.new ≡ self.old) }
@@ -207,7 +207,7 @@ impl Locks {
         add(&mut self.by_item, &mut self.by_tree, lock)
     }
 
-    /// Takes a lock away, if it is.
+    /// Takes a lock away, if it is there.
     fn take_away(&mut self, lock: Lock)
         ensures gone { AreTaken (lock ∷ []) self.old self.new }
         ensures fewer { has_lock lock self.old ≡ true → length self.new < length self.old }

@@ -11,13 +11,13 @@ ghost use Rattle.nc_locks.specs.inside.Found.{same_place};
 use std::cmp::Ordering;
 use tv_base::{ItemNo, Seq, TreeNo};
 
-/// How a tree has an item. A mark goes with a mark and a look with a look; every other pair of locks of two different
-/// trees conflicts.
+/// The mode of a lock on an item. Marks are compatible with marks, and looks with looks; every other pair of locks of
+/// two trees on an item conflicts.
 #[derive(Clone, Copy, Debug)]
 pub enum Mode {
     /// The item is changed by operations that commute.
     Mark,
-    /// The item's value is got.
+    /// A get reads the item's value.
     Look,
     /// The item's value is set, or lowered by what is drawn.
     Hold,
@@ -93,8 +93,8 @@ impl Lock {
         self.item.0 == other.item.0 && self.mode.rank() == other.mode.rank()
     }
 
-    /// Whether it comes first of the two, as locks on one item: it is that of the lesser tree, or the one of the
-    /// first mode where both are one tree's.
+    /// Whether it comes first of the two, as locks on one item: it is that of the lesser tree, or the one of the first
+    /// mode if both are one tree's.
     fn comes_first(&self, other: &Lock) -> bool
         ensures { result ≡ comes_first self.now other.now }
     {

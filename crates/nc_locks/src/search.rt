@@ -72,7 +72,7 @@ pub(crate) fn lock_of(
     }
 }
 
-/// Adds a lock, unless it is. Where no memory is found the locks stay.
+/// Adds a lock, unless it is there. If no memory is found, the locks stay.
 pub(crate) fn add(
     by_item: &mut BTreeSet<Lock>,
     by_tree: &mut BTreeSet<Owned>,
@@ -93,7 +93,7 @@ pub(crate) fn add(
     }
 }
 
-/// Takes a lock away, if it is.
+/// Takes a lock away, if it is there.
 pub(crate) fn take_away(by_item: &mut BTreeSet<Lock>, by_tree: &mut BTreeSet<Owned>, lock: Lock)
     requires { AreKept by_item.old.keys by_tree.old.keys }
     ensures gone { AreTaken (lock ∷ []) by_item.old.keys by_item.new.keys }

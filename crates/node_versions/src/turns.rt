@@ -6,11 +6,11 @@ use tv_base::Version;
 /// The versions of a node (docs/ALGORITHM.md, "Versions").
 #[derive(Clone, Copy, Debug, PartialEq, Eq)]
 pub struct Turns {
-    /// The version that update roots take.
+    /// The version of updates that begin here.
     pub update: Version,
-    /// The version that read roots take.
+    /// The version of reads that begin here.
     pub read: Version,
-    /// The version that the node last collected to.
+    /// The version to which the node last collected.
     pub low: Version,
 }
 
@@ -26,7 +26,7 @@ impl Turns {
         }
     }
 
-    /// Raises the update version to `v`. True exactly where it was less.
+    /// Raises the update version to `v`, if it is less. True exactly if it was.
     pub fn raise(&mut self, v: Version) -> bool
         ensures raised { self.new ≡ raised v self.old }
         ensures was_less { IsTrue result ↔ (self.old.update.0 < v.0) }

@@ -24,7 +24,7 @@ pub struct CounterRow {
 
 /// The requests to other nodes, and the completions from them, that a node counts by version: for the low version and
 /// the two after it. The low version is the greatest that was given to `drop_below`, 0 at first. Three rows are used in
-/// turn, that of version `v` is `v` mod 3.
+/// turn: version `v` has row `v` mod 3.
 #[derive(Drop)]
 pub struct Counters {
     nodes: u8,
@@ -45,7 +45,7 @@ impl Model for Counters {
 }
 
 impl Counters {
-    /// Counters for so many nodes, at most `MOST_NODES`, with nothing counted. The low version is 0.
+    /// Counters for `nodes` nodes, at most `MOST_NODES`, with nothing counted. The low version is 0.
     pub fn new(nodes: u8) -> Counters
         requires { nodes ≤ MOST_NODES }
         ensures { counts_of result ≡ no_counts nodes }
@@ -65,7 +65,7 @@ impl Counters {
         self.nodes
     }
 
-    /// Sees to it that version `v` can be counted. All numbers stay. Needs no memory, since the rows are there.
+    /// Makes sure that version `v` can be counted. Nothing changes, and no memory is needed, since the rows are there.
     pub fn room(&mut self, v: Version)
         requires from { (counts_of self.old).low ≤ v.0 }
         requires up_to { v.0 ≤ (counts_of self.old).low + 2 }
@@ -96,7 +96,7 @@ impl Counters {
         count_done(&mut self.rows, v, from);
     }
 
-    /// How many requests of version `v` went to a node. 0 where the version isn't counted.
+    /// How many requests of version `v` went to a node. 0 if the version isn't counted.
     pub fn asked_at(&self, v: Version, to: NodeNo) -> u64
         requires { to.0 < (counts_of self.now).nodes }
         ensures { result ≡ (counts_of self.now).numbers.asked v.0 to.0 }
@@ -104,7 +104,7 @@ impl Counters {
         asked_number(&self.rows, self.low, v, to)
     }
 
-    /// How many completions of version `v` came from a node. 0 where the version isn't counted.
+    /// How many completions of version `v` came from a node. 0 if the version isn't counted.
     pub fn done_at(&self, v: Version, from: NodeNo) -> u64
         requires { from.0 < (counts_of self.now).nodes }
         ensures { result ≡ (counts_of self.now).numbers.done v.0 from.0 }
@@ -112,7 +112,7 @@ impl Counters {
         done_number(&self.rows, self.low, v, from)
     }
 
-    /// The requests of version `v`, by node. Zeros where the version isn't counted.
+    /// The requests of version `v`, by node. Zeros if the version isn't counted.
     pub fn asked_row(&self, alloc: Global, v: Version) -> Result<Row, NoMemory>
         ensures { IfOk result
             (λ row. row ≡ numbers_of (counts_of self.now).nodes ((counts_of self.now).numbers.asked v.0)) }
@@ -124,7 +124,7 @@ impl Counters {
         Ok(row)
     }
 
-    /// The completions of version `v`, by node. Zeros where the version isn't counted.
+    /// The completions of version `v`, by node. Zeros if the version isn't counted.
     pub fn done_row(&self, alloc: Global, v: Version) -> Result<Row, NoMemory>
         ensures { IfOk result
             (λ row. row ≡ numbers_of (counts_of self.now).nodes ((counts_of self.now).numbers.done v.0)) }
@@ -136,8 +136,8 @@ impl Counters {
         Ok(row)
     }
 
-    /// Lets the numbers of versions below `v` go. The other versions keep theirs. The low version is then `v`, or stays
-    /// where that isn't above it. Needs no memory.
+    /// Drops the numbers of versions below `v`. The other versions keep theirs. The low version becomes `v`, if that is
+    /// greater. It needs no memory.
     pub fn drop_below(&mut self, v: Version)
         ensures { counts_of self.new ≡ dropped_below v.0 (counts_of self.old) }
     {

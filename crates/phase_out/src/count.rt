@@ -10,7 +10,7 @@ use std::alloc::Global;
 use std::marker::Model;
 use tv_base::{NoMemory, NodeNo, Version};
 
-/// Which row the round is given.
+/// The row that the round is given, if any.
 #[derive(Drop)]
 pub enum RowChange {
     /// None.
@@ -28,7 +28,7 @@ pub enum Counted {
     Goes,
     /// All completions are in: every node is to be asked for its requests.
     AsksRequests,
-    /// Every pair of nodes agrees: the version is quiet.
+    /// Every pair of nodes agrees: the version is quiescent.
     Agrees,
     /// A pair differs, and a tree was answered since the round began: another round is to begin.
     Recounts,
@@ -54,7 +54,7 @@ impl Model for Count {
 }
 
 impl Count {
-    /// A count before its first round, after rounds up to this number. Needs no memory.
+    /// A count before its first round, after rounds up to this number. It needs no memory.
     pub fn new(alloc: Global, number: u64) -> Count
         ensures { result ≡ start_count number }
     {
@@ -72,8 +72,8 @@ impl Count {
         &self.current
     }
 
-    /// The next round: one of this version and of so many nodes, which misses every row. Its number is one more than
-    /// the last, and stops at 2^64 - 1.
+    /// The next round, of this version and `nodes` nodes, with all rows missing. Its number is one more than the last,
+    /// and stops at 2^64 - 1.
     pub fn next_round(&self, alloc: Global, version: Version, nodes: u8) -> Result<Round, NoMemory>
         ensures { IfOk result (λ round. round ≡ new_round version (one_more self.now.number) nodes) }
     {
@@ -81,8 +81,8 @@ impl Count {
         Ok(round)
     }
 
-    /// What a row of completions would ask for, that an actor tells of a version and a round's number. None where
-    /// nothing comes of it, since it is none of this round.
+    /// What a row of completions from this node, with this version and round number, would ask for. None if it would
+    /// change nothing, since it isn't a row of this round.
     pub fn look_done(
         &self,
         from: NodeNo,
@@ -105,8 +105,8 @@ impl Count {
         Some(Counted::Goes)
     }
 
-    /// What a row of requests would ask for, that an actor tells of a version and a round's number. None where nothing
-    /// comes of it, since it is none of this round, or a row of completions is missing.
+    /// What a row of requests from this node, with this version and round number, would ask for. None if it would
+    /// change nothing, since it isn't a row of this round or a row of completions is missing.
     pub fn look_asked(
         &self,
         from: NodeNo,
@@ -131,7 +131,7 @@ impl Count {
         }
     }
 
-    /// Gives the round its row. Needs no memory.
+    /// Gives the round its row. It needs no memory.
     pub fn keep(&mut self, row: RowChange)
         requires { MayKeep row self.old.current }
         ensures { self.new ≡ count_with row self.old }
@@ -143,14 +143,14 @@ impl Count {
         }
     }
 
-    /// A tree was answered.
+    /// Notes that a tree was answered.
     pub fn nudge(&mut self)
         ensures { self.new ≡ nudged self.old }
     {
         self.nudged = true;
     }
 
-    /// A round begins in place of the last one. Needs no memory.
+    /// Begins a round in place of the last one. It needs no memory.
     pub fn begin(&mut self, round: Round)
         ensures { self.new ≡ count_begun round }
     {

@@ -1,6 +1,6 @@
-//! A round of counting: the rows of all nodes, and whether every pair's numbers agree, also as it would be with one row
-//! more. A count, the part that counts of any coordinator: one round after the other until they do, and what a row or a
-//! nudge asks for.
+//! A round of counting: the rows of all nodes, and whether the numbers of every pair of nodes agree, or would with one
+//! row more. A count, the part of either coordinator that counts: one round after the other until the numbers agree,
+//! and what a row or a nudge asks for.
 #![tactic(auto)]
 
 mod count;

@@ -6,10 +6,10 @@ use std::alloc::Global;
 use std::marker::Model;
 use tv_base::{NoMemory, NodeNo, Seq, Version};
 
-/// A row for each node, or None where it is missing.
+/// A row for each node, or None if it is missing.
 type NodeRows = Seq<Option<Row>, 0xff>;
 
-/// A round: the rows of numbers of one version that the nodes have sent, first those of completions, then those of
+/// A round of counting one version: the rows of numbers that the nodes have sent, first of completions, then of
 /// requests.
 #[derive(Drop)]
 pub struct Round {
@@ -31,7 +31,7 @@ impl Model for Round {
 }
 
 impl Round {
-    /// A round of this version and number, which misses every node's rows.
+    /// A round of this version and number, with all rows missing.
     pub fn new(alloc: Global, version: Version, number: u64, nodes: u8) -> Result<Round, NoMemory>
         ensures { IfOk result (λ round. round ≡ new_round version number nodes) }
     {
@@ -46,7 +46,7 @@ impl Round {
         })
     }
 
-    /// A round of no nodes: no row is of it. Needs no memory.
+    /// A round of no nodes, so no row belongs to it. It needs no memory.
     pub fn empty(alloc: Global) -> Round
         ensures { result ≡ new_round (record { 0 = 0 }) 0 0 }
     {
@@ -80,8 +80,8 @@ impl Round {
         self.nodes
     }
 
-    /// Whether a row that an actor tells of a version and a round's number is one of this round: the actor is a node,
-    /// and the row has a number for each node.
+    /// Whether a row from this sender, with this version and round number, belongs to this round: both are the round's,
+    /// the sender is one of its nodes, and the row has a number for each node.
     pub fn is_of(&self, from: NodeNo, version: Version, number: u64, row: &Row) -> bool
         ensures is_of { result ≡ is_of from.0 version number row.now self.now }
         ensures node { IsTrue result → from.0 < self.now.nodes }
@@ -93,7 +93,7 @@ impl Round {
             && row.items().len() == self.nodes as usize
     }
 
-    /// Keeps a node's row of completions, in place of an earlier one. Needs no memory.
+    /// Keeps a node's row of completions, in place of an earlier one. It needs no memory.
     pub fn take_done(&mut self, from: NodeNo, row: Row)
         requires node { from.0 < self.old.nodes }
         requires numbers { length row ≡ self.old.nodes }
@@ -102,7 +102,7 @@ impl Round {
         self.dones.put(from.0 as usize, Some(row));
     }
 
-    /// Keeps a node's row of requests, in place of an earlier one. Needs no memory.
+    /// Keeps a node's row of requests, in place of an earlier one. It needs no memory.
     pub fn take_asked(&mut self, from: NodeNo, row: Row)
         requires node { from.0 < self.old.nodes }
         requires numbers { length row ≡ self.old.nodes }
@@ -119,7 +119,7 @@ impl Round {
         all_in(self.dones.items())
     }
 
-    /// Whether each node's row of completions would be in with one of this node, whatever its numbers are.
+    /// Whether each node's row of completions would be in once this node's is, whatever its numbers are.
     pub fn all_done_with(&self, from: NodeNo) -> bool
         requires { from.0 < self.now.nodes }
         ensures { (row : List ℕ) → result ≡ all_in (slice_set self.now.dones from.0 (Some row)) }
@@ -127,8 +127,8 @@ impl Round {
         all_others_in(self.dones.items(), from.0 as usize)
     }
 
-    /// Whether every pair of nodes agrees: the requests of the one to the other, and the completions that the other has
-    /// from the one, are equal numbers. None exactly where a row is missing.
+    /// Whether every pair of nodes agrees: the one has sent as many requests to the other as the other has completions
+    /// from it. None exactly if a row is missing.
     pub fn verdict(&self) -> Option<bool>
         ensures verdict { result ≡ verdict_of self.now }
         ensures missing { IsNone result ↔ MissesRow self.now }
@@ -142,7 +142,7 @@ impl Round {
         }
     }
 
-    /// The verdict as it would be with this row of requests of a node, in place of an earlier one.
+    /// The verdict as it would be with this row of requests from a node, in place of an earlier one.
     pub fn verdict_with(&self, from: NodeNo, row: &Row) -> Option<bool>
         requires { from.0 < self.now.nodes }
         ensures { result
@@ -184,7 +184,7 @@ impl<'a> AskedRows<'a> {
         all_others_in(self.kept, self.from as usize)
     }
 
-    /// The number at a place of a node's row, or 0 where it is missing.
+    /// The number at a place of a node's row, or 0 if it is missing.
     fn number(&self, node: u8, place: u8) -> u64
         ensures { result ≡ kept_number self.now node place }
     {
@@ -229,7 +229,7 @@ fn all_others_in(kept: &[Option<Row>], node: usize) -> bool
     all_in(&kept[..node]) && all_in(&kept[node + 1..])
 }
 
-/// The number at a place of a node's row, or 0 where it is missing.
+/// The number at a place of a node's row, or 0 if it is missing.
 fn number(kept: &[Option<Row>], node: u8, place: u8) -> u64
     ensures { result ≡ kept_number kept.now node place }
 {
@@ -239,7 +239,7 @@ fn number(kept: &[Option<Row>], node: u8, place: u8) -> u64
     }
 }
 
-/// The number at a place, or 0 where there is none.
+/// The number at a place, or 0 if there is none.
 fn in_row(row: &[u64], place: u8) -> u64
     ensures { result ≡ number_at (Some (Some row.now)) place }
 {
@@ -256,7 +256,7 @@ fn pair_agrees(askeds: &AskedRows, dones: &[Option<Row>], node: u8, other: u8) -
     askeds.number(node, other) == number(dones, other, node)
 }
 
-/// Whether a node agrees with each of so many nodes.
+/// Whether a node agrees with each of the first `nodes` nodes.
 fn node_agrees(askeds: &AskedRows, dones: &[Option<Row>], nodes: u8, node: u8) -> bool
     ensures { result ≡ all_below nodes (pair_agrees askeds.now dones.now node) }
 {
@@ -268,7 +268,7 @@ fn node_agrees(askeds: &AskedRows, dones: &[Option<Row>], nodes: u8, node: u8) -
     true
 }
 
-/// The verdict of the rows of so many nodes.
+/// The verdict of the rows of `nodes` nodes.
 fn verdict(dones: &[Option<Row>], askeds: &AskedRows, nodes: u8) -> Option<bool>
     ensures { result ≡ (if all_in dones.now && all_in askeds.now then Some (agrees nodes askeds.now dones.now) else None) }
 {
@@ -281,7 +281,7 @@ fn verdict(dones: &[Option<Row>], askeds: &AskedRows, nodes: u8) -> Option<bool>
     Some(agrees(askeds, dones, nodes))
 }
 
-/// Whether every pair of so many nodes agrees.
+/// Whether every pair of `nodes` nodes agrees.
 fn agrees(askeds: &AskedRows, dones: &[Option<Row>], nodes: u8) -> bool
     ensures { result ≡ agrees nodes askeds.now dones.now }
 {

@@ -13,7 +13,7 @@ fn is_child(subs: &[Sub], parent: SubNo, k: usize) -> bool
     subs[k].parent.0 == parent.0
 }
 
-/// The least child of `parent` above `after`.
+/// The least child of `parent` whose number is above `after`, if there is one.
 pub fn next_child(subs: &[Sub], parent: SubNo, after: SubNo) -> Option<SubNo>
     requires { length subs.now ≤ 4294967295 }
     ensures above { IfSome result (λ k. after.0 < k.0) }

@@ -16,21 +16,21 @@ const MOST_PAIRS: u64 = 1_000_000;
 // The greatest number of nodes times trees.
 const MOST_PLACES: u64 = 320_000;
 
-/// Whether so many strict trees beside so many subtransactions of update trees are too many.
+/// Whether `strict` strict trees are too many beside `subs` subtransactions of update trees.
 pub fn are_many(strict: u32, subs: u32) -> bool
     ensures { result ≡ are_many strict subs }
 {
     strict as u64 * subs as u64 > MOST_PAIRS
 }
 
-/// Whether so many trees are too many for so many nodes.
+/// Whether `trees` trees are too many for `nodes` nodes.
 pub fn are_spread(nodes: u8, trees: u32) -> bool
     ensures { result ≡ are_spread nodes trees }
 {
     nodes as u64 * trees as u64 > MOST_PLACES
 }
 
-/// How many strict trees a tree of this kind is.
+/// 1 if a tree of this kind is strict, else 0.
 pub fn one_strict(kind: TreeKind) -> u32
     ensures { result ≡ one_if (is_strict kind) }
 {
@@ -41,7 +41,7 @@ pub fn one_strict(kind: TreeKind) -> u32
     }
 }
 
-/// How many subtransactions of update trees one subtransaction of a tree of this kind is.
+/// 1 if a tree of this kind is an update tree, else 0.
 pub fn one_update(kind: TreeKind) -> u32
     ensures { result ≡ if_update kind 1 }
 {
@@ -52,7 +52,7 @@ pub fn one_update(kind: TreeKind) -> u32
     }
 }
 
-/// How many `put` operations an operation is.
+/// 1 if the operation is a `put`, else 0.
 pub fn one_put(deed: Deed) -> u64
     ensures { result ≡ one_put deed }
 {

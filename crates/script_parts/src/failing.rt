@@ -165,9 +165,9 @@ fn reload(totals: &mut Vec<u128>, off: &[Sub], on: &[Sub], most: u128) -> bool
     true
 }
 
-/// Takes the magnitudes of the last tree's operations off the items' totals and adds those of other subtransactions,
-/// unless one of the totals that these are on is above `most` then. Whether it did; the totals are as they were where
-/// it didn't. It takes time by the number of these operations alone.
+/// Takes the magnitudes of the last tree's operations off the items' totals, adds those of the subtransactions `on`,
+/// and answers true. If a total of one of their items would then be above `most`, it answers false and the totals are
+/// as they were. Its time depends on the number of these operations alone.
 pub fn reload_last(totals: &mut Vec<u128>, trees: &[Tree], on: &[Sub], most: u128) -> bool
     requires some { 0 < length trees.now }
     requires may { MayReload totals.old.items (last_tree_subs trees.now) on.now }
@@ -185,7 +185,7 @@ pub fn last_ops(trees: &[Tree]) -> u32
     count_ops(trees[trees.len() - 1].subs.items())
 }
 
-/// Puts the undone form in the place of the last tree's subtransactions, which are kept as what it was written with.
+/// Puts the compensated form `expanded` in the place of the last tree's subtransactions, and keeps these as `written`.
 pub fn fail_last(trees: &mut Vec<Tree>, failed: SubNo, expanded: Subs)
     requires some { 0 < length trees.old.items }
     requires undone { expanded ≡ undone (last_tree_subs trees.old.items) failed.0 }

@@ -8,7 +8,7 @@ use commute_ops::MOST_AMOUNT;
 use tv_base::MOST_NODES;
 
 impl Form {
-    /// The greatest number of nodes: 16, or 64 of the second form.
+    /// The greatest number of nodes: 16 in the first form, 64 in the second.
     pub fn most_nodes(self) -> u8
         ensures { result ≡ most_nodes self }
     {
@@ -18,8 +18,8 @@ impl Form {
         }
     }
 
-    /// The greatest magnitude of an amount, of an initial value, and of what an item's magnitudes add up to: 10^15, or
-    /// 10^30 of the second form.
+    /// The greatest magnitude of an amount or an initial value, and the greatest sum of an item's magnitudes: 10^15 in
+    /// the first form, 10^30 in the second.
     pub fn most_amount(self) -> u128
         ensures most { result ≡ most_amount self }
         ensures small { result ≤ MOST_AMOUNT }

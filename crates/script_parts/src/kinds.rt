@@ -4,7 +4,7 @@ ghost use Rattle.script_parts.specs.ScriptData.{is_read, is_strict, is_update};
 
 use crate::parts::TreeKind;
 
-/// Whether a tree's kind is that of update trees.
+/// Whether this is the kind of update trees.
 pub fn is_update(kind: TreeKind) -> bool
     ensures { result ≡ is_update kind }
 {
@@ -15,7 +15,7 @@ pub fn is_update(kind: TreeKind) -> bool
     }
 }
 
-/// Whether a tree's kind is that of read trees.
+/// Whether this is the kind of read trees.
 pub fn is_read(kind: TreeKind) -> bool
     ensures { result ≡ is_read kind }
 {
@@ -26,7 +26,7 @@ pub fn is_read(kind: TreeKind) -> bool
     }
 }
 
-/// Whether a tree's kind is that of strict trees.
+/// Whether this is the kind of strict trees.
 pub fn is_strict(kind: TreeKind) -> bool
     ensures { result ≡ is_strict kind }
 {

@@ -1,5 +1,6 @@
-//! The parts of a script as plain data: trees, items and rows, when they are valid, the reasons for a refusal, what a
-//! record adds to them, the undone form, the locks that operations need, and when two of them are equal.
+//! The parts of a script as plain data: transactions, items and rows; when they are valid and when equal, what a record
+//! adds to them, why one is refused, the compensated form of a transaction that fails, and the locks that operations
+//! need.
 #![tactic(auto)]
 
 pub mod children;

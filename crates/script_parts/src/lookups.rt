@@ -9,7 +9,7 @@ use std::alloc::Global;
 use std::mem;
 use tv_base::{Name, NoMemory, NodeNo, Seq, SubNo};
 
-/// For so many subtransactions a tree has room from the beginning: most have no more.
+/// A tree has room for this many subtransactions from the start. Most have no more.
 const FEW_SUBS: usize = 4;
 
 /// The node of an item.
@@ -75,7 +75,7 @@ pub fn last_node(trees: &[Tree]) -> NodeNo
     sub.node
 }
 
-/// How many operations the last subtransaction of the last tree has, 0 where there is none.
+/// How many operations the last subtransaction of the last tree has, 0 if there is none.
 pub fn count_last_ops(trees: &[Tree]) -> usize
     ensures { result ≡ last_count trees.now }
 {
@@ -88,7 +88,7 @@ pub fn count_last_ops(trees: &[Tree]) -> usize
     }
 }
 
-/// A subtransaction with no operation, and room for so many.
+/// A subtransaction with no operation, and room for `room` of them.
 pub fn empty_sub(alloc: Global, parent: SubNo, node: NodeNo, room: usize) -> Result<Sub, NoMemory>
     ensures { IfOk result (λ s. s ≡ record { parent = parent; node = node; ops = [] }) }
 {
@@ -96,7 +96,7 @@ pub fn empty_sub(alloc: Global, parent: SubNo, node: NodeNo, room: usize) -> Res
     Ok(Sub { parent, node, ops })
 }
 
-/// A tree with its root alone, which has room for so many operations.
+/// A tree with its root alone, which has room for `room` operations.
 pub fn rooted(
     alloc: Global,
     name: Name,
@@ -117,7 +117,7 @@ pub fn rooted(
     })
 }
 
-/// Puts a subtransaction after those of the last tree.
+/// Puts a subtransaction after those of the last tree. If no memory is found, the trees are unchanged.
 pub fn push_sub(trees: &mut Vec<Tree>, sub: Sub) -> Result<(), NoMemory>
     requires { 0 < length trees.old.items }
     ensures ok { OnOk result (trees.new.items ≡ on_last (push_sub sub) trees.old.items) }
@@ -148,7 +148,7 @@ fn push_to_last(alloc: Global, subs: &mut Subs, op: SubOp) -> Result<(), NoMemor
     Ok(())
 }
 
-/// Puts an operation after those of the last subtransaction of the last tree.
+/// Puts an operation after those of the last tree's last subtransaction, or changes nothing if no memory is found.
 pub fn push_op(alloc: Global, trees: &mut Vec<Tree>, op: SubOp) -> Result<(), NoMemory>
     requires trees { 0 < length trees.old.items }
     requires subs { 0 < last_subs trees.old.items }

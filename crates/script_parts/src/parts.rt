@@ -2,7 +2,7 @@
 use commute_ops::{Amount, Kind, Op};
 use tv_base::{ItemNo, Name, NodeNo, Seq, SubNo, TreeNo};
 
-/// The form of a script, which says how much it may have.
+/// The form of a script, which sets its limits.
 #[derive(Clone, Copy, Debug, PartialEq, Eq)]
 pub enum Form {
     /// The first form: 1 to 16 nodes, and magnitudes of at most 10^15.
@@ -77,9 +77,9 @@ pub struct Tree {
     pub name: Name,
     /// What it may do.
     pub kind: TreeKind,
-    /// Its subtransactions. Where the tree is undone they are the undone form of those that it was written with.
+    /// Its subtransactions. If the tree fails, they are the compensated form of those that it was written with.
     pub subs: Subs,
-    /// What it was written as, where it is undone.
+    /// How it was written, if it fails.
     pub written: Option<Written>,
 }
 
@@ -105,6 +105,6 @@ pub enum ScriptRow {
     Advance,
     /// Waits until all before it has ended.
     Settle,
-    /// Makes the coordinator forget what it knows. Only a script of the second form has it.
+    /// Makes the coordinator forget its state, all but its epoch. Only a script of the second form has it.
     Lose,
 }

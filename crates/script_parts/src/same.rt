@@ -158,7 +158,7 @@ impl PartialEq for ItemRow {
     }
 }
 
-/// Two scripts compare equal exactly where their form, nodes, items, trees, rows and picks are equal.
+/// Two scripts compare equal exactly if their form, nodes, items, trees, rows and picks are equal.
 pub fn equal_scripts_are_the_same()
     ensures { (s t : ScriptData) → Decides (same_script s t) (SameScript s t) }
 {}

@@ -12,10 +12,10 @@ pub enum Why {
     /// The input has more than 8,388,608 bytes.
     #[error("the input has more than 8,388,608 bytes")]
     TooLong,
-    /// The first field is none of the row words.
+    /// The first field isn't the word of a row.
     #[error("the first field is none of the row words")]
     UnknownRow,
-    /// The number of fields isn't the row's.
+    /// The row has another number of fields.
     #[error("the number of fields isn't the row's")]
     WrongFields,
     /// The first record isn't a `nodes` row, or there is no record.
@@ -42,16 +42,16 @@ pub enum Why {
     /// No tree is begun.
     #[error("no tree is begun")]
     NoTree,
-    /// The parent is no earlier subtransaction of the tree.
+    /// The parent isn't an earlier subtransaction of the tree.
     #[error("the parent is no earlier subtransaction of the tree")]
     BadParent,
     /// The item isn't at the subtransaction's node.
     #[error("the item isn't at the subtransaction's node")]
     WrongNode,
-    /// The kind is none, or the operation doesn't fit the tree and the item.
+    /// There is no such kind, or the operation doesn't fit the tree and the item.
     #[error("the kind is none, or the operation doesn't fit the tree and the item")]
     WrongKind,
-    /// A limit on a number of things would be passed.
+    /// There would be more of something than a limit allows.
     #[error("a limit on a number of things would be passed")]
     TooMany,
     /// The item's magnitudes would add up to more than the form allows.
@@ -63,7 +63,7 @@ pub enum Why {
 }
 
 impl Why {
-    /// The reason's name, as a refusal is told.
+    /// The reason's name, as a refusal prints it.
     pub fn name(&self) -> &'static str
         ensures { result.now ≡ why_name self.now }
     {

@@ -1,4 +1,4 @@
-//! A clock that threads share, and letters between actors that can be neither copied nor made.
+//! A clock that threads share, and messages between actors that can be neither copied nor forged.
 #![tactic(auto)]
 
 mod first;

@@ -1,7 +1,7 @@
 // The name of a post, for types that are behind a lock.
 use std::marker::Brand;
 
-/// Which post it is. A value behind a lock is known by its type alone, so such a type takes a name. Whoever calls a
+/// The name of a post. Only the type of a value behind a lock is known, so such a type takes a name. The caller of a
 /// function that is generic over a name picks what it means there.
 pub trait PostName {
     ghost use Rattle.stamp_post.specs.Shown.{PostId};

@@ -133,8 +133,8 @@ impl Post {
         Ok(seats)
     }
 
-    /// A post of so many actors, at least 1, that has no posting. There is one seat for each actor, in order of number,
-    /// and the first letter, from and to the last actor. Each post is another one.
+    /// A new post of `actors` actors, at least 1, with no posting. It comes with a seat for each actor, in order of
+    /// number, and with the first letter, from the last actor to itself. No two posts are the same.
     pub fn start(alloc: Global, actors: u8) -> Result<PostParts, NoMemory>
         requires { 1 ≤ actors }
         ensures post { IfOk result (λ p. p.post.actors ≡ actors) }
@@ -154,7 +154,7 @@ impl Post {
         })
     }
 
-    /// The actor takes a letter that is addressed to it. It has none yet that it hasn't stamped.
+    /// Takes a letter for the actor to which it is addressed. The actor has no other that it hasn't stamped.
     pub fn take(&self, seat: &mut ActorSeat, envelope: Envelope) -> Letter
         requires post { (seat.old.post ≡ self.now) × (envelope.post ≡ self.now) }
         requires addressee { envelope.letter.to.0 ≡ seat.old.number }
@@ -200,7 +200,7 @@ impl Post {
         self.stamp_as::<Brand>(seat, letter, sent)
     }
 
-    /// The outbox of the actor's last posting, which has this stamp and sends these letters. It wasn't made yet.
+    /// The outbox of the actor's last posting, which has this stamp and sends these letters. It is made once.
     pub fn outbox(&self, seat: &mut ActorSeat, stamp: Stamp, sent: Letters) -> Outbox
         requires post { seat.old.post ≡ self.now }
         requires unsent { (p : Posting) × (seat.old.unsent ≡ Some p) × (p.stamp ≡ stamp) × (p.sent ≡ sent) }
@@ -253,7 +253,7 @@ impl Post {
             .join_seat::<JoinReceipt>(&mut first.seat, seat);
     }
 
-    /// The gatherer takes in a witness, and knows of one posting more.
+    /// Gives the gatherer a witness, so that it knows of one posting more.
     pub fn note(&self, gatherer: &mut Gatherer, witness: Witness)
         requires post { (gatherer.old.post ≡ self.now) × (witness.post ≡ self.now) }
         ensures { gatherer.new ≡ gatherer_data self.now (gatherer.old.known ++ receipt_joined witness ∷ []) }
@@ -318,8 +318,9 @@ impl Post {
         count
     }
 
-    /// Ties the postings of the actors' seats together, and takes the receipts in. They are those of one log that went
-    /// as letters do, with as many postings as the answer counts. What the gatherer knows of stands there too.
+    /// Joins the actors' seats and the receipts. There is one log, passed by the rules of messages, that has the
+    /// postings of each seat as its actor's, those of the receipts, and those that the gatherer knows of. The answer
+    /// counts its postings.
     pub fn gather(self, gatherer: Gatherer, seats: Seats, receipts: Receipts) -> Gathered
         requires gatherer { gatherer.post ≡ self }
         requires seats { All (λ s. s.post ≡ self) seats }
@@ -353,7 +354,7 @@ impl Outbox {
         }
     }
 
-    /// The next letter of the posting, in order. None exactly where none is left.
+    /// The next letter of the posting, in order. None exactly if none is left.
     pub fn next(&mut self, post: &Post) -> Option<Envelope>
         requires { self.old.post ≡ post.now }
         // None exactly where no letter is left

@@ -44,7 +44,7 @@ impl TableRule<(), View, u8> for Clock {
     ghost first = { first_view };
 }
 
-/// An actor off the first seat.
+/// Splits an actor off the first seat.
 pub struct SplitActor;
 
 impl Split<View> for SplitActor {
@@ -55,7 +55,7 @@ impl Split<View> for SplitActor {
     ghost right = { new_actor };
 }
 
-/// Go off the first seat.
+/// Splits Go off the first seat.
 pub struct SplitGo;
 
 impl Split<View> for SplitGo {
@@ -66,7 +66,7 @@ impl Split<View> for SplitGo {
     ghost right = { go_off };
 }
 
-/// The outbox of an actor's last posting off the actor.
+/// Splits the outbox of an actor's last posting off the actor.
 pub struct SplitOutbox;
 
 impl Split<View> for SplitOutbox {
@@ -77,7 +77,7 @@ impl Split<View> for SplitOutbox {
     ghost right = { outbox_off };
 }
 
-/// The next letter off an outbox.
+/// Splits the next letter off an outbox.
 pub struct SplitEnvelope;
 
 impl Split<View> for SplitEnvelope {
@@ -88,7 +88,7 @@ impl Split<View> for SplitEnvelope {
     ghost right = { letter_off };
 }
 
-/// A witness of an outbox's posting off the outbox.
+/// Splits a witness of an outbox's posting off the outbox.
 pub struct SplitWitness;
 
 impl Split<View> for SplitWitness {
@@ -99,7 +99,7 @@ impl Split<View> for SplitWitness {
     ghost right = { witness_off };
 }
 
-/// An envelope into its addressee.
+/// Joins an envelope into its addressee.
 pub struct JoinEnvelope;
 
 impl Join<View> for JoinEnvelope {
@@ -111,7 +111,7 @@ impl Join<View> for JoinEnvelope {
     ghost spent = { Spent };
 }
 
-/// An actor into the first seat.
+/// Joins an actor into the first seat.
 pub struct JoinActor;
 
 impl Join<View> for JoinActor {
@@ -123,7 +123,7 @@ impl Join<View> for JoinActor {
     ghost spent = { Spent };
 }
 
-/// A receipt or a witness into the first seat.
+/// Joins a receipt or a witness into the first seat.
 pub struct JoinReceipt;
 
 impl Join<View> for JoinReceipt {

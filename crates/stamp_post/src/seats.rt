@@ -58,7 +58,7 @@ impl Model for Gatherer {
     ghost invariant = { λ g. g.first.seats ≡ [] };
 }
 
-/// A letter in flight, addressed to one of the post's actors. It can be neither copied nor made otherwise.
+/// A letter in flight, addressed to one of the post's actors. It can be neither copied nor forged.
 pub struct Envelope {
     pub(crate) seat: Seat<(), View>,
     pub(crate) actors: u8,
@@ -165,7 +165,7 @@ impl Outbox {
         self.stamp
     }
 
-    /// The receipt of a posting whose letters are all out. The outbox comes back exactly where a letter is left.
+    /// The receipt of a posting whose letters are all out. The outbox comes back exactly if a letter is left.
     pub fn receipt(self) -> Result<Receipt, Outbox>
         ensures { MatchResult result
             (λ r. (r ≡ receipt_data self.post self.number self.own self.posting)
@@ -193,8 +193,8 @@ impl Outbox {
     }
 }
 
-/// That a posting was stamped, whether its letters are out or not. Contracts see its post, its actor, that actor's
-/// postings up to its own, and its own.
+/// Evidence that a posting was stamped, whether its letters are out or not. Contracts see its post, its actor, that
+/// actor's postings up to its own, and its own.
 #[derive(Drop)]
 pub struct Witness {
     pub(crate) seat: Seat<(), View>,
@@ -220,8 +220,8 @@ impl Model for Witness {
     ) };
 }
 
-/// That a posting was stamped and all its letters are out. Contracts see its post, its actor, that actor's postings up
-/// to its own, and its own.
+/// Evidence that a posting was stamped and all its letters are out. Contracts see its post, its actor, that actor's
+/// postings up to its own, and its own.
 #[derive(Drop)]
 pub struct Receipt {
     pub(crate) seat: Seat<(), View>,
@@ -256,5 +256,5 @@ impl Receipt {
     }
 }
 
-/// Receipts in any order. At most `MOST_ENTRIES` of them: a growth past that finds no memory.
+/// Receipts in any order, at most `MOST_ENTRIES`: adding one more is refused, as if memory had run out.
 pub type Receipts = Seq<Receipt, MOST_ENTRIES>;

@@ -11,7 +11,7 @@ use std::collections::BTreeMap;
 use std::marker::Model;
 use tv_base::{ItemNo, NoMemory, Seq, SubNo, TreeNo, Version};
 
-/// The notices of a tree, by subtransaction: the values that its gets gave, or None where it is missing.
+/// The notices of a tree, by subtransaction: the values that its gets gave, or None if it is missing.
 pub type Notices = Seq<Option<Values>, 0xffff_ffff>;
 
 /// A tree that is open at its home: its notices are gathered.
@@ -23,7 +23,7 @@ pub struct OpenTree {
     pub notices: Notices,
 }
 
-/// What a tree is answered.
+/// The answer to a tree.
 #[derive(Drop)]
 pub struct Answered {
     pub tree: TreeNo,
@@ -49,11 +49,11 @@ pub enum Prospect {
     NotMissing,
     /// It would be noted: another notice of the tree is missing too.
     Noted,
-    /// No other notice is missing: the tree would be answered so.
+    /// No other notice is missing: this would be the answer to the tree.
     Answered(Answered),
 }
 
-/// The answer of a tree that waits until each node that the tree visited has acknowledged the decision.
+/// An answer that waits until each node that its tree visits has acknowledged the decision.
 #[derive(Drop)]
 pub struct Held {
     pub answered: Answered,
@@ -62,8 +62,8 @@ pub struct Held {
 }
 
 /// The trees that have their home here and aren't answered yet, and the answers that are held here, by tree number. To
-/// begin, note and forget a tree, to hold an answer and to take an acknowledgement down takes time by the logarithm of
-/// how many there are.
+/// begin, note or forget a tree, to hold an answer, and to note an acknowledgement takes time logarithmic in how many
+/// there are.
 #[derive(Drop)]
 pub struct Homes {
     alloc: Global,
@@ -95,14 +95,14 @@ impl Homes {
         }
     }
 
-    /// Whether the tree is there.
+    /// Whether the tree is open here.
     pub fn has(&self, tree: TreeNo) -> bool
         ensures { result ≡ is_some (home_in tree (open_trees self.now)) }
     {
         find(&self.trees, tree).is_some()
     }
 
-    /// Whether the tree is there, `sub` is one of its subtransactions, and the notice of `sub` is missing.
+    /// Whether the tree is open here, `sub` is one of its subtransactions, and the notice of `sub` is missing.
     pub fn misses(&self, tree: TreeNo, sub: SubNo) -> bool
         ensures { result ≡ misses tree sub (open_trees self.now) }
     {
@@ -112,7 +112,7 @@ impl Homes {
         }
     }
 
-    /// Adds a tree of `subs` subtransactions, whose notices are all missing. Where no memory is found the homes are
+    /// Adds a tree of `subs` subtransactions, whose notices are all missing. If no memory is found, the homes are
     /// unchanged.
     pub fn begin(&mut self, tree: TreeNo, subs: u32, version: Version) -> Result<(), NoMemory>
         requires some { 0 < subs }
@@ -127,9 +127,8 @@ impl Homes {
         Ok(())
     }
 
-    /// Takes the values of `sub` down as its notice. Where that was the last that was missing, the tree is gone and
-    /// its answer is given. The other trees stay. Where no memory is found the homes are unchanged and the values
-    /// come back.
+    /// Notes the values of `sub` as its notice. If no other was missing, the tree is gone and its answer is given. The
+    /// other trees stay. If no memory is found, the homes are unchanged and the values come back.
     #[tactic(auto, using(crate::proofs::Gathered::telling))]
     pub fn note(
         &mut self,
@@ -181,8 +180,8 @@ impl Homes {
         }
     }
 
-    /// The version of the answer that the notice of `sub` completes, whatever values it brings. None exactly where that
-    /// notice isn't missing, or another notice of the tree is missing too. Needs no memory.
+    /// The version of the answer that the notice of `sub` completes, whatever values it brings. None exactly if that
+    /// notice isn't missing, or another notice of the tree is missing too. It needs no memory.
     #[tactic(auto, using(crate::proofs::Gathered::telling_version))]
     pub fn would_answer_in(&self, tree: TreeNo, sub: SubNo) -> Option<Version>
         ensures { (values : Gets) → result ≡ (if misses tree sub (open_trees self.now)
@@ -194,7 +193,7 @@ impl Homes {
         }
     }
 
-    /// How many notices of the tree are missing, 0 where the tree isn't there.
+    /// How many notices of the tree are missing, 0 if the tree isn't open here.
     fn still_missing(&self, tree: TreeNo) -> u32
         ensures { result ≡ missing_in tree (open_trees self.now) }
     {
@@ -204,7 +203,7 @@ impl Homes {
         }
     }
 
-    /// Takes a tree away. The others stay. Needs no memory.
+    /// Removes a tree. The others stay. It needs no memory.
     pub fn forget(&mut self, tree: TreeNo)
         requires { IsSome (home_in tree (open_trees self.old)) }
         ensures forgotten { open_trees self.new ≡ forgotten tree (open_trees self.old) }
@@ -214,7 +213,7 @@ impl Homes {
         remove(&mut self.trees, tree);
     }
 
-    /// Takes the values of `sub` down as its notice, where another notice of the tree is missing too. Needs no memory.
+    /// Notes the values of `sub` as its notice. Another notice of the tree is missing too. It needs no memory.
     pub fn put_notice(&mut self, tree: TreeNo, sub: SubNo, values: Values)
         requires misses { IsTrue (misses tree sub (open_trees self.old)) }
         requires another { 1 < missing_in tree (open_trees self.old) }
@@ -224,8 +223,8 @@ impl Homes {
         put(&mut self.trees, tree, sub, values);
     }
 
-    /// Holds an answer until so many acknowledgements have come. The open trees and the other answers stay. Where no
-    /// memory is found the homes are unchanged and the answer comes back.
+    /// Holds an answer until `waits` acknowledgements have come. The open trees and the other answers stay. If no
+    /// memory is found, the homes are unchanged and the answer comes back.
     pub fn hold(&mut self, answered: Answered, waits: u32) -> Result<(), (NoMemory, Answered)>
         requires some { 0 < waits }
         requires absent { held_in answered.tree (held_answers self.old) ≡ None }
@@ -238,9 +237,9 @@ impl Homes {
         hold_answer(&mut self.held, answered, waits)
     }
 
-    /// Takes an acknowledgement of a tree down whose answer is held. None exactly where another is still missing after
-    /// it: then one fewer is missing. Else the answer that was held is given, and is held no more. The open trees and
-    /// the other answers stay. Needs no memory.
+    /// Notes an acknowledgement for a tree whose answer is held. None exactly if another is still missing: then one
+    /// fewer is. Else the answer is given, and is no longer held. The open trees and the other answers stay. It needs
+    /// no memory.
     pub fn acked(&mut self, tree: TreeNo) -> Option<Answered>
         requires { IsSome (held_in tree (held_answers self.old)) }
         ensures answer { result ≡ answer_when_acked tree (held_answers self.old) }
@@ -251,8 +250,8 @@ impl Homes {
         acknowledge(&mut self.held, tree)
     }
 
-    /// Holds the answer of a tree no more, however many acknowledgements are missing. The open trees and the other
-    /// answers stay. Needs no memory.
+    /// Drops the answer that is held for a tree, however many acknowledgements are missing. The open trees and the
+    /// other answers stay. It needs no memory.
     pub fn take_back(&mut self, tree: TreeNo)
         ensures held { held_answers self.new ≡ put_at tree.0 None (held_answers self.old) }
         ensures opened { self.new.opened ≡ self.old.opened }
@@ -261,7 +260,7 @@ impl Homes {
         remove(&mut self.held, tree);
     }
 
-    /// The answer of a tree that is held, and how many acknowledgements it misses. None exactly where none is held.
+    /// The answer that is held for a tree, and how many acknowledgements are missing. None exactly if none is held.
     pub fn held(&self, tree: TreeNo) -> Option<&Held>
         ensures { option_copied result ≡ held_in tree (held_answers self.now) }
     {
@@ -291,7 +290,7 @@ fn put(trees: &mut BTreeMap<TreeNo, OpenTree>, tree: TreeNo, sub: SubNo, values:
     add_notice(opened, sub, values);
 }
 
-/// Puts an answer under its tree's number. Where no memory is found the map is unchanged and the answer comes back.
+/// Puts an answer under its tree's number. If no memory is found, the map is unchanged and the answer comes back.
 fn hold_answer(
     held: &mut BTreeMap<TreeNo, Held>,
     answered: Answered,
@@ -319,7 +318,7 @@ fn waits_for_more(held: &BTreeMap<TreeNo, Held>, tree: TreeNo) -> bool
     }
 }
 
-/// Makes one acknowledgement of a tree fewer missing, where another is missing beside it.
+/// Makes one acknowledgement of a tree fewer missing, if another is missing beside it.
 fn count_down(held: &mut BTreeMap<TreeNo, Held>, tree: TreeNo)
     requires { IsTrue (waits_for_more (held_in tree (by_tree held.old.entries))) }
     ensures acked { by_tree held.new.entries ≡ acked tree (by_tree held.old.entries) }
@@ -337,7 +336,7 @@ fn one_fewer(found: &mut Held)
     found.waits -= 1;
 }
 
-/// Takes an acknowledgement of a tree down, and gives the answer where none is missing after it.
+/// Notes an acknowledgement for a tree, and gives the answer if none is missing after it.
 #[tactic(auto, using(crate::proofs::Holding::acking))]
 fn acknowledge(held: &mut BTreeMap<TreeNo, Held>, tree: TreeNo) -> Option<Answered>
     requires { IsSome (held_in tree (by_tree held.old.entries)) }
@@ -388,7 +387,7 @@ fn count_missing(notices: &Notices) -> u32
     missing
 }
 
-/// The version of a tree that misses one notice at most. None exactly where it misses more.
+/// The version of a tree that misses one notice at most. None exactly if it misses more.
 fn last_version(opened: &OpenTree) -> Option<Version>
     ensures { result ≡ last_version opened.now }
 {
@@ -409,7 +408,7 @@ fn prospect_of(answer: Option<Answered>) -> Prospect
     }
 }
 
-/// The answer of a tree with the values of `sub`, or None where another notice is missing too.
+/// The answer of a tree with the values of `sub`, or None if another notice is missing too.
 #[tactic(auto, using(crate::proofs::Gathered::completing))]
 fn answer(
     alloc: Global,
@@ -435,7 +434,7 @@ fn answer(
     }
 }
 
-/// All values by subtransaction, those of `sub` in their place, or None where another notice is missing.
+/// All values by subtransaction, those of `sub` in their place, or None if another notice is missing.
 #[tactic(auto, using(crate::proofs::Gathered::gathering))]
 fn gather(
     alloc: Global,

@@ -3,16 +3,16 @@ ghost use Rattle.tree_home.specs.declared.homes.OpenTree.{OpenTree};
 ghost use Rattle.tree_home.specs.HeldLaws.{AckedCountsDown, AckedKeepsOthers, AckedWaits, HeldForOneComesBack, HeldIsThere, HoldingKeepsOthers, HoldingWaits, LastSetsFree};
 ghost use Rattle.tree_home.specs.Laws.{BegunKeepsOthers, NotedKeepsOthers, ForgottenKeepsOthers, BegunIsThere, NotedIsThere, ForgottenIsGone, ForgottenTakesBack, EntriesAreTheirTrees, MissesWhenBegun, AllMissing, MissesOthers, OneFewer, AnsweredExactly, AnswerIsTheTrees, GatheredInOrder};
 
-/// The home of any other tree stays as it is when a tree begins, has a notice, or goes. It does nothing: its contract
-/// is the law.
+/// When a tree begins, gets a notice or goes, what is open of any other tree stays as it is. It does nothing: its
+/// contract is the law.
 pub fn other_trees_stay()
     ensures begun { BegunKeepsOthers }
     ensures noted { NotedKeepsOthers }
     ensures forgotten { ForgottenKeepsOthers }
 {}
 
-/// A tree that has begun is there with all notices missing, and has each notice that is taken down. A tree that is
-/// forgotten is gone; where it has just begun, the homes are as before. It does nothing: its contract is the law.
+/// A tree that has begun is there with all notices missing, and has each notice that is noted. A tree that is forgotten
+/// is gone; if it had just begun, the homes are as before. It does nothing: its contract is the law.
 pub fn a_tree_comes_and_goes()
     ensures begun { BegunIsThere }
     ensures noted { NotedIsThere }
@@ -20,7 +20,7 @@ pub fn a_tree_comes_and_goes()
     ensures back { ForgottenTakesBack }
 {}
 
-/// What is kept is no more than the trees and the answers: where these are the same, it is the same. So a tree that
+/// Homes are determined by their open trees and held answers: if these are the same, so are the homes. So a tree that
 /// begins and is forgotten leaves what was there before, and so does an answer that is held and set free. It does
 /// nothing: its contract is the law.
 pub fn entries_are_their_trees()
@@ -28,9 +28,8 @@ pub fn entries_are_their_trees()
     ensures held { EntriesAreTheirTrees Held }
 {}
 
-/// When a tree begins, the notices of all its subtransactions are missing and of none besides. A notice that is taken
-/// down is missing no more, and each other one is missing as before, so one fewer is. It does nothing: its contract is
-/// the law.
+/// When a tree begins, exactly the notices of its subtransactions are missing. A notice that is noted is no longer
+/// missing, and each other one is missing as before, so one fewer is. It does nothing: its contract is the law.
 pub fn what_is_missing()
     ensures begun { MissesWhenBegun }
     ensures all { AllMissing }
@@ -38,16 +37,15 @@ pub fn what_is_missing()
     ensures one_fewer { OneFewer }
 {}
 
-/// A tree is answered exactly where no notice is missing after this one. The answer names the tree, and has its
-/// version and the values of all notices in the order of their subtransactions. It does nothing: its contract is the
-/// law.
+/// A tree is answered exactly if no notice is missing after this one. The answer names the tree, and has its version
+/// and the values of all notices in the order of their subtransactions. It does nothing: its contract is the law.
 pub fn answered_when_none_is_missing()
     ensures exactly { AnsweredExactly }
     ensures answer { AnswerIsTheTrees }
     ensures order { GatheredInOrder }
 {}
 
-/// What is held of any other tree stays as it is when an answer is held, and at an acknowledgement. It does nothing:
+/// When an answer is held or an acknowledgement comes, what is held for any other tree stays as it is. It does nothing:
 /// its contract is the law.
 pub fn other_answers_stay()
     ensures holding { HoldingKeepsOthers }
@@ -55,8 +53,8 @@ pub fn other_answers_stay()
 {}
 
 /// An answer that is held is there, with its acknowledgements missing. Each one makes one fewer missing, and the last
-/// sets the answer free: then nothing is held of its tree. So an answer that is held for one acknowledgement comes with
-/// it, and what is held is as before. It does nothing: its contract is the law.
+/// sets the answer free: then nothing is held for its tree. So an answer that is held for one acknowledgement is given
+/// by it, and then what is held is as before. It does nothing: its contract is the law.
 pub fn held_answers_come_and_go()
     ensures there { HeldIsThere }
     ensures fewer { AckedCountsDown }
@@ -64,7 +62,7 @@ pub fn held_answers_come_and_go()
     ensures back { HeldForOneComesBack }
 {}
 
-/// Of each answer that is held at least one acknowledgement is missing. It does nothing: its contract is the law.
+/// Each answer that is held misses at least one acknowledgement. It does nothing: its contract is the law.
 pub fn a_held_answer_waits()
     ensures holding { HoldingWaits }
     ensures acked { AckedWaits }

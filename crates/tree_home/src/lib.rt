@@ -1,5 +1,5 @@
-//! Trees at their home: the notices of a tree's subtransactions are gathered until the tree can be answered, and an
-//! answer is held where it has to wait for acknowledgements, each in an ordered map.
+//! Transactions at their home, which gathers the notices of their subtransactions until it can answer them, and holds
+//! an answer if it has to wait for acknowledgements; each in an ordered map.
 #![tactic(auto)]
 
 mod homes;

@@ -6,14 +6,14 @@ ghost use Rattle.tree_home.specs.Maps.{AreAscending, by_tree, put_at};
 use std::collections::BTreeMap;
 use tv_base::{NoMemory, TreeNo};
 
-/// What a map has of a tree.
+/// What a map has for a tree.
 pub fn find<X>(map: &BTreeMap<TreeNo, X>, tree: TreeNo) -> Option<&X>
     ensures { option_copied result ≡ by_tree map.now.entries tree.0 }
 {
     map.get(&tree)
 }
 
-/// Puts a value under a tree's number. Where no memory is found the map is unchanged and the value comes back.
+/// Puts a value under a tree's number. If no memory is found, the map is unchanged and the value comes back.
 pub fn insert<X: Drop>(
     map: &mut BTreeMap<TreeNo, X>,
     tree: TreeNo,
@@ -31,7 +31,7 @@ pub fn insert<X: Drop>(
     }
 }
 
-/// Takes what a map has of a tree away, and gives it.
+/// Removes what a map has for a tree, and gives it.
 pub fn remove<X: Drop>(map: &mut BTreeMap<TreeNo, X>, tree: TreeNo) -> Option<X>
     ensures value { result ≡ by_tree map.old.entries tree.0 }
     ensures removed { by_tree map.new.entries ≡ put_at tree.0 None (by_tree map.old.entries) }

@@ -7,14 +7,14 @@ ghost use Rattle.tx_trees.specs.declared.parts.TreeKind.TheVariants.{Update};
 ghost use Rattle.tree_undo.specs.Balance.{sum_of_subs};
 ghost use Rattle.tx_trees.specs.Undone.{undone};
 
-/// What the subtransactions of an undone tree add to an item adds up to nothing.
+/// What the subtransactions of a compensated tree add to an item adds up to 0.
 pub fn an_undone_tree_adds_up_to_nothing()
     ensures { (subs : List Sub) (failed x : ℕ) → sum_of_subs x (undone subs failed) ≡ pos 0 }
 {}
 
-/// Subtransactions of a valid update tree, of which one fails, are in their undone form such subtransactions again:
-/// parents come before their children, each is at a node of the script, and each operation fits its item. Only how many
-/// there are is another matter.
+/// If a subtransaction of a valid update tree fails, the compensated form is valid again, but that it may have too many
+/// subtransactions: parents come before their children, each is at a node of the script, and each operation fits its
+/// item.
 pub fn an_undone_tree_is_a_tree()
     ensures { (nodes : ℕ) (items : List ItemRow) (subs : List Sub) (failed : ℕ) → failed < length subs
         → AreSubs nodes items Update 0 subs → AreSubs nodes items Update 0 (undone subs failed) }

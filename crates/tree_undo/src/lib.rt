@@ -1,5 +1,5 @@
-//! Trees that are undone: a tree one of whose subtransactions fails, written out so that it leaves no trace; that what
-//! it adds comes to nothing.
+//! The compensated form of a transaction one of whose subtransactions fails, and the laws that what it adds comes to 0
+//! and that it is a tree again.
 #![tactic(auto)]
 
 mod laws;

@@ -88,9 +88,9 @@ fn push_inverses(
     Ok(())
 }
 
-/// What the subtransactions of an update tree become once one of them fails. Those that the failed one sent, and those
-/// that these sent, don't run; the failed one does nothing; each other one is undone by a child of the failed one, at
-/// the same node, which adds its amounts with the other sign. Running out of memory is the only error.
+/// The compensated form of an update tree's subtransactions of which `failed` fails. Those below the failed one don't
+/// run, and the failed one does nothing. Each other one that has operations is compensated by a child of the failed
+/// one, at the same node, which adds the same amounts with the other sign. The one error is running out of memory.
 pub fn expand(alloc: Global, subs: &Subs, failed: SubNo) -> Result<Subs, NoMemory>
     requires few { length subs.now ≤ MOST_SUBS_OF_TREE }
     requires small { AllByRecursion (λ s. AllByRecursion (λ o. magnitude o.deed ≤ MOST_AMOUNT) s.ops) subs.now }

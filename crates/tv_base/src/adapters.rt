@@ -34,7 +34,7 @@ impl<R: Read> Source for ReaderSource<R> {
 
     ghost faults = { λ s. s.faults };
 
-    /// One read of the reader. No byte is the end, and an error a fault.
+    /// Reads from the reader once. A read of no byte is the end, and an error is a fault.
     fn read(&mut self, buf: &mut [u8]) -> ReadStep
         requires { 0 < length buf.old }
         ensures step { Reads (R.remaining self.old.inner) (R.remaining self.new.inner) result buf.new }
@@ -82,7 +82,7 @@ impl<W: Write> Sink for WriterSink<W> {
 
     ghost faults = { λ s. s.faults };
 
-    /// One write to the writer. An error, or a write of no byte, is a fault.
+    /// Writes to the writer once. An error, or a write of no byte, is a fault.
     fn write(&mut self, piece: &[u8]) -> WriteStep
         requires { 0 < length piece.now }
         ensures step { Writes (W.contents self.old.inner) (W.contents self.new.inner) result piece.now }

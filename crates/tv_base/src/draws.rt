@@ -2,7 +2,7 @@
 ghost use Rattle.std.specs.Prelude.{◌≡◌};
 ghost use Rattle.tv_base.specs.Draws.{next_draw, upper_bits};
 
-/// The number after this one (docs/ALGORITHM.md, "Schedules").
+/// The number that is drawn after this one (docs/ALGORITHM.md, "Schedules").
 pub fn next_draw(number: u64) -> u64
     ensures { result ≡ next_draw number }
 {

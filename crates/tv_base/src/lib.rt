@@ -1,6 +1,6 @@
-//! The numbers, lists and names that every other crate speaks of, and the outside: numbers with names of their own and
-//! the limits of several crates, `NoMemory`, the list type `Seq`, `Name`, `Text`; draws; sums over lists; sources, sinks and gates, in
-//! memory and over std's readers and writers; reading all and writing all.
+//! What every other crate uses: numbers with types of their own, limits, `NoMemory`, the list type `Seq`, `Name` and
+//! `Text`; numbers drawn from a seed; sums over lists; sources, sinks and gates, in memory and over std's readers and
+//! writers; reading a whole source and writing a whole text.
 #![tactic(auto)]
 
 mod adapters;

@@ -8,7 +8,8 @@ use crate::outside::{ReadStep, Sink, Source, WriteStep};
 use std::alloc::Global;
 use std::marker::Model;
 
-/// A source of bytes in memory that gives at most so many a call, and fails at the calls whose numbers are listed.
+/// A source of bytes in memory. A call gives at most a fixed number of them, and the calls whose numbers are listed
+/// fail.
 #[derive(Drop)]
 pub struct MemSource {
     bytes: Vec<u8>,
@@ -31,7 +32,7 @@ impl Model for MemSource {
 }
 
 impl MemSource {
-    /// A source of these bytes. A call gives at most `most` of them, which is at least 1, and the calls whose numbers
+    /// A source of these bytes. A call gives at most `most` of them, which is at least 1. The calls whose numbers
     /// `fails` lists, counted from 1, fail.
     pub fn new(bytes: Vec<u8>, most: usize, fails: Vec<u32>) -> MemSource
         requires { 0 < most }
@@ -74,7 +75,7 @@ impl Source for MemSource {
 
     ghost faults = { λ s. s.faults };
 
-    /// Fails exactly where the number of the call is listed.
+    /// Fails exactly if the number of the call is listed.
     fn read(&mut self, buf: &mut [u8]) -> ReadStep
         requires { 0 < length buf.old }
         ensures step { Reads (Some self.old.left) (Some self.new.left) result buf.new }
@@ -100,8 +101,8 @@ impl Source for MemSource {
     }
 }
 
-/// A sink in memory with so much room that takes at most so many bytes a call, and fails at the calls whose numbers are
-/// listed and where no room is left.
+/// A sink in memory with fixed room. A call takes at most a fixed number of bytes. The calls whose numbers are listed
+/// fail, and so does each call once no room is left.
 #[derive(Drop)]
 pub struct MemSink {
     bytes: Vec<u8>,
@@ -124,8 +125,8 @@ impl Model for MemSink {
 }
 
 impl MemSink {
-    /// An empty sink with room for `room` bytes. A call takes at most `most` of them, which is at least 1, and the
-    /// calls whose numbers `fails` lists, counted from 1, fail, as do all where no room is left.
+    /// An empty sink with room for `room` bytes. A call takes at most `most` of them, which is at least 1. The calls
+    /// whose numbers `fails` lists, counted from 1, fail, and so does each call once no room is left.
     pub fn new(
         alloc: Global,
         room: usize,
@@ -174,7 +175,7 @@ impl Sink for MemSink {
 
     ghost faults = { λ s. s.faults };
 
-    /// Fails exactly where the number of the call is listed or no room is left.
+    /// Fails exactly if the number of the call is listed or no room is left.
     fn write(&mut self, piece: &[u8]) -> WriteStep
         requires { 0 < length piece.now }
         ensures step { Writes (Some self.old.written) (Some self.new.written) result piece.now }

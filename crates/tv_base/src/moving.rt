@@ -37,9 +37,9 @@ impl From<AllocError> for ReadEnd {
 #[derive(Clone, Copy, Debug, PartialEq, Eq)]
 pub struct WriteFailed;
 
-/// All the bytes that the source has, if they are at most so many.
+/// All bytes that the source has, if there are at most `most`.
 ///
-/// At most one byte more than that is taken from the source, whatever the answer.
+/// Whatever the answer, at most `most + 1` bytes are taken from the source.
 pub fn read_all<S: Source>(alloc: Global, source: &mut S, most: usize) -> Result<Vec<u8>, ReadEnd>
     requires { most < 2 ^ 64 - 1 }
     ensures all { IfOk result (λ v. Consumes (S.left source.old) (S.left source.new) v.items) }
@@ -68,7 +68,7 @@ pub fn read_all<S: Source>(alloc: Global, source: &mut S, most: usize) -> Result
     }
 }
 
-/// Writes the whole text to the sink, or a prefix of it up to a fault.
+/// Writes the whole text to the sink. If the sink fails, a prefix of the text is written.
 pub fn write_all<K: Sink>(sink: &mut K, text: &[u8]) -> Result<(), WriteFailed>
     ensures whole { OnOk result (Appends (K.written sink.old) (K.written sink.new) text.now) }
     ensures front { OnErr result (AppendsFront (K.written sink.old) (K.written sink.new) text.now) }

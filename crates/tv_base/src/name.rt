@@ -8,7 +8,7 @@ ghost use Rattle.tv_base.specs.SameNames.{same_input};
 use std::hash::{Hash, Hasher};
 use std::marker::Model;
 
-/// 1 to 32 bytes, seen by contracts as the list of them.
+/// A name of 1 to 32 bytes. Contracts see the list of its bytes.
 #[derive(Clone, Copy, Debug)]
 pub struct Name {
     held: [u8; 32],
@@ -57,7 +57,7 @@ impl Hash for Name {
 }
 
 impl Name {
-    /// The name of these bytes. None exactly where there is no byte, or more than 32.
+    /// The name of these bytes. None exactly if there are none or more than 32.
     pub fn new(bytes: &[u8]) -> Option<Name>
         ensures { MatchOption result ((length bytes.now ≡ 0) ⊎ (32 < length bytes.now))
             (λ n. (n ≡ bytes.now) × (0 < length bytes.now) × (length bytes.now ≤ 32)) }
@@ -74,7 +74,7 @@ impl Name {
         })
     }
 
-    /// The bytes.
+    /// The name's bytes.
     pub fn bytes(&self) -> &[u8]
         ensures value { result.now ≡ self.now }
         ensures some { 0 < length self.now }

@@ -1,13 +1,13 @@
 // Numbers with names of their own, and the one answer where memory runs out.
 use std::alloc::{AllocError, AllocFailed};
 
-/// The most nodes that a script has, of any form.
+/// The most nodes that a script may have, in either form.
 pub const MOST_NODES: usize = 64;
 
-/// The most subtransactions that a tree has.
+/// The most subtransactions that a tree may have.
 pub const MOST_SUBS_OF_TREE: usize = 64;
 
-/// The most entries that a history has: a growth past that finds no memory.
+/// The most entries that a history may have: adding one more is refused, as if memory had run out.
 pub const MOST_ENTRIES: usize = 0x100_0000_0000;
 
 /// A node, counted from 0.
@@ -34,11 +34,11 @@ pub struct ItemNo(pub u32);
 #[derive(Clone, Copy, Debug, Default, PartialEq, Eq, PartialOrd, Ord, Hash)]
 pub struct Version(pub u64);
 
-/// The place of an entry in its history, from 1. Stamp 0 is that of no entry.
+/// The place of an entry in its history, from 1. No entry has stamp 0.
 #[derive(Clone, Copy, Debug, Default, PartialEq, Eq, PartialOrd, Ord, Hash)]
 pub struct Stamp(pub u64);
 
-/// No memory was found. After it every borrowed value is unchanged.
+/// No memory was found. Unless a function says otherwise, every borrowed value is unchanged.
 #[derive(Clone, Copy, Debug, PartialEq, Eq)]
 pub struct NoMemory;
 

@@ -8,7 +8,7 @@ use crate::numbers::ActorNo;
 /// What one read gave.
 #[derive(Clone, Copy, Debug, PartialEq, Eq)]
 pub enum ReadStep {
-    /// So many bytes, at the front of the buffer: at least 1, and at most its length.
+    /// This many bytes, at the front of the buffer: at least 1, and at most its length.
     Got(usize),
     /// No byte, since none is left.
     End,
@@ -19,7 +19,7 @@ pub enum ReadStep {
 /// What one write took.
 #[derive(Clone, Copy, Debug, PartialEq, Eq)]
 pub enum WriteStep {
-    /// So many bytes from the front of the piece: at least 1, and at most its length.
+    /// This many bytes from the front of the piece: at least 1, and at most its length.
     Took(usize),
     /// No byte, since there was a fault. What was written stays as it was.
     Failed,
@@ -27,7 +27,7 @@ pub enum WriteStep {
 
 /// Where bytes come from. It counts its faults, up to 2^64 - 1, and the count never falls.
 pub trait Source {
-    /// The bytes that are left, where the source tells them.
+    /// The bytes that are left, if the source tells them.
     ghost left: { Self → Option (List ℕ) };
 
     /// How many faults it has had.
@@ -35,8 +35,8 @@ pub trait Source {
 
     /// Reads into the front of a buffer that is not empty.
     ///
-    /// `Got` gives the bytes that were next. `End` comes only where none is left, or where the source does not tell.
-    /// `Failed` comes only with one more fault counted, and takes nothing from what is left.
+    /// `Got` gives the bytes that were next. `End` comes only if none is left, or if the source doesn't tell what is
+    /// left. `Failed` comes only with one more fault counted, and takes nothing from what is left.
     fn read(&mut self, buf: &mut [u8]) -> ReadStep
         requires { 0 < length buf.old }
         ensures step { Reads (left self.old) (left self.new) result buf.new }
@@ -46,7 +46,7 @@ pub trait Source {
 
 /// Where bytes go. It counts its faults, up to 2^64 - 1, and the count never falls.
 pub trait Sink {
-    /// The bytes written so far, where the sink tells them.
+    /// The bytes written so far, if the sink tells them.
     ghost written: { Self → Option (List ℕ) };
 
     /// How many faults it has had.
@@ -63,13 +63,13 @@ pub trait Sink {
         ensures cause { result ≡ WriteStep.Failed → Rose (faults self.old) (faults self.new) };
 }
 
-/// Where actors may be held.
+/// A place where actors may be made to wait.
 pub trait Gate {
-    /// May wait, and changes nothing of the product.
+    /// May wait. It has no other effect on a run.
     fn hold(&self, actor: ActorNo);
 }
 
-/// The gate that holds nobody.
+/// The gate at which nobody waits.
 #[derive(Clone, Copy, Debug)]
 pub struct NoGate;
 

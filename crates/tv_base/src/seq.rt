@@ -9,7 +9,7 @@ use std::mem;
 /// The length from which on a list grows by more than it needs at once.
 const SHORT: usize = 4;
 
-/// A list of at most `MOST` items that grows at its end, seen by contracts as the list of its items.
+/// A list of at most `MOST` items that grows at its end. Contracts see the list of its items.
 #[derive(Clone)]
 pub struct Seq<T, const MOST: usize> {
     inner: Vec<T>,
@@ -41,7 +41,7 @@ impl<T, const MOST: usize> Seq<T, MOST> {
         }
     }
 
-    /// An empty list with room for so many items.
+    /// An empty list with room for `room` items.
     pub fn with_capacity(alloc: Global, room: usize) -> Result<Seq<T, MOST>, NoMemory>
         ensures { IfOk result (λ s. s ≡ []) }
     {
@@ -57,7 +57,7 @@ impl<T, const MOST: usize> Seq<T, MOST> {
         self.inner.as_slice()
     }
 
-    /// The list of these items, which takes no memory.
+    /// The list of these items. It needs no memory.
     pub fn from_vec(items: Vec<T>) -> Seq<T, MOST>
         requires { length items.items ≤ MOST }
         ensures { result ≡ items.items }
@@ -87,7 +87,7 @@ impl<T, const MOST: usize> Seq<T, MOST> {
         Ok(())
     }
 
-    /// Takes the last item off. None exactly where the list is empty.
+    /// Takes the last item off. None exactly if the list is empty.
     pub fn pop(&mut self) -> Option<T>
         ensures none { IsNone result ↔ (self.old ≡ []) }
         ensures last { IfSome result (λ one. self.old ≡ self.new ++ one ∷ []) }
@@ -96,9 +96,9 @@ impl<T, const MOST: usize> Seq<T, MOST> {
         self.inner.pop()
     }
 
-    /// Takes the first item out and leaves the others in order. None exactly where the list is empty.
+    /// Takes the first item out and leaves the others in order. None exactly if the list is empty.
     ///
-    /// The items after it move up, so a long list is better gone over by `items`.
+    /// The items after it move up, so go over a long list by `items` instead.
     pub fn take_first(&mut self) -> Option<T>
         ensures none { IsNone result ↔ (self.old ≡ []) }
         ensures first { IfSome result (λ one. self.old ≡ one ∷ self.new) }

@@ -6,7 +6,7 @@ use crate::numbers::NoMemory;
 use std::alloc::Global;
 use std::marker::Model;
 
-/// A text of ASCII bytes, seen by contracts as the list of them.
+/// A text of ASCII bytes. Contracts see the list of its bytes.
 #[derive(Drop)]
 pub struct Text {
     inner: Vec<u8>,
@@ -41,7 +41,7 @@ impl Text {
         self.inner.as_slice()
     }
 
-    /// The bytes, in order: another name of `bytes`, as the list types have it.
+    /// The same as `bytes`, under the name that the list types use.
     pub fn items(&self) -> &[u8]
         ensures items { result.now ≡ self.now }
         ensures ascii { IsAscii self.now }
@@ -49,7 +49,7 @@ impl Text {
         self.inner.as_slice()
     }
 
-    /// Adds a byte at the end. Where no memory is found the text stays as it is and the byte comes back.
+    /// Adds a byte at the end. If no memory is found, the text stays as it is and the byte comes back.
     pub fn push(&mut self, one: u8) -> Result<(), (NoMemory, u8)>
         requires { one < 128 }
         ensures ok { OnOk result (self.new ≡ self.old ++ one ∷ []) }
@@ -62,7 +62,7 @@ impl Text {
         }
     }
 
-    /// Adds the bytes of an ASCII text at the end. Where no memory is found the text stays as it is.
+    /// Adds the bytes of an ASCII text at the end. If no memory is found, the text stays as it is.
     pub fn push_all(&mut self, more: &[u8]) -> Result<(), NoMemory>
         requires { IsAscii more.now }
         ensures ok { OnOk result (self.new ≡ self.old ++ more.now) }
@@ -72,7 +72,8 @@ impl Text {
         Ok(())
     }
 
-    /// Where what was to be added wasn't, for lack of memory, takes off what stands behind so many bytes.
+    /// Takes an addition back that failed: if `added` is an error, cuts the text to its first `length` bytes. Answers
+    /// `added`.
     #[tactic(auto, using(crate::proofs::Fronts::ascii_front))]
     pub fn all_or_none(
         &mut self,
@@ -89,7 +90,7 @@ impl Text {
         added
     }
 
-    /// Takes the first byte out. None exactly where the text is empty.
+    /// Takes the first byte out. None exactly if the text is empty.
     pub fn take_first(&mut self) -> Option<u8>
         ensures none { IsNone result ↔ (self.old ≡ []) }
         ensures first { IfSome result (λ one. self.old ≡ one ∷ self.new) }

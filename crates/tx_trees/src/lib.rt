@@ -1,6 +1,6 @@
-//! Scripts: the nodes, items, trees, rows and picks that a run is made of. A script is valid by its type, and is built
-//! record by record, trees that fail included, or again from its own rows. What it is made of is in `script_parts`, and
-//! is passed on from there, so crates above name `tx_trees` alone.
+//! Scripts: the nodes, items, transactions, rows and picks of a run. A script is valid by its type. It is built record
+//! by record, transactions that fail included, and its own rows build it again. It passes the parts in `script_parts`
+//! on, so crates above name `tx_trees` alone.
 #![tactic(auto)]
 
 mod name_index;

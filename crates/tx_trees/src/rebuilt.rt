@@ -3,8 +3,8 @@ ghost use Rattle.script_parts.specs.ScriptData.{ScriptData};
 ghost use Rattle.script_parts.specs.Rebuilt.{RebuiltAs};
 ghost use Rattle.script_parts.specs.Valid.{IsValid};
 
-/// A valid script's own rows are all accepted and give this script, when they are taken in the order in which they are
-/// written: its nodes, its items, each row, a tree's row with its whole tree, and its picks.
+/// If the rows of a valid script are taken in the order in which they are written, all are accepted and they give this
+/// script: its nodes, its items, each row (for a tree the whole tree), and its picks.
 pub fn a_script_is_rebuilt_from_its_rows()
     ensures { (s : ScriptData) → IsValid s → RebuiltAs s }
 {}

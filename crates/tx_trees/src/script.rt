@@ -52,9 +52,9 @@ const MOST_ADVANCES: u32 = 100;
 
 const MOST_LOSES: u32 = 100;
 
-/// Nodes, items, trees, rows and picks, seen by contracts as `ScriptData`. Whatever was added, a script is valid:
-/// names are taken once, each operation fits its item and its tree, and each item's magnitudes add up to no more
-/// than the form allows.
+/// Nodes, items, trees, rows and picks. Contracts see `ScriptData`. A script is always valid: no two items have one
+/// name, and no two trees; each operation fits its item and its tree; and each item's magnitudes add up to no more than
+/// the form allows.
 pub struct Script {
     alloc: Global,
     form: Form,
@@ -145,7 +145,7 @@ impl PartialEq for Script {
 }
 
 impl Script {
-    /// A script of this form and of so many nodes, 1 to 16, or 1 to 64 of the second form, with nothing in it.
+    /// An empty script of this form with `nodes` nodes: 1 to 16 in the first form, 1 to 64 in the second.
     pub fn new(alloc: Global, form: Form, nodes: u8) -> Script
         requires { (1 ≤ nodes) × (nodes ≤ most_nodes form) }
         ensures { result ≡ fresh form nodes }
@@ -172,14 +172,14 @@ impl Script {
         }
     }
 
-    /// Which form it is of.
+    /// The script's form.
     pub fn form(&self) -> Form
         ensures { result ≡ self.now.form }
     {
         self.form
     }
 
-    /// Makes it a script of the second form, with all else as it is.
+    /// Makes it a script of the second form. All else stays.
     pub fn upgrade(&mut self)
         ensures { self.new ≡ upgraded self.old }
     {
@@ -194,7 +194,7 @@ impl Script {
         self.nodes
     }
 
-    /// Whether there is a strict tree. Takes no walk.
+    /// Whether there is a strict tree. It takes constant time.
     pub fn has_strict(&self) -> bool
         ensures { result ≡ has_strict self.now }
     {
@@ -224,7 +224,7 @@ impl Script {
         &self.rows
     }
 
-    /// The numbers that choose among the ways in which a run may go on, in order.
+    /// The numbers that choose which message a run takes next, in order.
     pub fn picks(&self) -> &[u32]
         ensures { result.now ≡ self.now.picks }
     {
@@ -238,21 +238,21 @@ impl Script {
         self.advances
     }
 
-    /// How often the client makes the coordinator forget, 0 to 100. Takes no walk.
+    /// How often the client makes the coordinator forget, 0 to 100. It takes constant time.
     pub fn loses(&self) -> u32
         ensures { result ≡ loses_in self.now.rows }
     {
         self.loses
     }
 
-    /// Whether a row makes the coordinator forget. Takes no walk.
+    /// Whether a row makes the coordinator forget. It takes constant time.
     pub fn is_lossy(&self) -> bool
         ensures { result ≡ is_lossy self.now }
     {
         self.loses != 0
     }
 
-    /// The least child of `parent` above `after` in this tree. None exactly where there is none.
+    /// The least child of `parent` in this tree whose number is above `after`. None exactly if there is none.
     pub fn next_child(&self, tree: TreeNo, parent: SubNo, after: SubNo) -> Option<SubNo>
         requires { tree.0 < length self.now.trees }
         ensures above { IfSome result (λ k. after.0 < k.0) }
@@ -322,9 +322,9 @@ impl Script {
         self.tree_names.number(name)
     }
 
-    /// Adds an item, and gives its number. A refusal is `OutOfRange` (the node, or the initial value, by `may_start`),
-    /// `BadName`, `NameTaken` or `TooMany` (10,000 items), the first that holds; it, and running out of memory, leave
-    /// the script as it was. After an item no tree is begun.
+    /// Adds an item, and gives its number. A refusal is the first that holds of `OutOfRange` (the node, or by
+    /// `may_start` the initial value), `BadName`, `NameTaken` and `TooMany` (10,000 items). Any error leaves the script
+    /// as it was. After an item no tree is begun.
     pub fn add_item(&mut self, row: ItemRow) -> Result<ItemNo, Refusal>
         ensures step { Steps (adds_item self.old row) result self.old self.new }
         ensures number { IfOk result (λ n. n.0 ≡ length self.old.items) }
@@ -364,10 +364,10 @@ impl Script {
         Ok(())
     }
 
-    /// Begins a tree with its root alone, which the client sends next, and gives its number. A refusal is `OutOfRange`
-    /// (the node), `BadName`, `NameTaken` or `TooMany` (20,000 trees, 320,000 nodes times trees, 100,000
-    /// subtransactions, 1,000 strict trees, or 1,000,000 strict trees times subtransactions of update trees), the first
-    /// that holds; it, and running out of memory, leave the script as it was.
+    /// Begins a tree with its root alone, adds the row that sends it, and gives its number. A refusal is the first that
+    /// holds of `OutOfRange` (the node), `BadName`, `NameTaken` and `TooMany` (20,000 trees, 320,000 nodes times trees,
+    /// 100,000 subtransactions, 1,000 strict trees, or 1,000,000 strict trees times subtransactions of update trees).
+    /// Any error leaves the script as it was.
     pub fn add_tree(&mut self, name: Name, kind: TreeKind, node: NodeNo) -> Result<TreeNo, Refusal>
         ensures step { Steps (adds_tree self.old name kind node) result self.old self.new }
         ensures number { IfOk result (λ n. n.0 ≡ length self.old.trees) }
@@ -422,10 +422,9 @@ impl Script {
         Ok(())
     }
 
-    /// Adds a subtransaction to the tree that is begun, and gives its place there. A refusal is `OutOfRange` (the
-    /// node), `NoTree`, `BadParent` or `TooMany` (64 of the tree, 100,000 of all, or 1,000,000 strict trees times
-    /// subtransactions of update trees), the first that holds; it, and running out of memory, leave the script as it
-    /// was.
+    /// Adds a subtransaction to the tree that is begun, and gives its place there. A refusal is the first that holds of
+    /// `OutOfRange` (the node), `NoTree`, `BadParent` and `TooMany` (64 in the tree, 100,000 in all, or 1,000,000
+    /// strict trees times subtransactions of update trees). Any error leaves the script as it was.
     pub fn add_sub(&mut self, parent: u32, node: NodeNo) -> Result<SubNo, Refusal>
         ensures step { Steps (adds_sub self.old parent node) result self.old self.new }
         ensures number { IfOk result (λ n. n.0 ≡ last_subs self.old.trees) }
@@ -475,10 +474,10 @@ impl Script {
         Ok(())
     }
 
-    /// Adds an operation to the last subtransaction of the tree that is begun. A refusal is `OutOfRange` (by
-    /// `is_in_range`), `UnknownItem`, `NoTree`, `WrongNode`, `WrongKind`, `TooMany` (16 of the subtransaction, 200,000
-    /// of all, 64 `put` on the item), `TooMuch`, or `ItemTwice` (a strict tree has an operation on the item already),
-    /// the first that holds; it, and running out of memory, leave the script as it was.
+    /// Adds an operation to the last subtransaction of the tree that is begun. A refusal is the first that holds of
+    /// `OutOfRange` (by `is_in_range`), `UnknownItem`, `NoTree`, `WrongNode`, `WrongKind`, `TooMany` (16 in the
+    /// subtransaction, 200,000 in all, 64 `put` on the item), `TooMuch` and `ItemTwice` (the tree is strict and already
+    /// has an operation on the item). Any error leaves the script as it was.
     pub fn add_op(&mut self, item: &Name, deed: Deed) -> Result<(), Refusal>
         ensures { Steps (adds_op self.old item.now deed) result self.old self.new }
     {
@@ -626,11 +625,10 @@ impl Script {
         }
     }
 
-    /// Makes the tree that is begun fail: its undone form takes the place of its subtransactions, which are kept as
-    /// what it was written with. A refusal is `TooMany` (64 subtransactions of the tree, 100,000 of all, 200,000
-    /// operations, or 1,000,000 strict trees times subtransactions of update trees) or `TooMuch` (an item's
-    /// magnitudes), the first that holds; it leaves the script as it was. No memory is needed. Afterwards no tree is
-    /// begun.
+    /// Makes the tree that is begun fail: its compensated form takes the place of its subtransactions, which are kept
+    /// as `written`. A refusal is the first that holds of `TooMany` (64 subtransactions in the tree, 100,000 in all,
+    /// 200,000 operations, or 1,000,000 strict trees times subtransactions of update trees) and `TooMuch` (an item's
+    /// magnitudes). It leaves the script as it was. No memory is needed. Afterwards no tree is begun.
     pub fn put_undone(&mut self, failed: SubNo, expanded: Subs) -> Result<(), Refusal>
         requires second { self.old.form ≡ Form.Two }
         requires begun { self.old.begun ≡ true }
@@ -668,8 +666,8 @@ impl Script {
         true
     }
 
-    /// Asks for one more advancement. The one refusal is `TooMany` (100 advancements); it, and running out of memory,
-    /// leave the script as it was. Afterwards no tree is begun.
+    /// Adds a row that asks for one more advancement. The one refusal is `TooMany` (100 advancements). Any error leaves
+    /// the script as it was. Afterwards no tree is begun.
     pub fn add_advance(&mut self) -> Result<(), Refusal>
         ensures { Steps (adds_advance self.old) result self.old self.new }
     {
@@ -682,8 +680,8 @@ impl Script {
         Ok(())
     }
 
-    /// Waits until all before it has ended. There is no refusal but out of memory, which leaves the script as it was.
-    /// Afterwards no tree is begun.
+    /// Adds a row that waits until all before it has ended. The one error is `NoMemory`, which leaves the script as it
+    /// was. Afterwards no tree is begun.
     pub fn add_settle(&mut self) -> Result<(), Refusal>
         ensures { Steps (adds_settle self.old) result self.old self.new }
     {
@@ -692,8 +690,8 @@ impl Script {
         Ok(())
     }
 
-    /// Makes the coordinator forget what it knows, once more. The one refusal is `TooMany` (100 such rows); it, and
-    /// running out of memory, leave the script as it was. Afterwards no tree is begun.
+    /// Adds a row that makes the coordinator forget its state. The one refusal is `TooMany` (100 such rows). Any error
+    /// leaves the script as it was. Afterwards no tree is begun.
     pub fn add_lose(&mut self) -> Result<(), Refusal>
         requires { self.old.form ≡ Form.Two }
         ensures { Steps (adds_lose self.old) result self.old self.new }
@@ -707,8 +705,8 @@ impl Script {
         Ok(())
     }
 
-    /// Adds a number to the picks. There is no refusal but out of memory, which leaves the script as it was. Afterwards
-    /// no tree is begun.
+    /// Adds a number to the picks. The one error is `NoMemory`, which leaves the script as it was. Afterwards no tree
+    /// is begun.
     pub fn add_pick(&mut self, k: u32) -> Result<(), Refusal>
         ensures { Steps (adds_pick self.old k) result self.old self.new }
     {

@@ -9,7 +9,7 @@ use script_parts::kinds::{is_read, is_update};
 use script_parts::parts::{Sub, Tree};
 use tv_base::TreeNo;
 
-/// A tree by number. None exactly where it isn't there.
+/// A tree by number. None exactly if there is no such tree.
 fn find(trees: &[Tree], tree: TreeNo) -> Option<&Tree>
     ensures { option_copied result ≡ slice_get trees.now tree.0 }
 {
@@ -17,7 +17,7 @@ fn find(trees: &[Tree], tree: TreeNo) -> Option<&Tree>
 }
 
 impl Script {
-    /// The subtransactions of a tree by number, of which there are none where the tree isn't there.
+    /// The subtransactions of a tree, by number. There are none if there is no such tree.
     #[tactic(auto, using(script_parts::proofs::SubsOf::subs_of))]
     pub fn subs_of(&self, tree: TreeNo) -> &[Sub]
         ensures subs { result.now ≡ subs_at self.now tree.0 }
@@ -30,7 +30,7 @@ impl Script {
         }
     }
 
-    /// Whether the tree is there and is an update tree.
+    /// Whether there is such a tree and it is an update tree.
     pub fn updates(&self, tree: TreeNo) -> bool
         ensures { result ≡ updates self.now tree.0 }
     {
@@ -40,7 +40,7 @@ impl Script {
         }
     }
 
-    /// Whether the tree is there and is a read tree.
+    /// Whether there is such a tree and it is a read tree.
     pub fn reads(&self, tree: TreeNo) -> bool
         ensures { result ≡ reads self.now tree.0 }
     {
@@ -50,7 +50,8 @@ impl Script {
         }
     }
 
-    /// The node of a tree's root; where the tree isn't there, the number of nodes, which is no node.
+    /// The node of a tree's root. If there is no such tree, it is the number of nodes, which isn't the number of a
+    /// node.
     pub fn home_of(&self, tree: TreeNo) -> u8
         ensures { result ≡ home_of self.now tree.0 }
     {

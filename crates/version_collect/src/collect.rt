@@ -5,8 +5,8 @@ ghost use Rattle.item_versions.specs.Collecting.{may_collect_all, collected_all,
 use item_versions::ItemTable;
 use tv_base::Version;
 
-/// Collects every item of the table to version `f`. Each has a version that is at most `f`. What is seen at `f`, and at
-/// every later version, stays. Needs no memory.
+/// Collects every item of the table to version `f`. Each has a version that is at most `f`. What is seen in `f`, and in
+/// every later version, stays. It needs no memory.
 pub fn collect_table(items: &mut ItemTable, f: Version)
     requires { IsTrue (may_collect_all f items.old) }
     ensures items { items.new ≡ collected_all f items.old }

@@ -1,4 +1,4 @@
-//! Collection of all items of a table.
+//! Collects all items of a table to a version.
 #![tactic(auto)]
 
 mod collect;

@@ -1,6 +1,6 @@
-//! What actors do: one table for each, of which that of a node has a file for each kind of row; what a run is, in both
-//! its shapes, and the bridge between them; schedules; to whom letters go, and how much is counted, whatever letters
-//! come. It has definitions, lemmas and laws alone.
+//! What actors do: a table for each, of which that of a node has a file for each kind of row. What a run is, in two
+//! forms, and laws that lead from each to the other. Schedules; to whom messages go, and how much is counted, whatever
+//! messages come. It has definitions, lemmas and laws alone.
 #![tactic(auto)]
 
 ghost use Rattle.std.specs.Prelude.{List, reverse};
@@ -16,12 +16,12 @@ pub use phase::Phase;
 pub use refusal::NegativeVote;
 pub use restarting::{RestartPhase, Told};
 
-/// A history that goes step by step is one whose letters went as letters do and whose actors each follow their table.
+/// In a history that goes step by step, messages are passed by the rules and each actor follows its table.
 pub fn steps_follow_the_tables()
     ensures { (s : ScriptData) (past : List Entry) → IsStepRun s past → IsWorldRun s (reverse past) }
 {}
 
-/// A history whose letters went as letters do and whose actors each follow their table is one that goes step by step.
+/// A history in which messages are passed by the rules and each actor follows its table goes step by step.
 pub fn goes_step_by_step()
     ensures { (s : ScriptData) (history : List Entry) → IsWorldRun s history → IsStepRun s (reverse history) }
 {}

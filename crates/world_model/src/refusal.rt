@@ -1,7 +1,7 @@
 use letter_types::Cause;
 use tv_base::SubNo;
 
-/// A vote of no: whose it is, and why.
+/// A negative vote: the subtransaction that cast it, and its cause.
 #[derive(Clone, Copy, Debug, PartialEq, Eq)]
 pub struct NegativeVote {
     pub sub: SubNo,

@@ -10,13 +10,13 @@ pub enum RestartPhase {
     Recovering,
     /// Each node to have obeyed an order.
     Doing(What),
-    /// The rows of a round. They count the version that reads have left, or else the one that is to be shown.
+    /// The rows of a round. It counts the version that reads have left, or without `reads` the one that is to be shown.
     Counting { reads: bool },
     /// A nudge, after a round in which a pair of nodes differed.
     Paused { reads: bool },
 }
 
-/// The three versions that a node told.
+/// The three versions that a node reported.
 #[derive(Clone, Copy, Debug, PartialEq, Eq)]
 pub struct Told {
     pub update: Version,
