@@ -5,10 +5,10 @@ use Rattle.script_parts.specs.ScriptData.{ScriptData}
 use Rattle.world_model.specs.Scheduled.{number_for}
 use Rattle.growth_laws.specs.Growth.{Extends, GrowingIsAnOrder, IsFront, SchedulesGrow}
 
-front_of_itself : {X : Type 0} (xs : List X) → IsFront xs xs
+pub front_of_itself : {X : Type 0} (xs : List X) → IsFront xs xs
 front_of_itself xs = ([], sym (append-nil xs))
 
-front_of_front : {X : Type 0} (xs ys zs : List X) → IsFront xs ys → IsFront ys zs → IsFront xs zs
+pub front_of_front : {X : Type 0} (xs ys zs : List X) → IsFront xs ys → IsFront ys zs → IsFront xs zs
 front_of_front {X} xs ys zs p q =
     (p.0 ++ q.0, q.1 ∙ ap (λ (vs : List X). vs ++ q.0) p.1 ∙ append_assoc xs p.0 q.0)
 
