@@ -1,7 +1,8 @@
 -- Where bytes end a record, the records of a text are that one and those of the rest, also behind a line's end.
-use Rattle.std.proofs.Common.{◌≡◌, ◌⊎◌, inl, inr, ℕ, zero, suc, ◌==◌, ◌||◌, ◌∙◌, Bool, true, false, List, [], ◌∷◌, ◌++◌, refl, sym, ap, subst, Option, Some, arith}
+use Rattle.std.proofs.Common.{◌≡◌, ◌⊎◌, inl, inr, ℕ, zero, suc, ◌==◌, ◌∙◌, Bool, true, false, List, [], ◌∷◌, ◌++◌, refl, sym, ap, subst, Option, Some, arith}
 use Rattle.std.specs.Prelude.{if◌then◌else◌}
 use Rattle.std.specs.Bool.{MatchBool}
+use Rattle.std.proofs.lemmas.Bool.{or_left, or_right}
 use Rattle.std.proofs.lemmas.Bool.Decides.{nat_tests}
 use Rattle.csv.specs.Machine.{Feeds, Read, after_end, carriage_return, ends_with, field_after, fields_after, is_end, line_feed, next_record, step}
 use Rattle.csv.specs.Reading.{default_config, records_from, records_next}
@@ -107,14 +108,6 @@ last_is s s2 f f2 p p2 (c ∷ x) fed =
 line_starts : (c : ℕ) (line : Bool) → line ≡ true → (if line then (st.StartRecord, act.Skip) else step default_config st.StartField c) ≡ (st.StartRecord, act.Skip)
 line_starts c true is = refl
 line_starts c false is = absurd (cc is)
-
-or_right : (a b : Bool) → b ≡ true → (a || b) ≡ true
-or_right true b is = refl
-or_right false b is = is
-
-or_left : (a b : Bool) → a ≡ true → (a || b) ≡ true
-or_left true b is = refl
-or_left false b is = absurd (cc is)
 
 cr_by : (c : ℕ) (feed : Bool) → (c == line_feed) ≡ feed
     → (if feed then (st.StartRecord, act.Skip) else step default_config st.StartRecord c) ≡ step default_config st.StartRecord c

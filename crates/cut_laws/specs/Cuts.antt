@@ -19,8 +19,8 @@ EndsLine c = (c ≡ line_feed) ⊎ (c ≡ carriage_return)
 abbrev pub first_records : ℕ → List ℕ → List (List (List ℕ))
 first_records n b = records_from default_config n st.StartRecord b
 
--- the records are that of x and then those of the rest: of the rest alone, and of the rest behind a byte that ends a line, where
--- no byte order mark can stand
+-- the records are that of x and then those of the rest: of the rest alone, and of the rest behind a byte that ends a
+-- line, where no byte order mark can stand
 abbrev pub RecordsAreCut : Type 0
 RecordsAreCut =
     (n c : ℕ) (x b : List ℕ) (fields : List (List ℕ)) → EndsRecord st.StartRecord x fields → EndsLine c

@@ -3,8 +3,8 @@
 
 ghost use Rattle.cut_laws.specs.Cuts.{RecordsAreCut, RecordsAreFew};
 
-/// Where bytes end a record, the records of the text are that one and those of the rest. The rest may be read on its own,
-/// also behind a byte that ends a line.
+/// Where bytes end a record, the records of the text are that one and those of the rest. The rest may be read on its
+/// own, also behind a byte that ends a line.
 pub fn records_are_cut()
     ensures { RecordsAreCut }
 {}

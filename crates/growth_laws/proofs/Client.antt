@@ -1,6 +1,7 @@
 -- What the client does with a letter is the same before the script grew and after, as long as a row is left.
 use Rattle.std.proofs.Common.{◌≡◌, ℕ, zero, suc, ◌+◌, ◌<◌, ◌≤◌, ◌==◌, ◌&&◌, ◌||◌, ◌∙◌, Bool, true, false, not, List, [], ◌∷◌, ◌++◌, length, take, drop, replicate, refl, sym, ap, arith, length-append, length-drop}
 use Rattle.std.specs.Prelude.{if◌then◌else◌, ◌-◌, ◌^◌, max, min, nat_lt, slice_set}
+use Rattle.std.proofs.lemmas.Bool.{lt-ltb}
 use Rattle.std.proofs.lemmas.Bool.Decides.{nat_tests}
 use Rattle.std.proofs.lemmas.List.{drop-append-le, length-replicate, length-set, take-append-le}
 use Rattle.tv_base.specs.declared.numbers.TreeNo.{TreeNo}
@@ -115,9 +116,6 @@ end_same s m k v c =
     ap (λ (b : Bool). record (with_places k c) { ended = if b then max c.ended v.0 else min (c.ended + 1) (2 ^ 64 - 1) }) m.lossy
 
 -- The client takes a letter.
-is_below : (t n : ℕ) → t < n → nat_lt t n ≡ true
-is_below t n lt = grind (arith, nat_tests)
-
 reply_same : (s : ScriptData) (m : More s) (c : Client) (t : ℕ) (test more : Bool) → IsValid s → nat_lt t (length s.trees) ≡ test
     → nat_lt t (length (s.trees ++ m.trees)) ≡ more → t < length s.trees → length c.answered ≡ length s.trees
     → (if test then submit s (with_answer t c) (nudge s ∷ []) else still c).state.next < length s.rows
@@ -126,9 +124,9 @@ reply_same : (s : ScriptData) (m : More s) (c : Client) (t : ℕ) (test more : B
 reply_same s m c t true true valid is more lt places left =
     ap (λ (d : Client). submit (with_more s m) d (nudge s ∷ [])) (answer_same (length m.trees) t c (omega (arith, lt, places)))
     ∙ submit_same s m (with_answer t c) (nudge s ∷ []) valid left
-reply_same s m c t false more valid is _ lt places left = absurd (let no : false ≡ true = sym is ∙ is_below t (length s.trees) lt in cc no)
+reply_same s m c t false more valid is _ lt places left = absurd (let no : false ≡ true = sym is ∙ lt-ltb t (length s.trees) lt in cc no)
 reply_same s m c t true false valid is more lt places left =
-    absurd (let no : false ≡ true = sym more ∙ is_below t (length (s.trees ++ m.trees)) (omega (arith, lt, length-append s.trees m.trees)) in cc no)
+    absurd (let no : false ≡ true = sym more ∙ lt-ltb t (length (s.trees ++ m.trees)) (omega (arith, lt, length-append s.trees m.trees)) in cc no)
 
 ask_same : (s : ScriptData) (m : More s) (c : Client) (e : ℕ) → c.next ≤ length s.rows
     → client_row (with_more s m) (with_places (length m.trees) c) (Ask e) ≡ out_with_places (length m.trees) (client_row s c (Ask e))

@@ -15,8 +15,8 @@ use Rattle.world_model.specs.Tables.{ActorData, ClientData, CoordinatorData, Nod
 abbrev pub IsFront : {X : Type 0} → List X → List X → Type 0
 IsFront {X} xs ys = (more : List X) × (ys ≡ xs ++ more)
 
--- Script t goes on from script s: it has the same nodes, items and picks, and more trees and rows behind those of s. It has
--- strict trees only if s has some, and rows that make the coordinator forget only if s has some.
+-- Script t goes on from script s: it has the same nodes, items and picks, and more trees and rows behind those of s. It
+-- has strict trees only if s has some, and rows that make the coordinator forget only if s has some.
 pub record Extends (s t : ScriptData) : Type 0 where
   pub form : t.form ≡ s.form
   pub nodes : t.nodes ≡ s.nodes
@@ -42,8 +42,8 @@ grown_actor k (CoordinatorData c) = CoordinatorData c
 grown_actor k (RestartingData c) = RestartingData c
 grown_actor k (ClientData c) = ClientData (with_places k c)
 
--- the past is a run of script t too, with the letters in flight and the actors that it has as a run of s, but for the places
--- that the client has in t
+-- the past is a run of script t too, with the letters in flight and the actors that it has as a run of s, but for the
+-- places that the client has in t
 pub record IsRunOfBoth (s t : ScriptData) (past : List Entry) : Type 0 where
   pub run : IsStepRun t past
   pub letters : in_flight t past ≡ in_flight s past

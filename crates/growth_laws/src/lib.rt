@@ -1,6 +1,6 @@
-//! Laws of scripts that grow while they run. A run of a script is one of each script that goes on from it, as long as the
-//! client waits at one of its settle rows; what records make of a script, so that it goes on; and a script and a seed
-//! have one run.
+//! Laws of scripts that grow while they run. A run of a script is one of each script that goes on from it, as long as
+//! the client waits at one of its settle rows; what records make of a script, so that it goes on; and a script and a
+//! seed have one run.
 #![tactic(auto)]
 
 ghost use Rattle.growth_laws.specs.Adding.{RecordsGrow};
@@ -13,7 +13,7 @@ ghost use Rattle.growth_laws.specs.Growth.{
 ghost use Rattle.growth_laws.specs.Schedules.{ScheduledRunsAreOne};
 
 /// Each run of a valid script in which the client has rows left is a run of each script that goes on from it: the same
-/// letters are in flight, and the actors are the same, but for the places that the client has for answers of more trees.
+/// letters are in flight, and the actors are the same, but for the client's places for answers of more trees.
 pub fn runs_grow()
     ensures { RunsGrow }
 {}

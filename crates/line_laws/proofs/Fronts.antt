@@ -4,7 +4,6 @@ use Rattle.std.specs.Prelude.{if◌then◌else◌, is_some, slice_get}
 use Rattle.std.specs.Option.{option_or}
 use Rattle.std.proofs.Math.Seq.{drop-append_seam}
 use Rattle.tv_base.specs.declared.numbers.Version.{Version}
-use Rattle.tv_base.proofs.ByPlace.{slice_get-old}
 use Rattle.letter_types.specs.declared.acts.Act.{Act}
 use Rattle.letter_types.specs.declared.acts.Act.TheVariants.{Finished}
 use Rattle.letter_types.specs.declared.entries.Entry.{Entry}
@@ -12,17 +11,15 @@ use Rattle.script_parts.specs.ScriptData.{ScriptData, subs_at}
 use Rattle.script_parts.specs.Valid.{IsValid}
 use Rattle.script_parts.specs.declared.parts.Sub.{Sub}
 use Rattle.script_parts.specs.declared.parts.Tree.{Tree}
-use Rattle.board_rules.specs.Histories.{IsWhole, Place, all_applied, all_done, is_complete, is_strict_tree, is_whole_in, places_of, version_in, version_of, was_applied, was_born, was_done}
-use Rattle.board_rules.specs.Outcomes.{acts_in}
+use Rattle.board_rules.specs.Histories.{IsWhole, Place, all_applied, all_done, is_complete, is_strict_tree, is_whole_in, places_of, version_in, was_applied, was_born, was_done}
 use Rattle.board_rules.specs.Right.{HasFinished, has_finished}
 use Rattle.board_rules.proofs.Places.{has_finished-append, places_more, version_in-append, was_applied-append, was_done-append}
 use Rattle.headline.proofs.Finished.{whole_at_end}
-use Rattle.report_text.specs.Outcomes.{outcome_of}
-use Rattle.report_text.specs.Report.{gets_text, tree_line, trees_text}
+use Rattle.report_text.specs.Report.{trees_text}
+use Rattle.audit_laws.specs.ReplyLines.{line_in}
 use Rattle.world_model.specs.Runs.{IsStepRun}
 use Rattle.world_model.proofs.Scripts.{get_below}
 use Rattle.line_laws.specs.Fronts.{FrontsStay}
-use Rattle.line_laws.specs.Lines.{line_at}
 use Rattle.line_laws.proofs.Lines.{lines_stay}
 
 -- The act Finished makes no tree whole.
@@ -88,34 +85,26 @@ whole_before s past e k valid run is lt =
     sym (whole_same s k e.actor.0 (places_of (reverse past))) ∙ ap (λ (xs : List Place). is_whole_in s xs k) (sym (last_places past e is)) ∙ later
 
 -- The lines one after the other.
-line_is : (s : ScriptData) (h : List Entry) (k : ℕ) (x : Tree) → slice_get s.trees k ≡ Some x
-    → line_at s h k ≡ tree_line x x.kind (version_of h k) (λ v. gets_text s h v x.subs) (outcome_of s (acts_in (places_of h)) k x.subs)
-line_is s h k x at = rw (at, line_at) refl
-
 text_split : (s : ScriptData) (h : List Entry) (k : ℕ) (xs ys : List Tree)
     → trees_text s h k (xs ++ ys) ≡ trees_text s h k xs ++ trees_text s h (k + length xs) ys
 text_split s h k [] ys = ap (λ (i : ℕ). trees_text s h i ys) (omega arith)
 text_split s h k (x ∷ xs) ys =
-    let line : List ℕ = tree_line x x.kind (version_of h k) (λ v. gets_text s h v x.subs) (outcome_of s (acts_in (places_of h)) k x.subs) in
+    let line : List ℕ = line_in s h k x in
     ap (λ (text : List ℕ). line ++ text) (text_split s h (k + 1) xs ys
     ∙ ap (λ (i : ℕ). trees_text s h (k + 1) xs ++ trees_text s h i ys) (omega arith))
     ∙ sym (append_assoc line (trees_text s h (k + 1) xs) (trees_text s h (k + suc (length xs)) ys))
 
 texts_same : (s t : ScriptData) (h g : List Entry) (k : ℕ) (xs : List Tree)
-    → ((n : ℕ) (x : Tree) → slice_get xs n ≡ Some x → slice_get s.trees (k + n) ≡ Some x)
-    → ((n : ℕ) (x : Tree) → slice_get xs n ≡ Some x → slice_get t.trees (k + n) ≡ Some x)
-    → ((n : ℕ) → n < length xs → line_at t g (k + n) ≡ line_at s h (k + n)) → trees_text t g k xs ≡ trees_text s h k xs
-texts_same s t h g k [] here there same = refl
-texts_same s t h g k (x ∷ xs) here there same =
-    let now : slice_get s.trees k ≡ Some x = subst (λ (i : ℕ). slice_get s.trees i ≡ Some x) (omega arith) (here 0 x refl) in
-    let later : slice_get t.trees k ≡ Some x = subst (λ (i : ℕ). slice_get t.trees i ≡ Some x) (omega arith) (there 0 x refl) in
-    let lines : line_at t g k ≡ line_at s h k = subst (λ (i : ℕ). line_at t g i ≡ line_at s h i) (omega arith) (same 0 (omega arith)) in
-    ap (λ (line : List ℕ). line ++ trees_text t g (k + 1) xs) (sym (line_is t g k x later) ∙ lines ∙ line_is s h k x now)
-    ∙ ap (λ (text : List ℕ). tree_line x x.kind (version_of h k) (λ v. gets_text s h v x.subs) (outcome_of s (acts_in (places_of h)) k x.subs) ++ text)
+    → ((n : ℕ) (x : Tree) → slice_get xs n ≡ Some x → line_in t g (k + n) x ≡ line_in s h (k + n) x)
+    → trees_text t g k xs ≡ trees_text s h k xs
+texts_same s t h g k [] same = refl
+texts_same s t h g k (x ∷ xs) same =
+    let here : line_in t g k x ≡ line_in s h k x =
+    subst (λ (i : ℕ). line_in t g i x ≡ line_in s h i x) (omega arith) (same 0 x refl) in
+    ap (λ (line : List ℕ). line ++ trees_text t g (k + 1) xs) here
+    ∙ ap (λ (text : List ℕ). line_in s h k x ++ text)
     (texts_same s t h g (k + 1) xs
-    (λ n y at. subst (λ (i : ℕ). slice_get s.trees i ≡ Some y) (omega arith) (here (suc n) y at))
-    (λ n y at. subst (λ (i : ℕ). slice_get t.trees i ≡ Some y) (omega arith) (there (suc n) y at))
-    (λ n lt. subst (λ (i : ℕ). line_at t g i ≡ line_at s h i) (omega arith) (same (suc n) (omega arith))))
+    (λ n y at. subst (λ (i : ℕ). line_in t g i y ≡ line_in s h i y) (omega arith) (same (suc n) y at)))
 
 pub fronts_stay : FrontsStay
 fronts_stay s t past later e valid valid' goes run is run' =
@@ -124,11 +113,9 @@ fronts_stay s t past later e valid valid' goes run is run' =
     let more : List Tree = goes.trees.0 in
     let all : trees_text t g 0 t.trees ≡ trees_text t g 0 (s.trees ++ more) = ap (λ (ts : List Tree). trees_text t g 0 ts) goes.trees.1 in
     let front : trees_text t g 0 s.trees ≡ trees_text s h 0 s.trees =
-    texts_same s t h g 0 s.trees (λ n x at. subst (λ (i : ℕ). slice_get s.trees i ≡ Some x) (omega arith) at)
-    (λ n x at. subst (λ (i : ℕ). slice_get t.trees i ≡ Some x) (omega arith)
-    (ap (λ (ts : List Tree). slice_get ts n) goes.trees.1 ∙ slice_get-old s.trees more n (get_below s.trees n x at) ∙ at))
-    (λ n lt. subst (λ (i : ℕ). line_at t g i ≡ line_at s h i) (omega arith)
-    (lines_stay s t past later n valid valid' goes run.1 run' lt (whole_before s past e n valid run is lt))) in
+    texts_same s t h g 0 s.trees (λ n x at. subst (λ (i : ℕ). line_in t g i x ≡ line_in s h i x) (omega arith)
+    (lines_stay s t past later n x valid valid' goes run.1 run' at
+    (whole_before s past e n valid run is (get_below s.trees n x at)))) in
     let rest : more ≡ drop (length s.trees) t.trees =
     sym (ap (λ (ts : List Tree). drop (length s.trees) ts) goes.trees.1 ∙ drop-append_seam s.trees more) in
     all ∙ text_split t g 0 s.trees more

@@ -4,7 +4,6 @@ use Rattle.std.specs.Prelude.{is_some, slice_get}
 use Rattle.std.specs.List.{AllByRecursion}
 use Rattle.std.proofs.lemmas.Bool.{and_parts}
 use Rattle.tv_base.specs.declared.numbers.Version.{Version}
-use Rattle.tv_base.proofs.ByPlace.{get_some}
 use Rattle.letter_types.specs.declared.acts.Act.{Act}
 use Rattle.letter_types.specs.declared.entries.Entry.{Entry}
 use Rattle.script_parts.specs.Counts.{ops_in}
@@ -14,7 +13,7 @@ use Rattle.script_parts.specs.declared.parts.Sub.{Sub}
 use Rattle.script_parts.specs.declared.parts.Tree.{Tree}
 use Rattle.script_parts.specs.declared.parts.TreeKind.{TreeKind}
 use Rattle.script_parts.specs.declared.parts.TreeKind.TheVariants.{Update, Read, Strict}
-use Rattle.board_rules.specs.Histories.{IsWhole, Place, all_done, is_complete, is_strict_tree, places_of, version_in, version_of, was_born}
+use Rattle.board_rules.specs.Histories.{Place, all_done, is_complete, is_strict_tree, places_of, version_in, version_of, was_born}
 use Rattle.board_rules.specs.Outcomes.{acts_in}
 use Rattle.board_rules.specs.Right.{shown}
 use Rattle.board_rules.proofs.Places.{version_stays}
@@ -23,13 +22,15 @@ use Rattle.history_text.specs.TreeNames.{got_text}
 use Rattle.report_text.specs.Outcomes.{outcome_of}
 use Rattle.report_text.specs.Report.{gets_text, tree_line}
 use Rattle.world_model.specs.Runs.{IsStepRun}
+use Rattle.world_model.proofs.Scripts.{get_below}
 use Rattle.tree_laws.proofs.AtHome.{all_append}
 use Rattle.run_laws.proofs.replies_told.Said.{acts_before, acts_next}
 use Rattle.audit_laws.specs.OfScript.{IsActOf}
+use Rattle.audit_laws.specs.ReplyLines.{line_in}
 use Rattle.audit_laws.proofs.EveryEntry.{entry_of_script}
-use Rattle.growth_laws.specs.Growth.{Extends, IsFront}
+use Rattle.growth_laws.specs.Growth.{IsFront}
 use Rattle.growth_laws.proofs.Orders.{front_of_front, front_of_itself}
-use Rattle.line_laws.specs.Lines.{LinesStay, line_at}
+use Rattle.line_laws.specs.Lines.{LinesStay}
 use Rattle.line_laws.proofs.Names.{got_same}
 use Rattle.line_laws.proofs.Strict.{outcome_stays}
 use Rattle.line_laws.proofs.Values.{IsInBoth, in_both, places_later, subs_of, values_stay}
@@ -48,10 +49,10 @@ acts_later past (e ∷ later) =
     (e.acts, acts_next e (later ++ past))
 
 -- The line of a tree that is born.
-line_here : (s : ScriptData) (h : List Entry) (k : ℕ) (x : Tree) (v : Version) → slice_get s.trees k ≡ Some x → version_of h k ≡ Some v
-    → line_at s h k ≡ tree_line x x.kind (Some v) (λ w. gets_text s h w x.subs) (outcome_of s (acts_in (places_of h)) k x.subs)
-line_here s h k x v at born =
-    rw (at, line_at) (ap (λ (o : Option Version). tree_line x x.kind o (λ w. gets_text s h w x.subs) (outcome_of s (acts_in (places_of h)) k x.subs)) born)
+line_here : (s : ScriptData) (h : List Entry) (k : ℕ) (x : Tree) (v : Version) → version_of h k ≡ Some v
+    → line_in s h k x ≡ tree_line x x.kind (Some v) (λ w. gets_text s h w x.subs) (outcome_of s (acts_in (places_of h)) k x.subs)
+line_here s h k x v born =
+    ap (λ (o : Option Version). tree_line x x.kind o (λ w. gets_text s h w x.subs) (outcome_of s (acts_in (places_of h)) k x.subs)) born
 
 lines_alike : (x : Tree) (kind : TreeKind) (v : Version) (f g : ℕ → List ℕ) (o p : List ℕ) → (kind ≡ Read → f v.0 ≡ g v.0) → (kind ≡ Strict → o ≡ p)
     → tree_line x kind (Some v) f o ≡ tree_line x kind (Some v) g p
@@ -66,10 +67,9 @@ complete_by : (s : ScriptData) (k : ℕ) (xs : List Place) → is_strict_tree s 
     → all_done k (length (subs_at s k)) xs ≡ true
 complete_by s k xs plain all = rw (plain, is_complete) at all
 
-stays_by : (s t : ScriptData) (past later : List Entry) (k : ℕ) (x : Tree) → IsValid s → IsValid t → Extends s t → IsStepRun s past
-    → IsStepRun t (later ++ past) → k < length s.trees → IsWhole s (reverse past) k → slice_get s.trees k ≡ Some x
-    → line_at t (reverse (later ++ past)) k ≡ line_at s (reverse past) k
-stays_by s t past later k x valid valid' e run run' lt whole at =
+pub lines_stay : LinesStay
+lines_stay s t past later k x valid valid' e run run' at whole =
+    let lt : k < length s.trees = get_below s.trees k x at in
     let h : List Entry = reverse past in
     let hh : List Entry = reverse (later ++ past) in
     let parts = and_parts (was_born (places_of h) k) (is_complete s (places_of h) k) whole in
@@ -92,12 +92,7 @@ stays_by s t past later k x valid valid' e run run' lt whole at =
     ap (λ (acts : List Act). outcome_of t acts k x.subs) more.1
     ∙ outcome_stays s t past k x.subs more.0 valid e run lt (strict_kind s k x at ∙ ap is_strict kind) whole (subs_of s k x at)
     (acts_known s past valid run) in
-    line_here t hh k x born.0 is.there then
+    line_here t hh k x born.0 then
     ∙ lines_alike x x.kind born.0 (λ w. gets_text t hh w x.subs) (λ w. gets_text s h w x.subs) (outcome_of t (acts_in (places_of hh)) k x.subs)
     (outcome_of s (acts_in (places_of h)) k x.subs) values outcomes
-    ∙ sym (line_here s h k x born.0 at now)
-
-pub lines_stay : LinesStay
-lines_stay s t past later k valid valid' e run run' lt whole =
-    let found = get_some s.trees k lt in
-    stays_by s t past later k found.0 valid valid' e run run' lt whole found.1
+    ∙ sym (line_here s h k x born.0 now)

@@ -1,5 +1,5 @@
-//! Laws of the report's lines while a run goes on, and its script too: the line of a tree that is whole stays as it is, and
-//! where the client would finish, the lines of the script's trees are what each later report begins with.
+//! Laws of the report's lines while a run goes on, and its script too: the line of a tree that is whole stays as it is,
+//! and where the client would finish, the lines of the script's trees are what each later report begins with.
 #![tactic(auto)]
 
 ghost use Rattle.line_laws.specs.Fronts.{FrontsStay};
@@ -11,8 +11,8 @@ pub fn lines_stay()
     ensures { LinesStay }
 {}
 
-/// Where the client would finish with the next entry, the lines of the script's trees are a front of the lines of trees of
-/// each run that goes on from there, of each script that goes on from this one.
+/// Where the client would finish with the next entry, the lines of the script's trees are what the report begins with
+/// of each run that goes on from there, of each script that goes on from this one.
 pub fn fronts_stay()
     ensures { FrontsStay }
 {}
