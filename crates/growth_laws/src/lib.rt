@@ -28,13 +28,14 @@ pub fn schedules_grow()
     ensures { SchedulesGrow }
 {}
 
-/// A script goes on from itself, and what goes on from one that goes on from it goes on from it.
+/// A script goes on from itself, and from each script from which one goes on that it goes on from: so it may go on time
+/// and again.
 pub fn growing_is_an_order()
     ensures { GrowingIsAnOrder }
 {}
 
-/// Behind a settle row each record, but that of an item or a pick, makes the script go on, and no tree that was there
-/// changes.
+/// Behind a settle row each record, but that of an item or a pick, leaves the trees and rows that were there as they are.
+/// It makes the script go on, unless strict trees, or rows that make the coordinator forget, first come with it.
 pub fn records_grow()
     ensures { RecordsGrow }
 {}
