@@ -89,7 +89,7 @@ sent_well s past e valid run =
     (each_both (IsLetterMeant s) (λ (l : Letter). l.to.0 < s.nodes + 2) (in_flight s (e ∷ past))
     (each_waits (IsLetterMeant s) s (e ∷ past) (letters_are_meant s (e ∷ past) valid run)) (all_addressed s (e ∷ past) valid run))
 
-entry_of_script : (s : ScriptData) (past : List Entry) (e : Entry) → IsValid s → IsStepRun s (e ∷ past) → IsOfScript s e
+pub entry_of_script : (s : ScriptData) (past : List Entry) (e : Entry) → IsValid s → IsStepRun s (e ∷ past) → IsOfScript s e
 entry_of_script s past e valid run =
     let apt : AllApt s (e ∷ past) = all_apt s (e ∷ past) valid run in
     let next : IsEntryOf s past e = next_entry s past e valid apt run (all_carried s past valid apt.1 run.1) in

@@ -1,0 +1,5 @@
+pub mod Names
+pub mod Strict
+pub mod Values
+pub mod Lines
+pub mod Fronts
