@@ -1,11 +1,13 @@
 -- How the coordinator changes in a step that is prepared, and when it may.
-use Rattle.std.specs.Prelude.{◌≡◌}
+use Rattle.std.specs.Prelude.{◌≡◌, ℕ}
 use Rattle.tv_base.specs.Outside.{one_more}
 use Rattle.phase_out.specs.declared.count.RowChange.{RowChange}
 use Rattle.phase_out.specs.Counts.{count_begun, count_with, nudged}
+use Rattle.letter_types.specs.declared.bodies.Body.{Body}
+use Rattle.world_model.specs.declared.phase.Phase.{Phase}
 pub use Rattle.phase_out.specs.Counts.{MayKeep}
 use Rattle.letter_types.specs.Steps.{Out, made}
-use Rattle.world_model.specs.Coordinator.{Coordinator, in_phase, with_next}
+use Rattle.world_model.specs.Coordinator.{Coordinator, in_phase, with_next, row_of}
 use Rattle.world_model.specs.declared.phase.Phase.TheVariants.{Counting}
 use Rattle.advance_coord.specs.declared.change.Next.{Next}
 use Rattle.advance_coord.specs.declared.change.Next.TheVariants.{Stay, Wait, Nudge, Acknowledge, Begin, Count, GoOn}
@@ -38,3 +40,7 @@ CoordinatorMayDo change c = MayKeep change.row c.count.current
 pub record IsCoordinatorStepOf (o : Out Coordinator) (c : Coordinator) (p : CoordinatorPrepared) : Type 0 where
   pub row : made (after_coordinator_change p.change c) p.out ≡ o
   pub may : CoordinatorMayDo p.change c
+
+-- a step that is prepared is the row of this body, from this actor, in this phase
+abbrev pub IsCoordinatorRow : Body → Phase → ℕ → Coordinator → CoordinatorPrepared → Type 0
+IsCoordinatorRow body phase from c p = IsCoordinatorStepOf (row_of body phase from c) c p

@@ -4,8 +4,8 @@ ghost use Rattle.tv_base.specs.Outside.{one_more};
 ghost use Rattle.letter_types.specs.Steps.{made};
 ghost use Rattle.letter_types.specs.declared.bodies.Body.TheVariants.{Turn, DoneRow, AskedRow};
 ghost use Rattle.world_model.specs.declared.phase.Phase.TheVariants.{Turning, Counting};
-ghost use Rattle.advance_coord.specs.Changes.{IsCoordinatorStepOf, CoordinatorMayDo, MayKeep, after_coordinator_change, after_next_phase, with_kept_row};
-ghost use Rattle.world_model.specs.Coordinator.{start_coordinator, coordinator_row, begin_phase, begin_round, counted_version, in_phase, version, acknowledged, ask_requests, as_counted, end_count, end_advance, row_of};
+ghost use Rattle.advance_coord.specs.Changes.{IsCoordinatorStepOf, CoordinatorMayDo, MayKeep, after_coordinator_change, after_next_phase, with_kept_row, IsCoordinatorRow};
+ghost use Rattle.world_model.specs.Coordinator.{start_coordinator, coordinator_row, begin_phase, begin_round, counted_version, in_phase, version, acknowledged, ask_requests, as_counted, end_count, end_advance};
 
 use crate::change::{CoordinatorPrepared, Next};
 use crate::letters::{to_nodes, with_nodes};
@@ -289,8 +289,7 @@ impl Coordinator {
         round: u64,
         row: &Row,
     ) -> Result<CoordinatorPrepared, NoMemory>
-        ensures { IfOk result (IsCoordinatorStepOf
-            (row_of (DoneRow version round row.now) (Counting reads) from.0 self.now) self.now) }
+        ensures { IfOk result (IsCoordinatorRow (DoneRow version round row.now) (Counting reads) from.0 self.now) }
     {
         let Some(counted) = self.count.look_done(from, version, round, row) else {
             return Ok(CoordinatorPrepared::silent(alloc, Next::Stay));
@@ -309,8 +308,7 @@ impl Coordinator {
         round: u64,
         row: &Row,
     ) -> Result<CoordinatorPrepared, NoMemory>
-        ensures { IfOk result (IsCoordinatorStepOf
-            (row_of (AskedRow version round row.now) (Counting reads) from.0 self.now) self.now) }
+        ensures { IfOk result (IsCoordinatorRow (AskedRow version round row.now) (Counting reads) from.0 self.now) }
     {
         let Some(counted) = self.count.look_asked(from, version, round, row) else {
             return Ok(CoordinatorPrepared::silent(alloc, Next::Stay));

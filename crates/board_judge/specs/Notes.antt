@@ -1,4 +1,5 @@
--- What the trees that take effect have done to an item, as deeds with versions, and the worths that are kept of all items.
+-- What the trees that take effect have done to an item, as deeds with versions, and the worths that are kept of all
+-- items.
 use Rattle.std.specs.Prelude.{if◌then◌else◌, ℕ, ◌≡◌, ◌==◌, List, [], ◌∷◌, ◌++◌, length, IsTrue, Option, Some, None, slice_get}
 use Rattle.script_parts.specs.ScriptData.{ScriptData, subs_at}
 use Rattle.script_parts.specs.Valid.{IsValid}
@@ -43,6 +44,10 @@ pub record AreKnown (s : ScriptData) (xs : List Place) (ws : List WorthsData) : 
   pub valid : IsValid s
   pub run : IsMoveRun s xs
   pub worths : AreAllWorths s xs ws
+
+-- what holds of whatever acts of whatever script these worths are after
+abbrev pub OfKnown : List WorthsData → (ScriptData → List Place → Type 0) → Type 0
+OfKnown ws P = (s : ScriptData) (xs : List Place) → AreKnown s xs ws → P s xs
 
 -- the operation is on an item of the script, of a kind that has such deeds
 abbrev pub SuitsAt : SubOp → Option ItemRow → Type 0

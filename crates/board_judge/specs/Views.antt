@@ -31,6 +31,10 @@ pub record IsView (s : ScriptData) (xs : List Place) (b : BoardData) (u : UsersD
   pub board : IsBoardOf s xs b
   pub users : AreUsersOf s u
 
+-- what holds of whatever acts this is the view after
+abbrev pub OfView : ScriptData → BoardData → UsersData → (List Place → Type 0) → Type 0
+OfView s b u P = (xs : List Place) → IsView s xs b u → P xs
+
 -- an item may be needed in this mode, and by each of these operations: a mark, or any where there is a strict tree
 abbrev pub MayNeed : ScriptData → Mode → Type 0
 MayNeed s mode = (mode ≡ Mark) ⊎ (has_strict s ≡ true)

@@ -1,6 +1,7 @@
 pub mod Asking
 pub mod Rewriting
 pub mod Shorts
+pub mod Standing
 pub mod Steps
 pub mod Trying
 pub mod Users

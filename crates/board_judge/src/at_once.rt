@@ -1,12 +1,12 @@
 // Whether an entry does at once what it is asked for.
-ghost use Rattle.std.specs.Prelude.{if◌then◌else◌, ◌≡◌, ◌<◌, ◌+◌, ◌-◌, ◌^◌, List, length, IsTrue};
+ghost use Rattle.std.specs.Prelude.{if◌then◌else◌, ◌≡◌, ◌<◌, ◌+◌, ◌-◌, ◌^◌, length};
 ghost use Rattle.std.specs.Bool.{Decides};
 ghost use Rattle.std.specs.List.{list_any};
 ghost use Rattle.script_parts.specs.ScriptData.{ops_of, reads};
-ghost use Rattle.board_rules.specs.Histories.{Place, does};
-ghost use Rattle.board_rules.specs.Right.{IsDoneAtOnce, commutes, in_way_of, is_parking, parking_for, parkings};
-ghost use Rattle.board_judge.specs.Views.{IsView};
-ghost use Rattle.board_judge.specs.inside.Asking.{IsAnsweredFor, asked_of, lock_in, parks_this};
+ghost use Rattle.board_rules.specs.Histories.{does};
+ghost use Rattle.board_rules.specs.Right.{commutes, is_parking, parking_for, parkings};
+ghost use Rattle.board_judge.specs.inside.Asking.{IsAnsweredFor, asked_of, lock_in, parks_this, AreDoneAs};
+ghost use Rattle.board_judge.specs.inside.Standing.{DecidesAtOnce, NamesInWay};
 
 use crate::standing::{conflict, updates};
 use crate::users::Users;
@@ -42,8 +42,7 @@ pub(crate) fn does_at_once(
     body: &Body,
     acts: &[Act],
 ) -> bool
-    ensures { (xs : List Place) → IsView script.now xs board.now users.now
-        → Decides result (IsDoneAtOnce script.now xs node.0 body.now acts.now) }
+    ensures { DecidesAtOnce script.now board.now users.now node.0 body.now acts.now result }
 {
     let Some(asked) = asked_of(body) else {
         return count_parkings(acts) == 0;
@@ -98,8 +97,7 @@ fn in_way(
     node: ActorNo,
     asked: Asked,
 ) -> Option<Cause>
-    ensures { (xs : List Place) → IsView script.now xs board.now users.now
-        → result ≡ in_way_of script.now xs node.0 asked.tree.0 asked.sub.0 }
+    ensures { NamesInWay script.now board.now users.now node.0 asked result }
 {
     if !updates(script, asked.tree) {
         return None;
@@ -120,7 +118,7 @@ fn is_answered(script: &Script, asked: Asked, way: Option<Cause>, acts: &[Act]) 
 
 // Whether these acts do a subtransaction of an update or a read tree just as is said.
 fn is_done_as(script: &Script, asked: Asked, done: bool, acts: &[Act]) -> bool
-    ensures { Decides result (IsTrue (commutes script.now asked.tree.0) → list_any (does asked.tree.0 asked.sub.0) acts.now ≡ done) }
+    ensures { Decides result (AreDoneAs script.now asked.tree asked.sub done acts.now) }
 {
     if !commutes(script, asked.tree) {
         return true;

@@ -1,19 +1,17 @@
 // The judge: a history is taken entry by entry, and the first that breaks a rule is refused.
 ghost use Rattle.std.specs.List.{list_all};
-ghost use Rattle.std.specs.Prelude.{◌≡◌, ◌++◌, ◌∷◌, ◌<◌, [], List, length, unsigned_abs, IfErr, IfOk, IsNone, OnErr, OnOk};
+ghost use Rattle.std.specs.Prelude.{◌≡◌, ◌<◌, [], List, length, unsigned_abs, IfErr, IfOk, IsNone, OnErr, OnOk};
 ghost use Rattle.letter_types.specs.declared.entries.Entry.{Entry};
 ghost use Rattle.board_rules.specs.Histories.{places_of};
-ghost use Rattle.board_rules.specs.Judging.{MayCome};
 ghost use Rattle.board_rules.specs.Right.{has_finished};
-ghost use Rattle.board_rules.specs.Worth.{worth_in};
 ghost use Rattle.board_judge.specs.Notes.{AreAllWorths};
 ghost use Rattle.commute_ops.specs.Ops.{value_start};
 ghost use Rattle.worth_steps.specs.Kept.{AreWorths};
-ghost use Rattle.board_judge.specs.Judged.{HasJudged, IsRefusal};
+ghost use Rattle.board_judge.specs.Judged.{HasJudged, IsRefusal, HasTaken, IsWorthBy};
 ghost use Rattle.board_judge.specs.declared.noting.NotedStep.{NotedStep};
 ghost use Rattle.board_judge.specs.inside.Rewriting.{AreOfKinds, unaltered};
 ghost use Rattle.board_judge.specs.inside.Steps.{restored};
-ghost use Rattle.board_judge.specs.inside.Trying.{IsTried, judge_of, refused_for};
+ghost use Rattle.board_judge.specs.inside.Trying.{judge_of, refused_for, IsTriedBy};
 
 use crate::at_once::does_at_once;
 use crate::noting::{NotedStep, note_acts, restore};
@@ -107,8 +105,7 @@ impl<'a> Judge<'a> {
     /// transactions that they end, and for locks by the operations of the script on these items.
     pub fn take(&mut self, entry: &Entry) -> Result<(), Refused>
         ensures script { self.new.script ≡ self.old.script }
-        ensures ok { OnOk result ((h : List Entry) → HasJudged self.old h
-            → MayCome self.old.script h entry.now × HasJudged self.new (h ++ entry.now ∷ [])) }
+        ensures ok { OnOk result (HasTaken self.old entry.now self.new) }
         ensures refused { IfErr result (λ refused. IsRefusal self.old entry.now refused) }
         ensures err { OnErr result (self.new ≡ self.old) }
     {
@@ -135,8 +132,7 @@ impl<'a> Judge<'a> {
     /// memory.
     pub fn worth(&self, item: ItemNo, version: Version) -> Result<Value, NoMemory>
         requires { item.0 < length self.now.script.items }
-        ensures { IfOk result (λ worth. (h : List Entry) → HasJudged self.now h
-            → worth ≡ worth_in self.now.script (places_of h) item.0 version.0) }
+        ensures { IfOk result (IsWorthBy self.now item.0 version.0) }
     {
         let value = self.worths[item.0 as usize].at(self.basis.alloc, version)?;
         Ok(value)
@@ -162,9 +158,8 @@ fn try_entry(
     requires steps { steps.old.items ≡ [] }
     requires trail { trail.old.items ≡ [] }
     requires kinds { AreOfKinds basis.now.script.now worths.old.items }
-    ensures tried { IfOk result (λ broken. (h : List Entry)
-        → HasJudged (judge_of basis.now board.old worths.old.items) h
-        → IsTried (judge_of basis.now board.old worths.old.items) h entry.now broken board.new worths.new.items) }
+    ensures tried { IfOk result (IsTriedBy (judge_of basis.now board.old worths.old.items) entry.now
+        board.new worths.new.items) }
     ensures board { restored steps.new.items board.new ≡ board.old }
     ensures worths { unaltered trail.new.items worths.new.items ≡ worths.old.items }
     ensures kinds { IfOk result (λ broken. IsNone broken → AreOfKinds basis.now.script.now worths.new.items) }

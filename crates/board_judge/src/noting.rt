@@ -1,12 +1,11 @@
 // The acts of an entry, noted one after the other on the Board's tallies.
-ghost use Rattle.std.specs.Prelude.{◌≡◌, ◌++◌, ◌∷◌, [], true, false, List, IfOk, IfSome, IsNone, OnErr};
+ghost use Rattle.std.specs.Prelude.{◌≡◌, [], true, false, IfOk, IfSome, IsNone, OnErr};
 ghost use Rattle.letter_types.specs.declared.entries.Entry.{Entry};
-ghost use Rattle.board_rules.specs.Histories.{Place, places_at, places_of};
-ghost use Rattle.board_rules.specs.Judging.{FirstFails, rule_of};
-ghost use Rattle.board_rules.specs.Moves.{IsMove};
+ghost use Rattle.board_rules.specs.Histories.{act_at};
+ghost use Rattle.board_rules.specs.Judging.{rule_of};
 ghost use Rattle.board_tallies.specs.TakenBack.{taken_back};
-ghost use Rattle.board_judge.specs.inside.Steps.{AreNoted, IsStepped, restored};
-ghost use Rattle.board_judge.specs.inside.Votes.{IsMidway};
+ghost use Rattle.board_judge.specs.inside.Steps.{restored, AreAllNoted, AreNotedIf, FailsFirst, IsStepOf};
+ghost use Rattle.board_judge.specs.inside.Votes.{IsNoMove};
 
 use crate::votes::{Basis, is_move, is_right_yes};
 use board_rules::Rule;
@@ -33,12 +32,9 @@ pub(crate) fn note_act(
     node: ActorNo,
     act: &Act,
 ) -> Result<Option<NotedStep>, NoMemory>
-    ensures stepped { IfOk result (λ step. IfSome step (λ st. (h : List Entry) (xs : List Place)
-        → IsMidway basis.now.script.now basis.now.gates basis.now.users h xs board.old worths.now
-        → IsStepped basis.now.script.now h xs (record { node = node.0; act = act.now }) st board.new)) }
-    ensures not { IfOk result (λ step. IsNone step → (h : List Entry) (xs : List Place)
-        → IsMidway basis.now.script.now basis.now.gates basis.now.users h xs board.old worths.now
-        → IsMove basis.now.script.now h xs (record { node = node.0; act = act.now }) → ⊥) }
+    ensures stepped { IfOk result (λ step.
+        IfSome step (IsStepOf basis.now board.old worths.now (act_at node.0 act.now) board.new)) }
+    ensures not { IfOk result (λ step. IsNone step → IsNoMove basis.now board.old worths.now (act_at node.0 act.now)) }
     ensures back { IfOk result (λ step. IfSome step (λ st. taken_back st.noted board.new ≡ board.old)) }
     ensures same { IfOk result (λ step. IsNone step → board.new ≡ board.old) }
     ensures err { OnErr result (board.new ≡ board.old) }
@@ -65,13 +61,10 @@ fn note_next(
     act: &Act,
     steps: &mut Vec<NotedStep>,
 ) -> Result<bool, NoMemory>
-    ensures noted { IfOk result (λ moves. moves ≡ true → (h : List Entry) (ys : List Place)
-        → IsMidway basis.now.script.now basis.now.gates basis.now.users h (places_of h ++ ys) board.old worths.now
-        → AreNoted basis.now.script.now h ys steps.old.items board.old
-        → AreNoted basis.now.script.now h (ys ++ record { node = node.0; act = act.now } ∷ []) steps.new.items board.new) }
-    ensures not { IfOk result (λ moves. moves ≡ false → (h : List Entry) (xs : List Place)
-        → IsMidway basis.now.script.now basis.now.gates basis.now.users h xs board.old worths.now
-        → IsMove basis.now.script.now h xs (record { node = node.0; act = act.now }) → ⊥) }
+    ensures noted { IfOk result (AreNotedIf basis.now worths.now (act_at node.0 act.now)
+        steps.old.items board.old steps.new.items board.new) }
+    ensures not { IfOk result (λ moves. moves ≡ false
+        → IsNoMove basis.now board.old worths.now (act_at node.0 act.now)) }
     ensures same { IfOk result (λ moves. moves ≡ false → steps.new.items ≡ steps.old.items) }
     ensures still { IfOk result (λ moves. moves ≡ false → board.new ≡ board.old) }
     ensures back { restored steps.new.items board.new ≡ restored steps.old.items board.old }
@@ -95,12 +88,9 @@ pub(crate) fn note_acts(
     steps: &mut Vec<NotedStep>,
 ) -> Result<Option<Rule>, NoMemory>
     requires { steps.old.items ≡ [] }
-    ensures noted { IfOk result (λ broken. IsNone broken → (h : List Entry)
-        → IsMidway basis.now.script.now basis.now.gates basis.now.users h (places_of h) board.old worths.now
-        → AreNoted basis.now.script.now h (places_at entry.now) steps.new.items board.new) }
-    ensures fails { IfOk result (λ broken. IfSome broken (λ rule. (h : List Entry)
-        → IsMidway basis.now.script.now basis.now.gates basis.now.users h (places_of h) board.old worths.now
-        → FirstFails basis.now.script.now h entry.now rule)) }
+    ensures noted { IfOk result (λ broken. IsNone broken
+        → AreAllNoted basis.now board.old worths.now entry.now steps.new.items board.new) }
+    ensures fails { IfOk result (λ broken. IfSome broken (FailsFirst basis.now board.old worths.now entry.now)) }
     ensures back { restored steps.new.items board.new ≡ board.old }
 {
     for act in entry.acts.items() {

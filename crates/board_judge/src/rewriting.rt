@@ -1,13 +1,9 @@
 // The worths of the items, act by act: what the deeds of the trees that acts close make of them, compared with what reads show.
-ghost use Rattle.std.specs.Prelude.{◌≡◌, ◌∷◌, ◌++◌, [], ℕ, List, IfOk, OnErr, OnOk, map, slice_get};
+ghost use Rattle.std.specs.Prelude.{◌≡◌, [], ℕ, IfOk, OnErr, OnOk, slice_get};
 ghost use Rattle.letter_types.specs.declared.acts.Act.{Act};
-ghost use Rattle.letter_types.specs.declared.entries.Entry.{Entry};
 ghost use Rattle.script_parts.specs.ScriptData.{subs_at};
-ghost use Rattle.board_rules.specs.Histories.{Place, places_of};
-ghost use Rattle.board_tallies.specs.Board.{IsBoardOf};
-ghost use Rattle.board_judge.specs.Notes.{AreKnown, ops_noted, subs_noted};
-ghost use Rattle.board_judge.specs.inside.Rewriting.{AllSubsSuit, AllSuit, AreOfKinds, HasNoted, IsClosing, IsCompared, IsRewritten, SuitsKind, altered_back, closed_noted, kinds_of, one_noted, unaltered};
-ghost use Rattle.board_judge.specs.inside.Steps.{AreNoted};
+ghost use Rattle.board_judge.specs.Notes.{ops_noted};
+ghost use Rattle.board_judge.specs.inside.Rewriting.{AllSubsSuit, AllSuit, AreOfKinds, HasNoted, SuitsKind, altered_back, kinds_of, unaltered, ComesBack, HasNotedClosed, HasNotedOne, HasNotedSubs, IsComparedBy, IsRewrittenBy};
 
 use crate::noting::NotedStep;
 use crate::standing::version_or_zero;
@@ -37,10 +33,8 @@ pub(crate) fn rewrite(
     acts: &[Act],
 ) -> Result<bool, NoMemory>
     requires { AreOfKinds script.now worths.old.items }
-    ensures done { IfOk result (λ right. (h : List Entry) (p : ℕ)
-        → AreNoted script.now h (map (λ (a : Act). record { node = p; act = a }) acts.now) steps.now board.now
-        → AreKnown script.now (places_of h) worths.old.items
-        → IsRewritten script.now h (map (λ (a : Act). record { node = p; act = a }) acts.now) right worths.new.items) }
+    ensures done { IfOk result (IsRewrittenBy script.now board.now steps.now acts.now
+        worths.old.items worths.new.items) }
     ensures kinds { OnOk result (AreOfKinds script.now worths.new.items) }
     ensures back { unaltered trail.new.items worths.new.items ≡ unaltered trail.old.items worths.old.items }
 {
@@ -62,10 +56,8 @@ fn rewrite_act(
     act: &Act,
 ) -> Result<bool, NoMemory>
     requires { AreOfKinds script.now worths.old.items }
-    ensures compared { IfOk result (λ right. (xs later : List Place) (p : ℕ)
-        → IsClosing script.now xs later (record { node = p; act = act.now }) step.now.noted.closed board.now
-        → AreKnown script.now xs worths.old.items
-        → IsCompared script.now xs (record { node = p; act = act.now }) right worths.new.items) }
+    ensures compared { IfOk result (IsComparedBy script.now board.now step.now act.now
+        worths.old.items worths.new.items) }
     ensures kinds { OnOk result (AreOfKinds script.now worths.new.items) }
     ensures back { unaltered trail.new.items worths.new.items ≡ unaltered trail.old.items worths.old.items }
 {
@@ -83,8 +75,7 @@ fn note_closed(
     closed: Option<TreeNo>,
 ) -> Result<(), NoMemory>
     requires { AreOfKinds script.now worths.old.items }
-    ensures noted { OnOk result ((xs : List Place) → IsBoardOf script.now xs board.now
-        → HasNoted (λ (x : ℕ). closed_noted script.now xs x closed) worths.old.items worths.new.items) }
+    ensures noted { OnOk result (HasNotedClosed script.now board.now closed worths.old.items worths.new.items) }
     ensures kinds { OnOk result (AreOfKinds script.now worths.new.items) }
     ensures back { unaltered trail.new.items worths.new.items ≡ unaltered trail.old.items worths.old.items }
 {
@@ -105,7 +96,7 @@ fn note_tree(
     tree: TreeNo,
 ) -> Result<(), NoMemory>
     requires { AreOfKinds script.now worths.old.items }
-    ensures noted { OnOk result (HasNoted (λ (x : ℕ). subs_noted version.0 x (subs_at script.now tree.0)) worths.old.items worths.new.items) }
+    ensures noted { OnOk result (HasNotedSubs version.0 (subs_at script.now tree.0) worths.old.items worths.new.items) }
     ensures back { unaltered trail.new.items worths.new.items ≡ unaltered trail.old.items worths.old.items }
 {
     let Some(tree) = script.trees().get(tree.0 as usize) else {
@@ -123,7 +114,7 @@ fn note_subs(
     subs: &[Sub],
 ) -> Result<(), NoMemory>
     requires { AllSubsSuit (kinds_of worths.old.items) subs.now }
-    ensures noted { OnOk result (HasNoted (λ (x : ℕ). subs_noted version.0 x subs.now) worths.old.items worths.new.items) }
+    ensures noted { OnOk result (HasNotedSubs version.0 subs.now worths.old.items worths.new.items) }
     ensures back { unaltered trail.new.items worths.new.items ≡ unaltered trail.old.items worths.old.items }
 {
     for sub in subs {
@@ -157,7 +148,7 @@ fn note_op(
     op: &SubOp,
 ) -> Result<(), NoMemory>
     requires { SuitsKind op.now.deed (slice_get (kinds_of worths.old.items) op.now.item.0) }
-    ensures noted { OnOk result (HasNoted (one_noted op.now.item.0 (record { version = version.0; deed = op.now.deed })) worths.old.items worths.new.items) }
+    ensures noted { OnOk result (HasNotedOne op.now.item version.0 op.now.deed worths.old.items worths.new.items) }
     ensures back { unaltered trail.new.items worths.new.items ≡ unaltered trail.old.items worths.old.items }
 {
     trail.reserve(1)?;
@@ -175,8 +166,8 @@ fn note_deed(
     deed: &Deed,
 ) -> Result<WorthChange, NoMemory>
     requires { SuitsKind deed.now (slice_get (kinds_of worths.old.items) item.0) }
-    ensures noted { OnOk result (HasNoted (one_noted item.0 (record { version = version.0; deed = deed.now })) worths.old.items worths.new.items) }
-    ensures back { IfOk result (λ change. altered_back (record { item = item; change = change }) worths.new.items ≡ worths.old.items) }
+    ensures noted { OnOk result (HasNotedOne item version.0 deed.now worths.old.items worths.new.items) }
+    ensures back { IfOk result (ComesBack item worths.old.items worths.new.items) }
     ensures err { OnErr result (worths.new.items ≡ worths.old.items) }
 {
     let change = worths[item.0 as usize].note(version, deed)?;

@@ -1,16 +1,9 @@
 // What operations see of their items: what the items are worth at a version.
-ghost use Rattle.std.specs.Prelude.{◌≡◌, ◌<◌, false, ℕ, List, Some, None, length, IfOk};
-ghost use Rattle.std.specs.Bool.{Decides};
+ghost use Rattle.std.specs.Prelude.{◌≡◌, ◌<◌, false, Some, None, IfOk};
 ghost use Rattle.letter_types.specs.Causes.{short_cause};
 ghost use Rattle.script_parts.specs.Deeds.{found_short};
-ghost use Rattle.script_parts.specs.ScriptData.{ScriptData};
-ghost use Rattle.script_parts.specs.Valid.{IsValid};
-ghost use Rattle.board_rules.specs.Histories.{Place};
-ghost use Rattle.board_rules.specs.Right.{gets_among, is_get, with_worths};
-ghost use Rattle.board_rules.specs.Worth.{worth_in};
-ghost use Rattle.board_judge.specs.Notes.{AreKnown};
-ghost use Rattle.board_judge.specs.Views.{AreThere};
-ghost use Rattle.board_judge.specs.inside.Shorts.{draws, short_item, short_ops};
+ghost use Rattle.board_rules.specs.Right.{is_get};
+ghost use Rattle.board_judge.specs.inside.Shorts.{draws, short_item, DecidesShown, DecidesWorth, NamesShort, NamesShortOf};
 
 use commute_ops::Value;
 use letter_types::Cause;
@@ -39,8 +32,7 @@ pub(crate) fn shows(
     ops: &[SubOp],
     values: &[(ItemNo, Value)],
 ) -> bool
-    ensures { (s : ScriptData) (xs : List Place) → AreKnown s xs worths.now → AreThere s ops.now
-        → Decides result (values.now ≡ with_worths (λ (x : ℕ). worth_in s xs x version.0) (gets_among ops.now)) }
+    ensures { DecidesShown worths.now version.0 ops.now values.now result }
 {
     let Some((op, later)) = ops.split_first() else {
         return values.is_empty();
@@ -59,8 +51,7 @@ pub(crate) fn shows(
 
 // Whether this is the item with what it is worth at this version.
 fn is_worth(worths: &[Worths], version: Version, item: ItemNo, value: &(ItemNo, Value)) -> bool
-    ensures { (s : ScriptData) (xs : List Place) → AreKnown s xs worths.now → item.0 < length s.items
-        → Decides result (value.now ≡ (item, worth_in s xs item.0 version.0)) }
+    ensures { DecidesWorth worths.now version.0 item value.now result }
 {
     if value.0.0 != item.0 {
         return false;
@@ -78,8 +69,7 @@ pub(crate) fn short(
     version: Version,
     ops: &[SubOp],
 ) -> Result<Option<Cause>, NoMemory>
-    ensures { IfOk result (λ cause. (s : ScriptData) (xs : List Place) → AreKnown s xs worths.now → AreThere s ops.now
-        → cause ≡ short_ops s xs version.0 ops.now) }
+    ensures { IfOk result (NamesShort worths.now version.0 ops.now) }
 {
     for op in ops {
         let cause = short_item(alloc, worths, version, op)?;
@@ -97,8 +87,7 @@ fn short_item(
     version: Version,
     op: &SubOp,
 ) -> Result<Option<Cause>, NoMemory>
-    ensures { IfOk result (λ cause. (s : ScriptData) (xs : List Place) → AreKnown s xs worths.now → op.now.item.0 < length s.items
-        → cause ≡ short_item s xs version.0 op.now) }
+    ensures { IfOk result (NamesShortOf worths.now version.0 op.now) }
 {
     if !draws(&op.deed) {
         return Ok(None);

@@ -1,16 +1,13 @@
 // What is in the way of a subtransaction at its node, and in which versions its items were written.
-ghost use Rattle.std.specs.Prelude.{if◌then◌else◌, ◌≡◌, ◌<◌, ◌&&◌, true, ℕ, List, length, max};
-ghost use Rattle.std.specs.Option.{option_map};
+ghost use Rattle.std.specs.Prelude.{◌≡◌, ◌<◌, true, List, max};
 ghost use Rattle.tv_base.specs.declared.numbers.TreeNo.{TreeNo};
 ghost use Rattle.nc_locks.specs.Modes.{modes_conflict};
-ghost use Rattle.script_parts.specs.Counts.{has_strict};
 ghost use Rattle.script_parts.specs.Deeds.{overwrites};
 ghost use Rattle.script_parts.specs.ScriptData.{ScriptData, updates};
 ghost use Rattle.board_rules.specs.Histories.{Place, version_in, version_or, was_done};
-ghost use Rattle.board_rules.specs.Stands.{conflict_of, holder_of, newer_of, newest_of};
-ghost use Rattle.board_tallies.specs.Board.{IsBoardOf};
-ghost use Rattle.board_judge.specs.Views.{AreThere, IsView, MayLook, MayNeed};
-ghost use Rattle.board_judge.specs.inside.Users.{changes_in, first_tree, has_taken, has_written, is_mark, lesser_tree, newer_item, newest_by, stands_against, version_by};
+ghost use Rattle.board_tallies.specs.Board.{IsBoardOf, OfBoard};
+ghost use Rattle.board_judge.specs.inside.Users.{changes_in, has_taken, has_written, is_mark, lesser_tree, newer_item, newest_by, stands_against, newer_by, was_updated};
+ghost use Rattle.board_judge.specs.inside.Standing.{IsNewest, NamesConflict, NamesFirst, NamesHolder, NamesNewer, NamesNewerOf};
 
 use crate::users::{User, Users, lock_mode, on};
 use board_tallies::Board;
@@ -50,7 +47,7 @@ fn conflicts(one: Mode, other: Mode) -> bool
 
 // Whether an operation's item has been taken by it.
 fn has_taken(script: &Script, board: &Board, user: User) -> bool
-    ensures { (xs : List Place) → IsBoardOf script.now xs board.now → result ≡ has_taken script.now xs user.tree.0 user.sub.0 }
+    ensures { OfBoard script.now board.now (λ xs. result ≡ has_taken script.now xs user.tree.0 user.sub.0) }
 {
     if was_updated(script, board, user) {
         return true;
@@ -60,8 +57,8 @@ fn has_taken(script: &Script, board: &Board, user: User) -> bool
 
 // Whether an operation stands at the node against what is needed.
 fn stands(script: &Script, board: &Board, node: ActorNo, need: Need, user: User) -> bool
-    ensures { (xs : List Place) → IsBoardOf script.now xs board.now
-        → result ≡ stands_against script.now xs node.0 need.tree.0 need.mode user }
+    ensures { OfBoard script.now board.now (λ xs. result
+        ≡ stands_against script.now xs node.0 need.tree.0 need.mode user) }
 {
     if user.tree.0 == need.tree.0 {
         return false;
@@ -86,8 +83,7 @@ fn first_against(
     need: Need,
     users: &[User],
 ) -> Option<TreeNo>
-    ensures { (xs : List Place) → IsBoardOf script.now xs board.now
-        → option_map (λ (t : TreeNo). t.0) result ≡ first_tree (stands_against script.now xs node.0 need.tree.0 need.mode) users.now }
+    ensures { NamesFirst script.now board.now node.0 need users.now result }
 {
     for user in users {
         if stands(script, board, node, need, *user) {
@@ -128,8 +124,7 @@ fn holder(
     need: Need,
     item: ItemNo,
 ) -> Option<TreeNo>
-    ensures { (xs : List Place) → IsView script.now xs board.now users.now → item.0 < length script.now.items → MayNeed script.now need.mode
-        → option_map (λ (t : TreeNo). t.0) result ≡ holder_of script.now xs node.0 need.tree.0 item.0 need.mode }
+    ensures { NamesHolder script.now board.now users.now node.0 need item result }
 {
     let strict = first_against(script, board, node, need, on(&users.strict, item));
     if is_mark(need.mode) {
@@ -152,8 +147,7 @@ pub(crate) fn conflict(
     tree: TreeNo,
     ops: &[SubOp],
 ) -> Option<Cause>
-    ensures { (xs : List Place) → IsView script.now xs board.now users.now → AreThere script.now ops.now → MayLook script.now ops.now
-        → result ≡ conflict_of script.now xs node.0 tree.0 ops.now }
+    ensures { NamesConflict script.now board.now users.now node.0 tree.0 ops.now result }
 {
     for op in ops {
         let mode = lock_mode(&op.deed);
@@ -181,8 +175,7 @@ fn changes_in(mode: Mode) -> bool
 
 // Whether an operation was done in an update tree.
 fn was_updated(script: &Script, board: &Board, user: User) -> bool
-    ensures { (xs : List Place) → IsBoardOf script.now xs board.now
-        → result ≡ (updates script.now user.tree.0 && was_done user.tree.0 user.sub.0 xs) }
+    ensures { OfBoard script.now board.now (λ xs. result ≡ was_updated script.now xs user) }
 {
     if !updates(script, user.tree) {
         return false;
@@ -192,7 +185,7 @@ fn was_updated(script: &Script, board: &Board, user: User) -> bool
 
 // Whether an operation has written its item, which is at this node.
 fn has_written(script: &Script, board: &Board, node: ActorNo, user: User) -> bool
-    ensures { (xs : List Place) → IsBoardOf script.now xs board.now → result ≡ has_written script.now xs node.0 user }
+    ensures { OfBoard script.now board.now (λ xs. result ≡ has_written script.now xs node.0 user) }
 {
     if !changes_in(user.mode) {
         return false;
@@ -218,7 +211,7 @@ pub(crate) fn version_or_zero(board: &Board, tree: TreeNo) -> u64
 
 // The greatest version of those operations that have written their item, which is at this node.
 fn newest_by(script: &Script, board: &Board, node: ActorNo, users: &[User]) -> u64
-    ensures { (xs : List Place) → IsBoardOf script.now xs board.now → result ≡ newest_by script.now xs node.0 users.now }
+    ensures { OfBoard script.now board.now (λ xs. result ≡ newest_by script.now xs node.0 users.now) }
 {
     let mut newest = 0;
     for user in users {
@@ -229,8 +222,7 @@ fn newest_by(script: &Script, board: &Board, node: ActorNo, users: &[User]) -> u
 
 // A version, or that of an operation which has written its item in a greater one.
 fn newer_by(script: &Script, board: &Board, node: ActorNo, user: User, newest: u64) -> u64
-    ensures { (xs : List Place) → IsBoardOf script.now xs board.now
-        → result ≡ (if has_written script.now xs node.0 user then max newest (version_by xs user) else newest) }
+    ensures { OfBoard script.now board.now (λ xs. result ≡ newer_by script.now xs node.0 user newest) }
 {
     if !has_written(script, board, node, user) {
         return newest;
@@ -240,8 +232,7 @@ fn newer_by(script: &Script, board: &Board, node: ActorNo, user: User, newest: u
 
 // The greatest version in which an item was written, which is at this node.
 fn newest(script: &Script, users: &Users, board: &Board, node: ActorNo, item: ItemNo) -> u64
-    ensures { (xs : List Place) → IsView script.now xs board.now users.now → item.0 < length script.now.items
-        → has_strict script.now ≡ true → result ≡ newest_of script.now xs node.0 item.0 }
+    ensures { IsNewest script.now board.now users.now node.0 item result }
 {
     let strict = newest_by(script, board, node, on(&users.strict, item));
     let update = newest_by(script, board, node, on(&users.updates, item));
@@ -270,8 +261,7 @@ pub(crate) fn newer(
     version: u64,
     ops: &[SubOp],
 ) -> Option<Cause>
-    ensures { (xs : List Place) → IsView script.now xs board.now users.now → AreThere script.now ops.now → has_strict script.now ≡ true
-        → result ≡ newer_of script.now xs node.0 version ops.now }
+    ensures { NamesNewer script.now board.now users.now node.0 version ops.now result }
 {
     for op in ops {
         if let Some(cause) = newer_item(script, users, board, node, version, op) {
@@ -290,8 +280,7 @@ fn newer_item(
     version: u64,
     op: &SubOp,
 ) -> Option<Cause>
-    ensures { (xs : List Place) → IsView script.now xs board.now users.now → op.now.item.0 < length script.now.items
-        → has_strict script.now ≡ true → result ≡ newer_item script.now xs node.0 version op.now }
+    ensures { NamesNewerOf script.now board.now users.now node.0 version op.now result }
 {
     if !overwrites(&op.deed) {
         return None;

@@ -1,9 +1,8 @@
 // Which operations of a script are on which item.
 ghost use Rattle.std.specs.Prelude.{true, false, get_or, if◌then◌else◌, ℕ, ◌≡◌, ◌==◌, ◌≤◌, [], ◌∷◌, length, IfOk, OnOk};
-ghost use Rattle.board_judge.specs.inside.Users.{AreUsersBy, is_meant, HasMore, HaveNoUsers, ops_users, subs_users, tree_users};
+ghost use Rattle.board_judge.specs.inside.Users.{AreUsersBy, is_meant, HasMore, HaveNoUsers, ops_users, subs_users, HasTreeMore};
 ghost use Rattle.script_parts.specs.Wants.{mode_wanted};
 ghost use Rattle.script_parts.specs.Counts.{has_strict};
-ghost use Rattle.script_parts.specs.ScriptData.{is_strict, is_update};
 
 use nc_locks::Mode;
 use std::alloc::Global;
@@ -125,7 +124,7 @@ fn no_users(alloc: Global, items: usize) -> Result<ByItem, NoMemory>
 
 // Adds the operations of a tree, if it is of the kind that is meant.
 fn add_tree(users: &mut ByItem, strict: bool, number: TreeNo, tree: &Tree) -> Result<(), NoMemory>
-    ensures { OnOk result (HasMore (λ (x : ℕ). tree_users (is_meant strict) number.0 x tree.now) users.old.items users.new.items) }
+    ensures { OnOk result (HasTreeMore strict number.0 tree.now users.old.items users.new.items) }
 {
     if !is_tree_of(strict, tree.kind) {
         return Ok(());

@@ -1,18 +1,10 @@
 // What votes name, and what votes and reads show.
-ghost use Rattle.std.specs.Prelude.{◌≡◌, ◌∷◌, ◌++◌, [], true, ℕ, List, IfOk};
-ghost use Rattle.std.specs.Bool.{Decides};
+ghost use Rattle.std.specs.Prelude.{◌≡◌, true, IfOk};
 ghost use Rattle.std.specs.Option.{option_map};
-ghost use Rattle.letter_types.specs.declared.entries.Entry.{Entry};
 ghost use Rattle.script_parts.specs.ScriptData.{ops_of};
-ghost use Rattle.board_rules.specs.ButCause.{IsMoveButCause};
-ghost use Rattle.board_rules.specs.Histories.{Place, is_strict_tree, places_of, version_in};
-ghost use Rattle.board_rules.specs.Moves.{IsMove};
-ghost use Rattle.board_rules.specs.Right.{IsShown, gets_among};
-ghost use Rattle.board_rules.specs.Worth.{worth_in};
-ghost use Rattle.board_rules.specs.Stands.{cause_of, refusal_in};
-ghost use Rattle.board_tallies.specs.Board.{IsBoardOf};
-ghost use Rattle.board_judge.specs.Notes.{AreKnown};
-ghost use Rattle.board_judge.specs.inside.Votes.{HasVersions, IsMidway, IsRightRead, IsRightYes, ballot_of, did_of, given_by, same_cause, yes_of};
+ghost use Rattle.board_rules.specs.Histories.{act_at};
+ghost use Rattle.board_rules.specs.Stands.{refusal_in};
+ghost use Rattle.board_judge.specs.inside.Votes.{ballot_of, did_of, given_by, same_cause, yes_of, DecidesGiven, DecidesMove, DecidesRead, DecidesYes, NamesCause};
 
 use crate::at_once::{Asked, ops_of, reads};
 use crate::shown::{short, shows};
@@ -57,9 +49,7 @@ pub(crate) fn is_move(
     node: ActorNo,
     act: &Act,
 ) -> Result<bool, NoMemory>
-    ensures { IfOk result (λ moves. (h : List Entry) (xs : List Place)
-        → IsMidway basis.now.script.now basis.now.gates basis.now.users h xs board.now worths.now
-        → Decides moves (IsMove basis.now.script.now h xs (record { node = node.0; act = act.now }))) }
+    ensures { IfOk result (DecidesMove basis.now board.now worths.now (act_at node.0 act.now)) }
 {
     if !board.moves(basis.script, node, act) {
         return Ok(false);
@@ -107,10 +97,7 @@ fn cause(
     node: ActorNo,
     asked: Asked,
 ) -> Result<Option<Cause>, NoMemory>
-    ensures { IfOk result (λ cause. (h : List Entry) (xs : List Place)
-        → IsMidway basis.now.script.now basis.now.gates basis.now.users h xs board.now worths.now
-        → is_strict_tree basis.now.script.now asked.tree.0 ≡ true
-        → cause ≡ cause_of basis.now.script.now h xs node.0 asked.tree.0 (ops_of basis.now.script.now asked.tree.0 asked.sub.0)) }
+    ensures { IfOk result (NamesCause basis.now board.now worths.now node.0 asked) }
 {
     let ops = ops_of(basis.script, asked.tree, asked.sub);
     let lock = conflict(basis.script, &basis.users, board, node, asked.tree, ops);
@@ -194,9 +181,7 @@ fn did_of(act: &Act) -> Option<Given<'_>>
 
 // Whether an act that is a move shows what was worth before its entry, if it is a yes.
 pub(crate) fn is_right_yes(script: &Script, board: &Board, worths: &[Worths], act: &Act) -> bool
-    ensures { (h : List Entry) (xs : List Place) (p : ℕ) → IsBoardOf script.now xs board.now → AreKnown script.now (places_of h) worths.now
-        → IsMoveButCause script.now h xs (record { node = p; act = act.now })
-        → Decides result (IsRightYes script.now h (xs ++ record { node = p; act = act.now } ∷ []) act.now) }
+    ensures { DecidesYes script.now board.now worths.now act.now result }
 {
     match yes_of(act) {
         Some(given) => is_given(script, board, worths, given.asked, given.values),
@@ -206,8 +191,7 @@ pub(crate) fn is_right_yes(script: &Script, board: &Board, worths: &[Worths], ac
 
 // Whether the tallies' last act shows what its items are worth, if it is a read tree's.
 pub(crate) fn is_right_read(script: &Script, board: &Board, worths: &[Worths], act: &Act) -> bool
-    ensures { (xs upto : List Place) → IsBoardOf script.now xs board.now → AreKnown script.now upto worths.now
-        → HasVersions xs upto act.now → Decides result (IsRightRead script.now upto act.now) }
+    ensures { DecidesRead script.now board.now worths.now act.now result }
 {
     let Some(given) = did_of(act) else {
         return true;
@@ -226,8 +210,7 @@ fn is_given(
     asked: Asked,
     values: &[(ItemNo, Value)],
 ) -> bool
-    ensures { (xs upto : List Place) → IsBoardOf script.now xs board.now → AreKnown script.now upto worths.now
-        → Decides result (IsShown (worth_in script.now upto) (gets_among (ops_of script.now asked.tree.0 asked.sub.0)) values.now (version_in asked.tree.0 xs)) }
+    ensures { DecidesGiven script.now board.now worths.now asked values.now result }
 {
     let Some(version) = board.version_of(asked.tree) else {
         return false;

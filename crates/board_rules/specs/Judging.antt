@@ -6,10 +6,10 @@ use Rattle.letter_types.specs.declared.entries.Entry.{Entry}
 use Rattle.script_parts.specs.ScriptData.{ScriptData}
 use Rattle.board_rules.specs.declared.rule_names.Rule.{Rule}
 use Rattle.board_rules.specs.declared.rule_names.Rule.TheVariants as rules
-use Rattle.board_rules.specs.Gates.{KeepsTo}
+use Rattle.board_rules.specs.Gates.{KeepsTo, Fits}
 use Rattle.board_rules.specs.Histories.{Place, places_at, places_of}
-use Rattle.board_rules.specs.Moves.{IsMove, OneByOne}
-use Rattle.board_rules.specs.Right.{IsDoneAtOnce, IsRightAct}
+use Rattle.board_rules.specs.Moves.{IsMove, OneByOne, IsBoardRun}
+use Rattle.board_rules.specs.Right.{IsDoneAtOnce, IsRightAct, IsAtOnce, IsRight}
 
 -- each act of the entry is a move of the Board
 abbrev pub AreMoves : ScriptData → List Entry → Entry → Type 0
@@ -38,6 +38,11 @@ pub record MayCome (s : ScriptData) (h : List Entry) (e : Entry) : Type 0 where
 -- each entry of the history may come after those before it
 abbrev pub IsAccepted : ScriptData → List Entry → Type 0
 IsAccepted s h = (n : ℕ) (e : Entry) → slice_get h n ≡ Some e → MayCome s (take n h) e
+
+-- the history keeps all rules: its acts are moves of the Board, keep to the script and show what was worth, and its
+-- entries do at once what they are asked for
+abbrev pub KeepsAllRules : ScriptData → List Entry → Type 0
+KeepsAllRules s h = IsBoardRun s h × Fits s h × IsRight s h × IsAtOnce s h
 
 -- the rule of an act that isn't a move; the end and the parking of a letter always are
 abbrev pub rule_of : Act → Rule
@@ -71,3 +76,7 @@ Breaks s h e rules.Fits = AreMoves s h e × (KeepToScript s h e → ⊥)
 Breaks s h e rules.Right = AreMoves s h e × KeepToScript s h e × (AreRight s h e → ⊥)
 Breaks s h e rules.AtOnce = AreMoves s h e × KeepToScript s h e × AreRight s h e × (DoesAtOnce s h e → ⊥)
 Breaks s h e rule = FirstFails s h e rule
+
+-- of each history of a script and each entry, whether it may come after the history or not
+abbrev pub OfEachEntry : (ScriptData → List Entry → Entry → Type 0) → Type 0
+OfEachEntry P = (s : ScriptData) (h : List Entry) (e : Entry) → P s h e

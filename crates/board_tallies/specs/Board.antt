@@ -1,5 +1,5 @@
 -- The tallies of the Board as plain data, and when they are those of a list of acts.
-use Rattle.std.specs.Prelude.{if◌then◌else◌, ℕ, zero, suc, Bool, true, false, not, ◌≡◌, ◌+◌, ◌<◌, ◌≤◌, ◌==◌, ◌&&◌, List, [], ◌∷◌, length, get_or, replicate, Option, Some, None, IsTrue, is_some, slice_get}
+use Rattle.std.specs.Prelude.{if◌then◌else◌, ℕ, zero, suc, Bool, true, false, not, ◌≡◌, ◌+◌, ◌<◌, ◌≤◌, ◌==◌, ◌&&◌, List, [], ◌∷◌, length, get_or, replicate, Option, Some, None, IsTrue, is_some, slice_get, ◌++◌}
 use Rattle.std.specs.Bool.{Decides}
 use Rattle.std.specs.List.{sum_by}
 use Rattle.tv_base.specs.declared.numbers.Version.{Version}
@@ -8,7 +8,7 @@ use Rattle.letter_types.specs.declared.acts.Act.{Act}
 use Rattle.script_parts.specs.ScriptData.{ScriptData, is_read, is_strict}
 use Rattle.script_parts.specs.declared.parts.Sub.{Sub}
 use Rattle.script_parts.specs.declared.parts.Tree.{Tree}
-use Rattle.board_rules.specs.Gates.{was_swept}
+use Rattle.board_rules.specs.Gates.{was_swept, KeepsTo}
 use Rattle.board_rules.specs.Histories.{Place, is_whole_in, version_in, was_applied, was_decided_as, was_done}
 use Rattle.board_rules.specs.Moves.{low_after, read_after, update_after}
 use Rattle.board_rules.specs.Right.{has_finished}
@@ -17,6 +17,11 @@ use Rattle.board_rules.specs.Stands.{voted_yes, was_freed, was_voted}
 use Rattle.board_tallies.specs.declared.numbers.Numbers.{Numbers}
 use Rattle.board_tallies.specs.declared.pending.Pending.{Pending}
 use Rattle.board_tallies.specs.declared.states.TreeState.{TreeState}
+use Rattle.std.specs.Option.{option_map}
+use Rattle.tv_base.specs.declared.numbers.TreeNo.{TreeNo}
+use Rattle.letter_types.specs.declared.entries.Entry.{Entry}
+use Rattle.board_rules.specs.ButCause.{IsMoveButCause}
+use Rattle.board_tallies.specs.GateRows.{AreGatesOf, GatesData}
 
 -- the numbers of each node; what is known of each tree; how many born trees aren't whole, by version; how many trees
 -- from the first on are whole; and whether the client has finished
@@ -141,3 +146,39 @@ pub record IsBoardOf (s : ScriptData) (xs : List Place) (b : BoardData) : Type 0
 -- the tree that becomes a member of the serial order by this act, after which the acts are these
 abbrev pub closes_in : ScriptData → List Place → Act → Option ℕ
 closes_in s upto act = elim (commits_by s act) [ Some t ↦ if is_settled_in s upto t then Some t else None | None ↦ None ]
+
+-- what holds of whatever acts these are the tallies of
+abbrev pub OfBoard : ScriptData → BoardData → (List Place → Type 0) → Type 0
+OfBoard s b P = (xs : List Place) → IsBoardOf s xs b → P xs
+
+-- what holds of the acts so far with the act x, whatever acts these are the tallies of, if x is a move after them but
+-- for the cause of a vote
+abbrev pub OfBoardWith : ScriptData → BoardData → Place → (List Place → Type 0) → Type 0
+OfBoardWith s b x P =
+    (before : List Entry) (xs : List Place) → IsBoardOf s xs b → IsMoveButCause s before xs x → P (xs ++ x ∷ [])
+
+-- by these tallies the act x is a move, but for the cause of a vote; and it isn't
+abbrev pub IsMoveBy : ScriptData → BoardData → Place → Type 0
+IsMoveBy s b x = (before : List Entry) (xs : List Place) → IsBoardOf s xs b → IsMoveButCause s before xs x
+
+abbrev pub IsNoMoveBy : ScriptData → BoardData → Place → Type 0
+IsNoMoveBy s b x = (before : List Entry) (xs : List Place) → IsBoardOf s xs b → IsMoveButCause s before xs x → ⊥
+
+-- by these tallies and these gates the act x keeps to the script; and it doesn't
+abbrev pub KeepsBy : ScriptData → GatesData → BoardData → Place → Type 0
+KeepsBy s g b x = AreGatesOf s g → OfBoard s b (λ xs. KeepsTo s xs x)
+
+abbrev pub StraysBy : ScriptData → GatesData → BoardData → Place → Type 0
+StraysBy s g b x = AreGatesOf s g → OfBoard s b (λ xs. KeepsTo s xs x → ⊥)
+
+-- the second tallies are the first ones with the act x
+abbrev pub IsBoardWith : ScriptData → Place → BoardData → BoardData → Type 0
+IsBoardWith s x old new = OfBoardWith s old x (λ upto. IsBoardOf s upto new)
+
+-- the number of a tree, if there is one
+abbrev pub tree_number : Option TreeNo → Option ℕ
+tree_number found = option_map (λ (t : TreeNo). t.0) found
+
+-- the act x makes this tree, if one, a member of the serial order
+abbrev pub ClosesBy : ScriptData → BoardData → Place → Option TreeNo → Type 0
+ClosesBy s b x closed = OfBoardWith s b x (λ upto. tree_number closed ≡ closes_in s upto x.act)

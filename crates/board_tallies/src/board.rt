@@ -1,12 +1,8 @@
 // The Board's tallies: how they begin, go on and are taken back.
-ghost use Rattle.std.specs.Prelude.{◌≡◌, true, false, [], ◌∷◌, ◌++◌, List, IfOk, OnErr, OnOk};
-ghost use Rattle.std.specs.Option.{option_map};
+ghost use Rattle.std.specs.Prelude.{◌≡◌, true, false, [], List, IfOk, OnErr, OnOk};
 ghost use Rattle.tv_base.specs.declared.numbers.TreeNo.{TreeNo};
 ghost use Rattle.script_parts.specs.ScriptData.{ScriptData};
-ghost use Rattle.letter_types.specs.declared.entries.Entry.{Entry};
-ghost use Rattle.board_rules.specs.ButCause.{IsMoveButCause};
-ghost use Rattle.board_rules.specs.Gates.{KeepsTo};
-ghost use Rattle.board_rules.specs.Histories.{Place};
+ghost use Rattle.board_rules.specs.Histories.{Place, act_at};
 
 use crate::gates::{Gates, RowGate};
 use crate::keeping::{all_gone, all_swept, is_client};
@@ -61,8 +57,7 @@ pub struct NotedAct {
 }
 
 impl Board {
-    ghost use Rattle.board_tallies.specs.Board.{IsBoardOf, closes_in};
-    ghost use Rattle.board_tallies.specs.GateRows.{AreGatesOf};
+    ghost use Rattle.board_tallies.specs.Board.{ClosesBy, IsBoardOf, IsBoardWith, IsMoveBy, IsNoMoveBy, KeepsBy, StraysBy};
     ghost use Rattle.board_tallies.specs.TakenBack.{taken_back};
     ghost use Rattle.board_tallies.specs.inside.Keeping.{is_open_gate, keeps_by, may_finish};
     ghost use Rattle.board_tallies.specs.inside.May.{may_come};
@@ -96,10 +91,8 @@ impl Board {
     /// Whether an act of this actor is a move of the Board after the acts so far, except for the cause of a vote. Takes
     /// time by the nodes or by a transaction's subtransactions.
     pub fn moves(&self, script: &Script, node: ActorNo, act: &Act) -> bool
-        ensures yes { result ≡ true → (before : List Entry) (xs : List Place) → IsBoardOf script.now xs self.now
-            → IsMoveButCause script.now before xs (record { node = node.0; act = act.now }) }
-        ensures no { result ≡ false → (before : List Entry) (xs : List Place) → IsBoardOf script.now xs self.now
-            → IsMoveButCause script.now before xs (record { node = node.0; act = act.now }) → ⊥ }
+        ensures yes { result ≡ true → IsMoveBy script.now self.now (act_at node.0 act.now) }
+        ensures no { result ≡ false → IsNoMoveBy script.now self.now (act_at node.0 act.now) }
     {
         let trees = script.trees();
         self.may_come(trees, node, act)
@@ -126,10 +119,8 @@ impl Board {
     /// begun, and a node's update version is raised, only if the gate of the row is open, and the client finishes once,
     /// at the end. Takes time by the nodes.
     pub fn keeps(&self, script: &Script, gates: &Gates, node: ActorNo, act: &Act) -> bool
-        ensures yes { result ≡ true → AreGatesOf script.now gates.now → (xs : List Place) → IsBoardOf script.now xs self.now
-            → KeepsTo script.now xs (record { node = node.0; act = act.now }) }
-        ensures no { result ≡ false → AreGatesOf script.now gates.now → (xs : List Place) → IsBoardOf script.now xs self.now
-            → KeepsTo script.now xs (record { node = node.0; act = act.now }) → ⊥ }
+        ensures yes { result ≡ true → KeepsBy script.now gates.now self.now (act_at node.0 act.now) }
+        ensures no { result ≡ false → StraysBy script.now gates.now self.now (act_at node.0 act.now) }
     {
         let count = script.nodes();
         let asked = script.advances();
@@ -171,13 +162,8 @@ impl Board {
     /// Notes an act of this actor, which has to be a move except for the cause of a vote, and gives that by which it is
     /// taken back. `NoMemory` leaves the Board as it was; it also comes if a count is at its type's greatest number.
     pub fn note(&mut self, script: &Script, node: ActorNo, act: &Act) -> Result<NotedAct, NoMemory>
-        ensures noted { OnOk result ((before : List Entry) (xs : List Place) → IsBoardOf script.now xs self.old
-            → IsMoveButCause script.now before xs (record { node = node.0; act = act.now })
-            → IsBoardOf script.now (xs ++ record { node = node.0; act = act.now } ∷ []) self.new) }
-        ensures closed { IfOk result (λ n. (before : List Entry) (xs : List Place) → IsBoardOf script.now xs self.old
-            → IsMoveButCause script.now before xs (record { node = node.0; act = act.now })
-            → option_map (λ (t : TreeNo). t.0) n.closed
-            ≡ closes_in script.now (xs ++ record { node = node.0; act = act.now } ∷ []) act.now) }
+        ensures noted { OnOk result (IsBoardWith script.now (act_at node.0 act.now) self.old self.new) }
+        ensures closed { IfOk result (λ n. ClosesBy script.now self.old (act_at node.0 act.now) n.closed) }
         ensures back { IfOk result (λ n. taken_back n self.new ≡ self.old) }
         ensures err { OnErr result (self.new ≡ self.old) }
     {

@@ -1,7 +1,7 @@
 // What the Board's tallies say of the acts so far.
-ghost use Rattle.std.specs.Prelude.{◌≡◌, ◌↔◌, ◌<◌, IsTrue, List, length, true, ℕ};
+ghost use Rattle.std.specs.Prelude.{◌≡◌, ◌↔◌, ◌<◌, IsTrue, List, true};
 ghost use Rattle.script_parts.specs.ScriptData.{ScriptData};
-ghost use Rattle.board_rules.specs.Histories.{Place, is_whole_in, version_in, was_applied, was_decided_as, was_done};
+ghost use Rattle.board_rules.specs.Histories.{Place, is_whole_in, version_in, was_applied, was_decided_as, was_done, AreAllWhole};
 ghost use Rattle.board_rules.specs.Moves.{low_after, read_after, update_after};
 ghost use Rattle.board_rules.specs.Right.{has_finished};
 ghost use Rattle.board_rules.specs.Stands.{voted_yes, was_freed, was_voted};
@@ -76,8 +76,7 @@ impl Board {
 
     /// Whether every transaction is complete. It doesn't go over them.
     pub fn all_whole(&self) -> bool
-        ensures { (s : ScriptData) (xs : List Place) → IsBoardOf s xs self.now
-            → (IsTrue result ↔ ((t : ℕ) → t < length s.trees → IsTrue (is_whole_in s xs t))) }
+        ensures { (s : ScriptData) (xs : List Place) → IsBoardOf s xs self.now → (IsTrue result ↔ AreAllWhole s xs) }
     {
         self.passed == self.trees.len()
     }

@@ -2,9 +2,9 @@
 ghost use Rattle.std.specs.Prelude.{if◌then◌else◌, ◌≡◌, ◌<◌, ◌&&◌, ◌||◌, length, IfOk, None, OnErr, OnOk, Some};
 ghost use Rattle.board_rules.specs.Right.{finishes};
 ghost use Rattle.script_parts.specs.ScriptData.{is_strict, is_update};
-ghost use Rattle.board_tallies.specs.Board.{AreCounted, state_at, whole_at};
+ghost use Rattle.board_tallies.specs.Board.{state_at, whole_at};
 ghost use Rattle.board_tallies.specs.TakenBack.{pending_back, states_back};
-ghost use Rattle.board_tallies.specs.inside.Noting.{GoesOn, closed_by, kind_passes, pending_at, reads_at, states_told, states_with};
+ghost use Rattle.board_tallies.specs.inside.Noting.{GoesOn, closed_by, kind_passes, pending_at, reads_at, states_told, states_with, StayCounted};
 
 use crate::pending::{Pending, PendingWas, recount, recount_back};
 use crate::states::{
@@ -31,8 +31,8 @@ pub(crate) fn note_tree(
     act: &Act,
 ) -> Result<ToldWas, NoMemory>
     ensures states { OnOk result (states.new.items ≡ states_with node.0 act.now states.old.items) }
-    ensures counted { OnOk result (AreCounted trees.now states.old.items pending.old.items
-        → AreCounted trees.now states.new.items pending.new.items) }
+    ensures counted { OnOk result (StayCounted trees.now states.old.items pending.old.items
+        states.new.items pending.new.items) }
     ensures states_back { IfOk result (λ told. states_back told.state states.new.items ≡ states.old.items) }
     ensures pending_back { IfOk result (λ told. pending_back told.pending pending.new.items ≡ pending.old.items) }
     ensures states_err { OnErr result (states.new.items ≡ states.old.items) }
@@ -77,8 +77,8 @@ fn note_news(
     news: StateNews,
 ) -> Result<ToldWas, NoMemory>
     ensures states { OnOk result (states.new.items ≡ states_told (Some (tree, news)) states.old.items) }
-    ensures counted { OnOk result (AreCounted trees.now states.old.items pending.old.items
-        → AreCounted trees.now states.new.items pending.new.items) }
+    ensures counted { OnOk result (StayCounted trees.now states.old.items pending.old.items
+        states.new.items pending.new.items) }
     ensures states_back { IfOk result (λ told. states_back told.state states.new.items ≡ states.old.items) }
     ensures pending_back { IfOk result (λ told. pending_back told.pending pending.new.items ≡ pending.old.items) }
     ensures states_err { OnErr result (states.new.items ≡ states.old.items) }

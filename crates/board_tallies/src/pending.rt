@@ -1,8 +1,8 @@
 // How many born trees aren't whole, by version.
-ghost use Rattle.std.specs.Prelude.{◌≡◌, ◌+◌, ◌≤◌, ◌<◌, Bool, Some, ℕ, filter, get_or, length, IfOk, IfSome, IsNone, OnErr, OnOk};
-ghost use Rattle.board_tallies.specs.Board.{count_of, pending_of, pends};
+ghost use Rattle.std.specs.Prelude.{◌≡◌, ◌+◌, ◌<◌, Some, filter, get_or, length, IfOk, IfSome, IsNone, OnErr, OnOk};
+ghost use Rattle.board_tallies.specs.Board.{count_of, pending_of};
 ghost use Rattle.board_tallies.specs.TakenBack.{pending_back};
-ghost use Rattle.board_tallies.specs.inside.Pending.{MayRecount, is_counted, none_to, with_count};
+ghost use Rattle.board_tallies.specs.inside.Pending.{is_counted, none_to, with_count, AreRecounted, HaveOneLess, HaveOneMore};
 ghost use Rattle.board_tallies.specs.declared.pending.Pending.{Pending};
 
 use tv_base::{NoMemory, Version};
@@ -85,8 +85,7 @@ fn count_in(
     reads: bool,
     version: Version,
 ) -> Result<PendingWas, NoMemory>
-    ensures counts { OnOk result ((r : Bool) (v : ℕ)
-        → pending_of r v pending.new.items ≡ pending_of r v pending.old.items + pends r v reads (Some version)) }
+    ensures counts { OnOk result (HaveOneMore reads version pending.old.items pending.new.items) }
     ensures back { IfOk result (λ was. pending_back was pending.new.items ≡ pending.old.items) }
     ensures err { OnErr result (pending.new.items ≡ pending.old.items) }
 {
@@ -108,8 +107,7 @@ fn add_first(
     reads: bool,
     version: Version,
 ) -> Result<PendingWas, NoMemory>
-    ensures counts { OnOk result ((r : Bool) (v : ℕ)
-        → pending_of r v pending.new.items ≡ pending_of r v pending.old.items + pends r v reads (Some version)) }
+    ensures counts { OnOk result (HaveOneMore reads version pending.old.items pending.new.items) }
     ensures back { IfOk result (λ was. pending_back was pending.new.items ≡ pending.old.items) }
     ensures err { OnErr result (pending.new.items ≡ pending.old.items) }
 {
@@ -125,8 +123,7 @@ fn add_first(
 
 // Counts one tree less in a version, if one is counted there, and gives what was there.
 fn count_out(pending: &mut Vec<Pending>, reads: bool, version: Version) -> PendingWas
-    ensures counts { 1 ≤ pending_of reads version.0 pending.old.items → (r : Bool) (v : ℕ)
-        → pending_of r v pending.new.items + pends r v reads (Some version) ≡ pending_of r v pending.old.items }
+    ensures counts { HaveOneLess reads version pending.old.items pending.new.items }
     ensures back { pending_back result pending.new.items ≡ pending.old.items }
 {
     let Some(place) = counted_place(pending, reads, version) else {
@@ -146,8 +143,7 @@ pub(crate) fn recount(
     before: Option<Version>,
     after: Option<Version>,
 ) -> Result<PendingWas, NoMemory>
-    ensures counts { OnOk result (MayRecount reads before after pending.old.items → (r : Bool) (v : ℕ)
-        → pending_of r v pending.new.items + pends r v reads before ≡ pending_of r v pending.old.items + pends r v reads after) }
+    ensures counts { OnOk result (AreRecounted reads before after pending.old.items pending.new.items) }
     ensures back { IfOk result (λ was. pending_back was pending.new.items ≡ pending.old.items) }
     ensures err { OnErr result (pending.new.items ≡ pending.old.items) }
 {

@@ -1,5 +1,5 @@
 -- A command line as a plain recursion over its words.
-use Rattle.std.specs.Prelude.{Bool, not, ◌==◌, ◌&&◌, ◌||◌, List, [], ◌∷◌, Option, Some, None, is_some, option_and_then, unwrap_or, codes, if◌then◌else◌}
+use Rattle.std.specs.Prelude.{Bool, not, ◌==◌, ◌&&◌, ◌||◌, List, [], ◌∷◌, Option, Some, None, is_some, option_and_then, unwrap_or, codes, if◌then◌else◌, map, String, string_bytes}
 use Rattle.std.specs.List.{after_first, before_first, list_any}
 use Rattle.std.specs.Map.{lookup}
 use Rattle.std.specs.Option.{option_or}
@@ -81,3 +81,7 @@ asked words = None
 -- every line of the command line
 abbrev pub line_of : List Text → Option Line
 line_of words = option_or (asked words) (line_of_options words)
+
+-- the line of words as the system gives them
+abbrev pub line_said : {A : Type 0} → List (String A) → Option Line
+line_said words = line_of (map string_bytes words)

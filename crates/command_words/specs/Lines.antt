@@ -1,5 +1,5 @@
 -- The line that the values of the options make.
-use Rattle.std.specs.Prelude.{ℕ, Bool, true, false, ◌≡◌, ◌≤◌, ◌&&◌, nat_le, Option, Some, None, Result, Ok, Err, codes, option_map, unwrap_or, if◌then◌else◌, ⊤}
+use Rattle.std.specs.Prelude.{ℕ, Bool, true, false, ◌≡◌, ◌≤◌, ◌&&◌, nat_le, Option, Some, None, Result, Ok, Err, codes, option_map, unwrap_or, if◌then◌else◌, ⊤, MatchResult}
 use Rattle.std.specs.Str.{bytes_eq}
 use Rattle.clap.specs.Words.{Text}
 use Rattle.tv_base.specs.Digits.{decimal_value}
@@ -28,6 +28,12 @@ mode_of word =
 abbrev pub is_given_in : ℕ → ℕ → Option Text → Bool
 is_given_in low high None = true
 is_given_in low high (Some text) = is_option_number text && nat_le low (decimal_value text) && nat_le (decimal_value text) high
+
+-- what a call made of a number's text, if one is given: its number, or that it isn't from low to high
+abbrev pub IsReadNumber : ℕ → ℕ → Option Text → Result (Option ℕ) WordsError → Type 0
+IsReadNumber low high text read = MatchResult read
+    (λ v. (is_given_in low high text ≡ true) × (v ≡ option_map decimal_value text))
+    (λ e. (e ≡ errors.Refused) × (is_given_in low high text ≡ false))
 
 -- what goes with each mode: workers are 4 where they aren't given, and a soak needs its seed and its trees
 abbrev pub line_of_mode : ModeName → Option ℕ → Option ℕ → Option ℕ → Bool → Option Line

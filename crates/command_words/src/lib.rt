@@ -1,13 +1,12 @@
 //! The command line of the program, read into what it asks for.
 #![tactic(auto)]
 
-ghost use Rattle.std.specs.Prelude.{◌≡◌, IfOk, MatchResult, codes, drop, false, map, option_and_then, option_map, string_bytes, true};
+ghost use Rattle.std.specs.Prelude.{◌≡◌, IfOk, codes, drop, false, map, option_and_then, string_bytes, true, option_copied};
 ghost use Rattle.std.specs.List.{list_any};
 ghost use Rattle.std.specs.Str.{bytes_eq};
-ghost use Rattle.tv_base.specs.Digits.{decimal_value};
-ghost use Rattle.command_words.specs.Grammar.{asked as asked_in, asked_by as asked_in_word, line_of, line_of_options};
-ghost use Rattle.command_words.specs.Lines.{IsInRange, HasReadLine, is_given_in, line_of_mode, mode_of};
-ghost use Rattle.command_words.specs.inside.Parser.{is_on as is_on_text, line_from};
+ghost use Rattle.command_words.specs.Grammar.{asked as asked_in, asked_by as asked_in_word, line_of_options, line_said};
+ghost use Rattle.command_words.specs.Lines.{IsInRange, HasReadLine, line_of_mode, mode_of, IsReadNumber};
+ghost use Rattle.command_words.specs.inside.Parser.{is_on as is_on_text, HasReadValues};
 
 mod numbers;
 mod parser;
@@ -119,10 +118,7 @@ fn mode_by_word(word: &str) -> Option<ModeName>
 
 // A number in its range, if it is given.
 fn given(low: u64, high: u64, text: Option<&str>) -> Result<Option<u64>, WordsError>
-    ensures { MatchResult result
-        (λ v. (is_given_in low high (option_map (λ t. t.now) text.entry) ≡ true)
-        × (v ≡ option_map decimal_value (option_map (λ t. t.now) text.entry)))
-        (λ e. (e ≡ WordsError.Refused) × (is_given_in low high (option_map (λ t. t.now) text.entry) ≡ false)) }
+    ensures { IsReadNumber low high (option_copied text.entry) result }
 {
     let Some(text) = text else {
         return Ok(None);
@@ -135,10 +131,7 @@ fn given(low: u64, high: u64, text: Option<&str>) -> Result<Option<u64>, WordsEr
 
 // A count of 1 or more, if it is given.
 fn given_count(most: u32, text: Option<&str>) -> Result<Option<u32>, WordsError>
-    ensures { MatchResult result
-        (λ v. (is_given_in 1 most (option_map (λ t. t.now) text.entry) ≡ true)
-        × (v ≡ option_map decimal_value (option_map (λ t. t.now) text.entry)))
-        (λ e. (e ≡ WordsError.Refused) × (is_given_in 1 most (option_map (λ t. t.now) text.entry) ≡ false)) }
+    ensures { IsReadNumber 1 most (option_copied text.entry) result }
 {
     let count = given(1, most as u64, text)?;
     Ok(count.map(|n| n as u32))
@@ -176,7 +169,7 @@ fn line_by_mode(
 
 // The mode that the value of `--mode` names.
 fn mode_by_value(text: Option<&str>) -> Option<ModeName>
-    ensures { result ≡ option_and_then mode_of (option_map (λ t. t.now) text.entry) }
+    ensures { result ≡ option_and_then mode_of (option_copied text.entry) }
 {
     match text {
         Some(word) => mode_by_word(word),
@@ -192,9 +185,7 @@ fn line_by_values<'a>(
     trees: Option<&'a str>,
     history: Option<&'a str>,
 ) -> Result<Line, WordsError>
-    ensures { HasReadLine (line_from (option_map (λ t. t.now) mode.entry) (option_map (λ t. t.now) workers.entry)
-        (option_map (λ t. t.now) seed.entry) (option_map (λ t. t.now) trees.entry)
-        (option_map (λ t. t.now) history.entry)) result }
+    ensures { HasReadValues mode.entry workers.entry seed.entry trees.entry history.entry result }
 {
     let Some(mode) = mode_by_value(mode) else {
         return Err(WordsError::Refused);
@@ -209,7 +200,7 @@ fn line_by_values<'a>(
 }
 
 fn is_on(text: Option<&str>) -> bool
-    ensures { result ≡ is_on_text (option_map (λ t. t.now) text.entry) }
+    ensures { result ≡ is_on_text (option_copied text.entry) }
 {
     match text {
         Some(text) => text == "true",
@@ -277,7 +268,7 @@ fn asked(words: &[String]) -> Option<Line>
 /// `Refused` comes only if the words are no line, and a line only if they are that line. `NoMemory` tells nothing of
 /// the words.
 pub fn read_words(alloc: Global, words: &[String]) -> Result<Line, WordsError>
-    ensures told { HasReadLine (line_of (map string_bytes words.now)) result }
+    ensures told { HasReadLine (line_said words.now) result }
     ensures range { IfOk result IsInRange }
 {
     match asked(words) {

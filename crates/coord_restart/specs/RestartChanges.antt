@@ -44,3 +44,7 @@ after_restart_change change c = after_restart_next change.next (with_taken chang
 pub record IsRestartStepOf (o : Out Restarting) (c : Restarting) (p : RestartPrepared) : Type 0 where
   pub row : made (after_restart_change p.change c) p.out ≡ o
   pub may : MayTakeUp p.change.taken c
+
+-- a step that is prepared is the row of this body, from this actor, in this phase
+abbrev pub IsRestartRow : Body → RestartPhase → ℕ → Restarting → RestartPrepared → Type 0
+IsRestartRow body phase from c p = IsRestartStepOf (restart_row_of body phase from c) c p

@@ -3,8 +3,8 @@ ghost use Rattle.std.specs.Prelude.{◌≡◌, ◌≤◌, ◌+◌, ◌++◌, rep
 ghost use Rattle.letter_types.specs.Steps.{made};
 ghost use Rattle.letter_types.specs.declared.bodies.Body.TheVariants.{Numbers, Wanted, Obeyed, DoneRow, AskedRow};
 ghost use Rattle.world_model.specs.declared.restarting.RestartPhase.TheVariants.{Recovering, Doing, Counting};
-ghost use Rattle.coord_restart.specs.RestartChanges.{IsRestartStepOf, MayTakeUp, after_restart_change, after_restart_next, with_taken};
-ghost use Rattle.world_model.specs.Restarting.{start_restarting, restarting_row, restart_row_of, forget, enter, enter_telling, orders, target, next_advance, with_wanted, with_advances, version_counted, begin_counting, ask_all_requests, end_counting, by_counted, end_advancing, after_doing, obeyed, same_what, is_answer, resume, recover, in_restart_phase};
+ghost use Rattle.coord_restart.specs.RestartChanges.{IsRestartStepOf, MayTakeUp, after_restart_change, after_restart_next, with_taken, IsRestartRow};
+ghost use Rattle.world_model.specs.Restarting.{start_restarting, restarting_row, forget, enter, enter_telling, orders, target, next_advance, with_wanted, with_advances, version_counted, begin_counting, ask_all_requests, end_counting, by_counted, end_advancing, after_doing, same_what, is_answer, resume, recover, in_restart_phase};
 
 use crate::change::{AllTold, RestartNext, RestartPrepared, Taken};
 use crate::tellings::{Tellings, next_advance};
@@ -323,8 +323,8 @@ impl Restarting {
         epoch: u64,
         told: Told,
     ) -> Result<RestartPrepared, NoMemory>
-        ensures { IfOk result (IsRestartStepOf
-            (restart_row_of (Numbers epoch told.update told.read told.low) Recovering from.0 self.now) self.now) }
+        ensures { IfOk result (IsRestartRow
+            (Numbers epoch told.update told.read told.low) Recovering from.0 self.now) }
     {
         let place = from.0 as usize;
         let kept = self.told.items();
@@ -344,8 +344,7 @@ impl Restarting {
         epoch: u64,
         advances: u32,
     ) -> Result<RestartPrepared, NoMemory>
-        ensures { IfOk result (IsRestartStepOf
-            (restart_row_of (Wanted epoch advances) Recovering from.0 self.now) self.now) }
+        ensures { IfOk result (IsRestartRow (Wanted epoch advances) Recovering from.0 self.now) }
     {
         if !(epoch == self.epoch && from.0 == self.nodes + 1) {
             return Ok(RestartPrepared::silent(alloc, Taken::Nothing, RestartNext::Stay));
@@ -405,8 +404,7 @@ impl Restarting {
         version: Version,
         doing: What,
     ) -> Result<RestartPrepared, NoMemory>
-        ensures { IfOk result (IsRestartStepOf
-            (restart_row_of (Obeyed epoch what version) (Doing doing) 0 self.now) self.now) }
+        ensures { IfOk result (IsRestartRow (Obeyed epoch what version) (Doing doing) 0 self.now) }
     {
         if !self.is_answer(epoch, what, version, doing) {
             return Ok(RestartPrepared::silent(alloc, Taken::Nothing, RestartNext::Stay));
@@ -480,8 +478,7 @@ impl Restarting {
         round: u64,
         row: &Row,
     ) -> Result<RestartPrepared, NoMemory>
-        ensures { IfOk result (IsRestartStepOf
-            (restart_row_of (DoneRow version round row.now) (Counting reads) from.0 self.now) self.now) }
+        ensures { IfOk result (IsRestartRow (DoneRow version round row.now) (Counting reads) from.0 self.now) }
     {
         let Some(counted) = self.count.look_done(from, version, round, row) else {
             return Ok(RestartPrepared::silent(alloc, Taken::Nothing, RestartNext::Stay));
@@ -500,8 +497,7 @@ impl Restarting {
         round: u64,
         row: &Row,
     ) -> Result<RestartPrepared, NoMemory>
-        ensures { IfOk result (IsRestartStepOf
-            (restart_row_of (AskedRow version round row.now) (Counting reads) from.0 self.now) self.now) }
+        ensures { IfOk result (IsRestartRow (AskedRow version round row.now) (Counting reads) from.0 self.now) }
     {
         let Some(counted) = self.count.look_asked(from, version, round, row) else {
             return Ok(RestartPrepared::silent(alloc, Taken::Nothing, RestartNext::Stay));

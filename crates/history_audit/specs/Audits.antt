@@ -2,7 +2,7 @@
 use Rattle.std.specs.Prelude.{if◌then◌else◌, ℕ, Bool, true, false, ◌≡◌, ◌==◌, ◌&&◌, ◌⊎◌, ◌++◌, List, [], ◌∷◌, codes, drop, take, Option, Result, Ok, Err, ⊤}
 use Rattle.std.specs.Io.KnownBytes.{Consumes, IsAtEnd}
 use Rattle.std.specs.Str.{bytes_eq}
-use Rattle.tv_base.specs.Outside.{HasMoreThan}
+use Rattle.tv_base.specs.Outside.{HasMoreThan, Rose}
 use Rattle.tx_trees.specs.ScriptData.{ScriptData}
 use Rattle.script_parts.specs.declared.why.Why.TheVariants as why
 use Rattle.script_reader.specs.Reading.{fault, read_of}
@@ -27,8 +27,8 @@ ends_line (b ∷ bs) = b == 10
 abbrev pub begins_history : List ℕ → Bool
 begins_history text = bytes_eq (take 7 text) (codes "history") && ends_line (drop 7 text)
 
--- a text, at the start of a line or elsewhere, in two: what stands before the first line that is exactly `history`, and what
--- stands behind it
+-- a text, at the start of a line or elsewhere, in two: what stands before the first line that is exactly `history`, and
+-- what stands behind it
 abbrev pub divided : Bool → List ℕ → List ℕ × List ℕ
 divided starts [] = ([], [])
 divided starts (b ∷ bs) =
@@ -73,9 +73,17 @@ RefusesPart left now f = ((bytes : List ℕ) × ReadsAll left now bytes × (read
 abbrev pub accepted_line : ℕ → List ℕ
 accepted_line n = count_text (codes "history ok entries ") n ++ codes "\n"
 
+-- all bytes that the source had are accepted, and the text is the line that says so
+abbrev pub IsAcceptance : Option (List ℕ) → Option (List ℕ) → List ℕ → Type 0
+IsAcceptance left now text = (n : ℕ) × IsAuditOf left now (Ok n) × (text ≡ accepted_line n)
+
 -- what must be so for an audit to stop so; out of memory may always come
 abbrev pub HasAuditCause : Option (List ℕ) → Option (List ℕ) → Type 0 → AuditStop → Type 0
 HasAuditCause left now failed stops.NoMemory = ⊤
 HasAuditCause left now failed stops.Reading = failed
 HasAuditCause left now failed (stops.Script f) = RefusesPart left now f
 HasAuditCause left now failed (stops.History f) = IsAuditOf left now (Err (f.entry, f.rule))
+
+-- the same of a source, by what it has left and how often it has failed
+abbrev pub StopsAudit : {S : Type 0} → (S → Option (List ℕ)) → (S → ℕ) → S → S → AuditStop → Type 0
+StopsAudit left faults old new stop = HasAuditCause (left old) (left new) (Rose (faults old) (faults new)) stop

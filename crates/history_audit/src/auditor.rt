@@ -1,9 +1,7 @@
 // The audit of a printed history.
-ghost use Rattle.std.specs.Prelude.{ℕ, ◌≡◌, ◌+◌, ◌<◌, ◌++◌, ◌∷◌, [], List, true, false, length, Err, IfErr, IfOk};
-ghost use Rattle.letter_types.specs.declared.entries.Entry.{Entry};
-ghost use Rattle.tx_trees.specs.ScriptData.{ScriptData};
+ghost use Rattle.std.specs.Prelude.{◌≡◌, ◌+◌, ◌<◌, [], true, false, length, Err, IfErr, IfOk};
 ghost use Rattle.history_audit.specs.Audited.{IsAudited};
-ghost use Rattle.history_audit.specs.inside.Auditing.{IsUnderAudit, audit_refusal, end_of, judged_refusal, unread_of};
+ghost use Rattle.history_audit.specs.inside.Auditing.{audit_refusal, end_of, judged_refusal, unread_of, HaveTakenOne, RefusesSo};
 
 use crate::rules::AuditRule;
 use crate::source_audit::HistoryFault;
@@ -47,14 +45,12 @@ pub fn audit(alloc: Global, script: &Script, text: &[u8]) -> Result<u64, AuditRe
 
 // Takes the next entry of the walk. Whether there was one.
 fn take_next(walk: &mut Walk, judge: &mut Judge) -> Result<bool, AuditRefusal>
-    ensures more { IfOk result (λ more. more ≡ true → (s : ScriptData) (text : List ℕ) (h : List Entry)
-        → IsUnderAudit s text h walk.old judge.old → (e : Entry) × IsUnderAudit s text (h ++ e ∷ []) walk.new judge.new) }
+    ensures more { IfOk result (λ more. more ≡ true → HaveTakenOne walk.old judge.old walk.new judge.new) }
     ensures shorter { IfOk result (λ more. more ≡ true → length walk.new.rest < length walk.old.rest) }
     ensures end { IfOk result (λ more. more ≡ false → walk.old.rest ≡ []) }
     ensures walk { IfOk result (λ more. more ≡ false → walk.new ≡ walk.old) }
     ensures judge { IfOk result (λ more. more ≡ false → judge.new ≡ judge.old) }
-    ensures refused { IfErr result (λ refusal. (s : ScriptData) (text : List ℕ) (h : List Entry)
-        → IsUnderAudit s text h walk.old judge.old → IsAudited s text (Err refusal)) }
+    ensures refused { IfErr result (RefusesSo walk.old judge.old) }
 {
     let number = walk.count() + 1;
     let next = match walk.next() {

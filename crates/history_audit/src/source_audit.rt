@@ -1,7 +1,7 @@
 // An audit of what a source has.
-ghost use Rattle.std.specs.Prelude.{ℕ, ◌≡◌, ◌+◌, Ok, IfErr, IfOk};
-ghost use Rattle.tv_base.specs.Outside.{HasTaken, Rose};
-ghost use Rattle.history_audit.specs.Audits.{HasAuditCause, IsAuditOf, accepted_line};
+ghost use Rattle.std.specs.Prelude.{◌≡◌, ◌+◌, Ok, IfErr, IfOk};
+ghost use Rattle.tv_base.specs.Outside.{HasTaken};
+ghost use Rattle.history_audit.specs.Audits.{accepted_line, IsAcceptance, StopsAudit};
 
 use crate::auditor::{AuditRefusal, audit};
 use crate::dividing::divide;
@@ -96,10 +96,8 @@ impl From<AuditRefusal> for AuditStop {
 /// is none, all is the script, and the history is empty. Takes memory by what is read, and time by its length and by
 /// what `audit` takes.
 pub fn audit_source<S: Source>(alloc: Global, source: &mut S) -> Result<Text, AuditStop>
-    ensures accepted { IfOk result (λ text. (n : ℕ) × IsAuditOf (S.left source.old) (S.left source.new) (Ok n)
-        × (text ≡ accepted_line n)) }
-    ensures cause { IfErr result (λ stop. HasAuditCause (S.left source.old) (S.left source.new)
-        (Rose (S.faults source.old) (S.faults source.new)) stop) }
+    ensures accepted { IfOk result (IsAcceptance (S.left source.old) (S.left source.new)) }
+    ensures cause { IfErr result (StopsAudit S.left S.faults source.old source.new) }
     ensures taken { HasTaken (MOST_AUDIT_BYTES + 1) (S.left source.old) (S.left source.new) }
 {
     let bytes = read_all(alloc, source, MOST_AUDIT_BYTES)?;

@@ -43,6 +43,10 @@ pub record HasReceiptEntry (s : ScriptData) (h : List Entry) (r : ReceiptData) :
   pub acts : (before : List Posting) → r.own ≡ before ++ r.posting ∷ [] → entry.acts ≡ last_acts s r.number r.own
   pub later : r.posting.took.id.stamp.0 < r.posting.stamp.0
 
+-- so of each of these receipts
+abbrev pub HasReceiptEntries : ScriptData → List ReceiptData → List Entry → Type 0
+HasReceiptEntries s receipts h = (k : ℕ) (r : ReceiptData) → slice_get receipts k ≡ Some r → HasReceiptEntry s h r
+
 -- every letter was taken: there are as many entries as letters, which are Go and those that entries sent
 abbrev pub HasTakenAll : List Entry → Type 0
 HasTakenAll h = length h ≡ sum_by (λ e. length e.sent) h + 1

@@ -1,5 +1,5 @@
 -- How the entries of all actors are recorded in one history, by stamp.
-use Rattle.std.specs.Prelude.{◌≡◌, ◌+◌, ℕ, List, [], ◌∷◌, ◌++◌, length, slice_get, slice_set, Some}
+use Rattle.std.specs.Prelude.{◌≡◌, ◌+◌, ℕ, List, [], ◌∷◌, ◌++◌, length, slice_get, slice_set, Some, ◌⊎◌}
 use Rattle.std.specs.List.{remove}
 use Rattle.letter_types.specs.declared.entries.Entry.{Entry}
 use Rattle.stamp_post.specs.declared.rule.JoinedReceipt.{JoinedReceipt}
@@ -51,6 +51,10 @@ FirstHas stamp (e ∷ es) = e.stamp.0 ≡ stamp
 abbrev pub NoneHas : ℕ → List (List Entry) → Type 0
 NoneHas stamp lists = (a : ℕ) (es : List Entry) → slice_get lists a ≡ Some es → ¬ FirstHas stamp es
 
+-- the next entry doesn't wait
+abbrev pub LacksNext : RecorderData → Type 0
+LacksNext r = NoneHas (length r.done + 1) r.waiting
+
 -- the next entry was recorded
 abbrev pub RecordsNext : RecorderData → RecorderData → Entry → Type 0
 RecordsNext old new e = Taken (length old.done + 1) old.waiting new.waiting e × (new.done ≡ old.done ++ e ∷ [])
@@ -63,3 +67,13 @@ Records (e ∷ es) old new = (between : RecorderData) × RecordsNext old between
 -- entries were handed in, and then some were recorded
 abbrev pub HandsIn : List Entry → RecorderData → RecorderData → Type 0
 HandsIn made old new = (es : List Entry) × Records es (handed_in made old) new
+
+-- entries that were made are all handed in; they are left, and the recorder is as it was; and either
+abbrev pub AreHandedIn : List Entry → List Entry → RecorderData → RecorderData → Type 0
+AreHandedIn made now old new = (now ≡ []) × HandsIn made old new
+
+abbrev pub AreLeft : List Entry → List Entry → RecorderData → RecorderData → Type 0
+AreLeft made now old new = (now ≡ made) × (new ≡ old)
+
+abbrev pub AreLeftOrIn : List Entry → List Entry → RecorderData → RecorderData → Type 0
+AreLeftOrIn made now old new = AreLeft made now old new ⊎ AreHandedIn made now old new

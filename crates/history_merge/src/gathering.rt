@@ -1,9 +1,9 @@
 // The logs of all actors, and the one history that was recorded of them.
-ghost use Rattle.std.specs.Prelude.{◌≡◌, ◌+◌, ◌≤◌, ℕ, All, Some, length, map, slice_get, sum_by};
+ghost use Rattle.std.specs.Prelude.{◌≡◌, ◌+◌, ◌≤◌, All, length, map, sum_by};
 ghost use Rattle.tv_base.specs.declared.numbers.TheConstants.{MOST_ENTRIES};
-ghost use Rattle.stamp_post.specs.Shown.{ReceiptData, seat_joined};
+ghost use Rattle.stamp_post.specs.Shown.{seat_joined};
 ghost use Rattle.world_model.specs.Runs.{IsWorldRun};
-ghost use Rattle.history_merge.specs.Histories.{HasReceiptEntry};
+ghost use Rattle.history_merge.specs.Histories.{HasReceiptEntries};
 ghost use Rattle.history_merge.specs.Merging.{AllRun, HasRoom, NumberedBy, joined_from};
 
 use crate::name::ClusterName;
@@ -46,7 +46,7 @@ pub fn gathered<K: ClusterName>(
     requires few { sum_by (λ l. length l.entries) logs.items ≤ MOST_ENTRIES }
     requires receipts { All (λ r. r.post ≡ K.post) receipts }
     ensures run { IsWorldRun K.script result }
-    ensures told { (k : ℕ) (r : ReceiptData) → slice_get receipts k ≡ Some r → HasReceiptEntry K.script result r }
+    ensures told { HasReceiptEntries K.script receipts result }
 {
     let seats = seats_of(logs, room);
     let (gatherer, entries) = recorder.into_parts();

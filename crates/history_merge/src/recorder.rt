@@ -1,8 +1,8 @@
 // The history as it is recorded while actors are at work.
-ghost use Rattle.std.specs.Prelude.{◌≡◌, ◌+◌, ◌↔◌, ◌⊎◌, List, [], length, map, true, false, IfSome, IsNone, IfOk, OnErr, OnOk};
+ghost use Rattle.std.specs.Prelude.{◌≡◌, ◌+◌, ◌↔◌, List, [], length, map, true, false, IfSome, IsNone, IfOk, OnErr, OnOk};
 ghost use Rattle.letter_types.specs.declared.entries.Entry.{Entry};
 ghost use Rattle.stamp_post.specs.Shown.{gatherer_data};
-ghost use Rattle.history_merge.specs.Recording.{AreRecorded, FirstHas, HandsIn, RecordsNext, NoneHas, Records, Taken, handed_in, recorder_data};
+ghost use Rattle.history_merge.specs.Recording.{AreRecorded, FirstHas, RecordsNext, NoneHas, Records, Taken, handed_in, recorder_data, AreHandedIn, AreLeft, AreLeftOrIn, LacksNext};
 
 use crate::made::Made;
 use crate::name::ClusterName;
@@ -98,7 +98,7 @@ impl<K: ClusterName> Recorder<K> {
     pub fn take_in(&mut self, made: &mut VecDeque<Made<K>>) -> Result<(), NoMemory>
         ensures ok { OnOk result (self.new ≡ handed_in made.old.items self.old) }
         ensures emptied { OnOk result (made.new.items ≡ []) }
-        ensures err { OnErr result ((made.new.items ≡ made.old.items) × (self.new ≡ self.old)) }
+        ensures err { OnErr result (AreLeft made.old.items made.new.items self.old self.new) }
     {
         if made.is_empty() {
             return Ok(());
@@ -113,8 +113,7 @@ impl<K: ClusterName> Recorder<K> {
     fn record_next(&mut self, post: &Post) -> Result<bool, NoMemory>
         requires { post.now ≡ K.post }
         ensures next { IfOk result (λ went. went ≡ true → (e : Entry) × RecordsNext self.old self.new e) }
-        ensures none { IfOk result (λ went. went ≡ false
-            → NoneHas (length self.new.done + 1) self.new.waiting × (self.new ≡ self.old)) }
+        ensures none { IfOk result (λ went. went ≡ false → LacksNext self.new × (self.new ≡ self.old)) }
         ensures err { OnErr result (self.new ≡ self.old) }
     {
         self.done.reserve(1)?;
@@ -132,7 +131,7 @@ impl<K: ClusterName> Recorder<K> {
     pub fn advance(&mut self, post: &Post) -> Result<(), NoMemory>
         requires { post.now ≡ K.post }
         ensures moved { (es : List Entry) × Records es self.old self.new }
-        ensures all { OnOk result (NoneHas (length self.new.done + 1) self.new.waiting) }
+        ensures all { OnOk result (LacksNext self.new) }
     {
         while self.record_next(post)? {}
         Ok(())
@@ -142,10 +141,9 @@ impl<K: ClusterName> Recorder<K> {
     /// in and those that aren't recorded yet wait.
     pub fn record(&mut self, post: &Post, made: &mut VecDeque<Made<K>>) -> Result<(), NoMemory>
         requires { post.now ≡ K.post }
-        ensures ok { OnOk result ((made.new.items ≡ []) × HandsIn made.old.items self.old self.new) }
-        ensures all { OnOk result (NoneHas (length self.new.done + 1) self.new.waiting) }
-        ensures err { OnErr result (((made.new.items ≡ made.old.items) × (self.new ≡ self.old))
-            ⊎ ((made.new.items ≡ []) × HandsIn made.old.items self.old self.new)) }
+        ensures ok { OnOk result (AreHandedIn made.old.items made.new.items self.old self.new) }
+        ensures all { OnOk result (LacksNext self.new) }
+        ensures err { OnErr result (AreLeftOrIn made.old.items made.new.items self.old self.new) }
     {
         self.take_in(made)?;
         self.advance(post)

@@ -9,7 +9,7 @@ use Rattle.letter_types.specs.Letters.{same_id}
 use Rattle.letter_types.specs.Postal.{IsMessageRun, delivery_of}
 use Rattle.tx_trees.specs.ScriptData.{ScriptData, client_of}
 use Rattle.history_text.specs.History.{history_lines_of}
-use Rattle.history_text.specs.Printable.{Begins, EndsEntry, IsPrintable}
+use Rattle.history_text.specs.Printable.{Begins, EndsEntry, IsPrintable, BeginsWithNone}
 use Rattle.history_reader.specs.declared.in_flight.Sender.{Sender}
 use Rattle.history_reader.specs.declared.reading.HistoryRefusal.{HistoryRefusal}
 use Rattle.history_reader.specs.declared.reading.HistoryRefusal.TheVariants as refusals
@@ -32,7 +32,7 @@ pub record IsRead (s : ScriptData) (text : List ℕ) (h : List Entry) (rest : Li
 -- something is left of the text, and no entry may be read there
 pub record IsUnread (s : ScriptData) (rest : List ℕ) : Type 0 where
   pub more : rest ≢ []
-  pub none : (e : Entry) (more : List ℕ) → Begins s rest e more → ⊥
+  pub none : BeginsWithNone s rest
 
 -- behind these entries an entry may be read, but none that may be read there goes on as letters do
 pub record IsUnposted (s : ScriptData) (h : List Entry) (rest : List ℕ) : Type 0 where
@@ -108,3 +108,7 @@ pub data Reading (s : ScriptData) (text : List ℕ) : Result (List Entry) Histor
 abbrev pub IsReadOutcome : ScriptData → List ℕ → Result (List Entry) HistoryRefusal → Type 0
 IsReadOutcome s text (Err refusals.NoMemory) = Unit {0}
 IsReadOutcome s text outcome = Reading s text outcome
+
+-- the text has one reading
+abbrev pub HasOneReading : ScriptData → List ℕ → Type 0
+HasOneReading s text = (a b : Result (List Entry) HistoryRefusal) → Reading s text a → Reading s text b → a ≡ b

@@ -20,7 +20,7 @@ pub(crate) fn read_act(
     script: &Script,
     words: &mut Parts,
 ) -> Result<Option<Act>, NoMemory>
-    ensures { IfOk result (λ read. IsReadBack (act_words script.now) (IsAct script.now) words.old read) }
+    ensures { IfOk result (IsReadBack (act_words script.now) (IsAct script.now) words.old) }
 {
     let Some(word) = words.next() else {
         return Ok(None);
@@ -35,7 +35,7 @@ pub(crate) fn read_act(
 }
 
 fn read_did(alloc: Global, script: &Script, words: &mut Parts) -> Result<Option<Act>, NoMemory>
-    ensures { IfOk result (λ read. IsReadBack (act_words script.now) (IsAct script.now) (codes "did" ∷ words.old) read) }
+    ensures { IfOk result (IsReadBack (act_words script.now) (IsAct script.now) (codes "did" ∷ words.old)) }
 {
     let Some((tree, sub)) = next_sub(script, words) else {
         return Ok(None);
@@ -47,7 +47,7 @@ fn read_did(alloc: Global, script: &Script, words: &mut Parts) -> Result<Option<
 }
 
 fn read_voted(alloc: Global, script: &Script, words: &mut Parts) -> Result<Option<Act>, NoMemory>
-    ensures { IfOk result (λ read. IsReadBack (act_words script.now) (IsAct script.now) (codes "voted" ∷ words.old) read) }
+    ensures { IfOk result (IsReadBack (act_words script.now) (IsAct script.now) (codes "voted" ∷ words.old)) }
 {
     let Some((tree, sub)) = next_sub(script, words) else {
         return Ok(None);

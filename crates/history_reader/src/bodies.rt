@@ -19,7 +19,7 @@ pub(crate) fn read_body(
     script: &Script,
     words: &mut Parts,
 ) -> Result<Option<Body>, NoMemory>
-    ensures { IfOk result (λ read. IsReadBack (body_words script.now) (IsBody script.now) words.old read) }
+    ensures { IfOk result (IsReadBack (body_words script.now) (IsBody script.now) words.old) }
 {
     let Some(word) = words.next() else {
         return Ok(None);
@@ -40,7 +40,7 @@ pub(crate) fn read_body(
 }
 
 fn read_done(alloc: Global, script: &Script, words: &mut Parts) -> Result<Option<Body>, NoMemory>
-    ensures { IfOk result (λ read. IsReadBack (body_words script.now) (IsBody script.now) (codes "done" ∷ words.old) read) }
+    ensures { IfOk result (IsReadBack (body_words script.now) (IsBody script.now) (codes "done" ∷ words.old)) }
 {
     let Some((tree, sub)) = next_sub(script, words) else {
         return Ok(None);
@@ -60,7 +60,7 @@ fn read_done(alloc: Global, script: &Script, words: &mut Parts) -> Result<Option
 }
 
 fn read_reply(alloc: Global, script: &Script, words: &mut Parts) -> Result<Option<Body>, NoMemory>
-    ensures { IfOk result (λ read. IsReadBack (body_words script.now) (IsBody script.now) (codes "reply" ∷ words.old) read) }
+    ensures { IfOk result (IsReadBack (body_words script.now) (IsBody script.now) (codes "reply" ∷ words.old)) }
 {
     let Some(tree) = next_tree(script, words) else {
         return Ok(None);
@@ -79,7 +79,7 @@ fn read_reply(alloc: Global, script: &Script, words: &mut Parts) -> Result<Optio
 }
 
 fn read_donerow(alloc: Global, script: &Script, words: &mut Parts) -> Result<Option<Body>, NoMemory>
-    ensures { IfOk result (λ read. IsReadBack (body_words script.now) (IsBody script.now) (codes "donerow" ∷ words.old) read) }
+    ensures { IfOk result (IsReadBack (body_words script.now) (IsBody script.now) (codes "donerow" ∷ words.old)) }
 {
     let Some((version, round)) = next_round(words) else {
         return Ok(None);
@@ -99,7 +99,7 @@ fn read_askedrow(
     script: &Script,
     words: &mut Parts,
 ) -> Result<Option<Body>, NoMemory>
-    ensures { IfOk result (λ read. IsReadBack (body_words script.now) (IsBody script.now) (codes "askedrow" ∷ words.old) read) }
+    ensures { IfOk result (IsReadBack (body_words script.now) (IsBody script.now) (codes "askedrow" ∷ words.old)) }
 {
     let Some((version, round)) = next_round(words) else {
         return Ok(None);

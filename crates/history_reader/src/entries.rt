@@ -1,8 +1,8 @@
 // Entries.
-ghost use Rattle.std.specs.Prelude.{ℕ, List, ◌≡◌, ◌≤◌, drop, length, IfOk, IfSome, IsNone};
+ghost use Rattle.std.specs.Prelude.{◌≡◌, length, IfOk, IfSome, IsNone};
 ghost use Rattle.letter_types.specs.declared.entries.Entry.{Entry};
-ghost use Rattle.history_text.specs.Printable.{Begins};
-ghost use Rattle.history_reader.specs.inside.Heard.{IsHeard};
+ghost use Rattle.history_text.specs.Printable.{BeginsWithNone};
+ghost use Rattle.history_reader.specs.inside.Heard.{IsHeard, IsFirstEntry};
 
 use crate::heads::{Head, read_head};
 use crate::line_lists::{read_acts, read_letters};
@@ -29,10 +29,8 @@ pub fn read_entry(
     script: &Script,
     text: &[u8],
 ) -> Result<Option<ReadEntry>, NoMemory>
-    ensures some { IfOk result (λ heard. IfSome heard (λ h. (h.length ≤ length text.now)
-        × Begins script.now text.now h.entry (drop h.length text.now))) }
-    ensures none { IfOk result (λ heard. IsNone heard → (e : Entry) (rest : List ℕ)
-        → Begins script.now text.now e rest → ⊥) }
+    ensures some { IfOk result (λ heard. IfSome heard (IsFirstEntry script.now text.now)) }
+    ensures none { IfOk result (λ heard. IsNone heard → BeginsWithNone script.now text.now) }
 {
     let mut lines = Lines::new(text);
     let Some(entry) = next_entry(alloc, script, &mut lines)? else {

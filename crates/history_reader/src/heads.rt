@@ -78,7 +78,7 @@ pub(crate) fn read_sent(
     script: &Script,
     line: &[u8],
 ) -> Result<Option<Outgoing>, NoMemory>
-    ensures { IfOk result (λ read. IsReadBack (sent_words script.now) (IsSent script.now) (parts_at 32 line.now) read) }
+    ensures { IfOk result (IsReadBack (sent_words script.now) (IsSent script.now) (parts_at 32 line.now)) }
 {
     let mut words = Parts::new(line, b' ');
     if next_word(&mut words, b"sent").is_none() {
@@ -99,7 +99,7 @@ pub(crate) fn read_act_line(
     script: &Script,
     line: &[u8],
 ) -> Result<Option<Act>, NoMemory>
-    ensures { IfOk result (λ read. IsReadBack (act_line_words script.now) (IsAct script.now) (parts_at 32 line.now) read) }
+    ensures { IfOk result (IsReadBack (act_line_words script.now) (IsAct script.now) (parts_at 32 line.now)) }
 {
     let mut words = Parts::new(line, b' ');
     if next_word(&mut words, b"act").is_none() {

@@ -1,6 +1,6 @@
 // The letters that are in flight, by the stamp of the entry that sent them and their place there.
 ghost use Rattle.std.specs.Prelude.{◌≡◌, [], ◌∷◌, ◌++◌, ◌+◌, ◌-◌, ◌<◌, ◌^◌, true, false, length, is_some, IfOk, IsNone, IsSome, OnOk, OnErr, slice_get};
-ghost use Rattle.history_reader.specs.inside.Finding.{addressee_of, addressee_to, go_left, left_without, letter_by, letter_for, letter_of, spent_at, spent_by, with_sent};
+ghost use Rattle.history_reader.specs.inside.Finding.{addressee_of, addressee_to, go_left, left_without, letter_by, letter_for, letter_of, spent_at, spent_by, left_behind, sender_of};
 
 use letter_types::{Body, Entry, Letter, LetterId, Letters, Outgoing, copy_letters, go};
 use std::alloc::Global;
@@ -60,7 +60,7 @@ impl InFlight {
     ) -> Result<Option<Letter>, NoMemory>
         requires { length self.old.senders + 1 < 2 ^ 64 }
         ensures letter { IfOk result (λ letter. letter ≡ letter_for client.0 self.old entry.now) }
-        ensures left { IfOk result (λ letter. IsSome letter → self.new ≡ with_sent entry.now (left_without entry.now.took.id self.old)) }
+        ensures left { IfOk result (λ letter. IsSome letter → self.new ≡ left_behind entry.now self.old) }
         ensures none { IfOk result (λ letter. IsNone letter → self.new ≡ self.old) }
         ensures count { IfOk result (λ letter. IsSome letter → length self.new.senders ≡ length self.old.senders + 1) }
         ensures err { OnErr result (self.new ≡ self.old) }
@@ -136,8 +136,7 @@ impl InFlight {
     // What an entry sent is in flight. Where no memory is found all stays as it was.
     pub(crate) fn add(&mut self, alloc: Global, entry: &Entry) -> Result<(), NoMemory>
         ensures begun { self.new.begun ≡ self.old.begun }
-        ensures ok { OnOk result (self.new.senders ≡ self.old.senders
-            ++ record { from = entry.now.actor; sent = entry.now.sent } ∷ []) }
+        ensures ok { OnOk result (self.new.senders ≡ self.old.senders ++ sender_of entry.now ∷ []) }
         ensures err { OnErr result (self.new.senders ≡ self.old.senders) }
     {
         let sent = copy_letters(alloc, &entry.sent)?;

@@ -18,7 +18,7 @@ pub(crate) fn read_letters(
     script: &Script,
     lines: &mut Lines,
 ) -> Result<Option<Letters>, NoMemory>
-    ensures { IfOk result (λ read. AreLines (codes "sent ") (sent_lines script.now) (IsSent script.now) lines.old lines.new read) }
+    ensures { IfOk result (AreLines (codes "sent ") (sent_lines script.now) (IsSent script.now) lines.old lines.new) }
 {
     let mut letters = Letters::new(alloc);
     'lines: while lines.begins(b"sent ") {
@@ -41,7 +41,7 @@ pub(crate) fn read_acts(
     script: &Script,
     lines: &mut Lines,
 ) -> Result<Option<Acts>, NoMemory>
-    ensures { IfOk result (λ read. AreLines (codes "act ") (act_lines script.now) (IsAct script.now) lines.old lines.new read) }
+    ensures { IfOk result (AreLines (codes "act ") (act_lines script.now) (IsAct script.now) lines.old lines.new) }
 {
     let mut acts = Acts::new(alloc);
     'lines: while lines.begins(b"act ") {

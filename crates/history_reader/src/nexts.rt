@@ -1,10 +1,10 @@
 // The next words of a line.
-ghost use Rattle.std.specs.Prelude.{ℕ, List, ◌≡◌, ◌∷◌, [], codes, decimal, false, true, is_some, IfSome, IsNone, MatchOption};
-ghost use Rattle.history_text.specs.Printable.{IsHalfWord, IsSubOf, IsWord};
+ghost use Rattle.std.specs.Prelude.{◌≡◌, decimal, false, true, is_some, IfSome, IsNone};
+ghost use Rattle.history_text.specs.Printable.{IsHalfWord, IsWord};
 ghost use Rattle.history_text.specs.Words.{HasItem, HasTree, name_of_item, name_of_tree};
 ghost use Rattle.tx_trees.specs.ScriptData.{sub_at};
 ghost use Rattle.history_text.specs.LineParts.{commit_word, what_word};
-ghost use Rattle.history_reader.specs.inside.Next.{IsNext};
+ghost use Rattle.history_reader.specs.inside.Next.{IsNext, HasNoRound, HasNoSub, HasNoVersion, HasNoneBehind, IsBehind, IsLastOrder, IsNextRound, IsNextSub, IsNextVersion, IsNextWord, IsNoOrder};
 
 use history_text::{Parts, read_half, read_item, read_number, read_tree};
 use letter_types::What;
@@ -51,7 +51,7 @@ pub(crate) fn is_word(word: &[u8], one: &[u8]) -> bool
 
 // This very word.
 pub(crate) fn next_word(words: &mut Parts, word: &[u8]) -> Option<()>
-    ensures { MatchOption result ((rest : List (List ℕ)) → words.old ≡ word.now ∷ rest → ⊥) (λ _. words.old ≡ word.now ∷ words.new) }
+    ensures { IsNextWord word.now words.old words.new result }
 {
     let next = words.next()?;
     if !is_word(next, word) {
@@ -62,8 +62,8 @@ pub(crate) fn next_word(words: &mut Parts, word: &[u8]) -> Option<()>
 
 // A number behind this word.
 pub(crate) fn number_behind(words: &mut Parts, word: &[u8]) -> Option<u64>
-    ensures some { IfSome result (λ n. (words.old ≡ word.now ∷ decimal n ∷ words.new) × IsWord n) }
-    ensures none { IsNone result → (n : ℕ) (rest : List (List ℕ)) → words.old ≡ word.now ∷ decimal n ∷ rest → IsWord n → ⊥ }
+    ensures some { IfSome result (IsBehind word.now words.old words.new) }
+    ensures none { IsNone result → HasNoneBehind word.now words.old }
 {
     next_word(words, word)?;
     next_number(words)
@@ -72,9 +72,8 @@ pub(crate) fn number_behind(words: &mut Parts, word: &[u8]) -> Option<u64>
 // A tree's subtransaction.
 #[tactic(auto, using(crate::proofs::SubsThere::no_half, crate::proofs::SubsThere::not_there))]
 pub(crate) fn next_sub(script: &Script, words: &mut Parts) -> Option<(TreeNo, SubNo)>
-    ensures some { IfSome result (λ two. (words.old ≡ name_of_tree script.now two.0 ∷ decimal two.1.0 ∷ words.new) × IsSubOf script.now two.0.0 two.1.0) }
-    ensures none { IsNone result → (t : TreeNo) (k : SubNo) (rest : List (List ℕ))
-        → words.old ≡ name_of_tree script.now t ∷ decimal k.0 ∷ rest → IsSubOf script.now t.0 k.0 → ⊥ }
+    ensures some { IfSome result (λ two. IsNextSub script.now words.old words.new two.0 two.1) }
+    ensures none { IsNone result → HasNoSub script.now words.old }
 {
     let tree = next_tree(script, words)?;
     let _nodes = script.nodes();
@@ -97,8 +96,8 @@ fn has_sub(script: &Script, tree: TreeNo, sub: u32) -> bool
 
 // A version behind its word.
 pub(crate) fn next_version(words: &mut Parts) -> Option<Version>
-    ensures some { IfSome result (λ v. (words.old ≡ codes "version" ∷ decimal v.0 ∷ words.new) × IsWord v.0) }
-    ensures none { IsNone result → (v : Version) (rest : List (List ℕ)) → words.old ≡ codes "version" ∷ decimal v.0 ∷ rest → IsWord v.0 → ⊥ }
+    ensures some { IfSome result (IsNextVersion words.old words.new) }
+    ensures none { IsNone result → HasNoVersion words.old }
 {
     let version = number_behind(words, b"version")?;
     Some(Version(version))
@@ -137,8 +136,8 @@ pub(crate) fn next_what(words: &mut Parts) -> Option<What>
 
 // An epoch, what is to be done, and a version, which are all that is left.
 pub(crate) fn last_order(words: &mut Parts) -> Option<(u64, What, Version)>
-    ensures some { IfSome result (λ o. (words.old ≡ decimal o.0 ∷ what_word o.1 ∷ decimal o.2.0 ∷ []) × IsWord o.0 × IsWord o.2.0) }
-    ensures none { IsNone result → (e : ℕ) (what : What) (v : Version) → words.old ≡ decimal e ∷ what_word what ∷ decimal v.0 ∷ [] → IsWord e → IsWord v.0 → ⊥ }
+    ensures some { IfSome result (λ o. IsLastOrder words.old o.0 o.1 o.2) }
+    ensures none { IsNone result → IsNoOrder words.old }
 {
     let epoch = next_number(words)?;
     let what = next_what(words)?;
@@ -149,8 +148,8 @@ pub(crate) fn last_order(words: &mut Parts) -> Option<(u64, What, Version)>
 
 // A version and a round.
 pub(crate) fn next_round(words: &mut Parts) -> Option<(Version, u64)>
-    ensures some { IfSome result (λ two. (words.old ≡ decimal two.0.0 ∷ codes "round" ∷ decimal two.1 ∷ words.new) × IsWord two.0.0 × IsWord two.1) }
-    ensures none { IsNone result → (v : Version) (k : ℕ) (rest : List (List ℕ)) → words.old ≡ decimal v.0 ∷ codes "round" ∷ decimal k ∷ rest → IsWord v.0 → IsWord k → ⊥ }
+    ensures some { IfSome result (λ two. IsNextRound words.old words.new two.0 two.1) }
+    ensures none { IsNone result → HasNoRound words.old }
 {
     let version = next_number(words)?;
     let round = number_behind(words, b"round")?;

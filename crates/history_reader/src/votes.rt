@@ -16,7 +16,7 @@ use tx_trees::{Script, TreeKind};
 // Numbers, each of which is one word.
 #[tactic(auto, using(history_text::proofs::Each::each_fails, history_text::proofs::Each::one_more))]
 fn read_numbers(alloc: Global, words: &mut Parts) -> Result<Option<Row>, NoMemory>
-    ensures { IfOk result (λ read. IsReadBack number_words AreLineWords words.old read) }
+    ensures { IfOk result (IsReadBack number_words AreLineWords words.old) }
 {
     let mut row = Row::new(alloc);
     while let Some(word) = words.next() {
@@ -35,7 +35,7 @@ pub(crate) fn read_row(
     script: &Script,
     words: &mut Parts,
 ) -> Result<Option<Row>, NoMemory>
-    ensures { IfOk result (λ read. IsReadBack number_words (IsRow script.now) words.old read) }
+    ensures { IfOk result (IsReadBack number_words (IsRow script.now) words.old) }
 {
     let Some(row) = read_numbers(alloc, words)? else {
         return Ok(None);
@@ -52,7 +52,7 @@ pub(crate) fn read_vote(
     script: &Script,
     words: &mut Parts,
 ) -> Result<Option<Vote>, NoMemory>
-    ensures { IfOk result (λ read. IsReadBack (vote_words script.now) (IsVote script.now) words.old read) }
+    ensures { IfOk result (IsReadBack (vote_words script.now) (IsVote script.now) words.old) }
 {
     let Some(word) = words.next() else {
         return Ok(None);
@@ -67,7 +67,7 @@ pub(crate) fn read_vote(
 }
 
 fn read_yes(alloc: Global, script: &Script, words: &mut Parts) -> Result<Option<Vote>, NoMemory>
-    ensures { IfOk result (λ read. IsReadBack (vote_words script.now) (IsVote script.now) (codes "yes" ∷ words.old) read) }
+    ensures { IfOk result (IsReadBack (vote_words script.now) (IsVote script.now) (codes "yes" ∷ words.old)) }
 {
     let Some(values) = read_values(alloc, script, words)? else {
         return Ok(None);
@@ -76,7 +76,7 @@ fn read_yes(alloc: Global, script: &Script, words: &mut Parts) -> Result<Option<
 }
 
 fn read_no(alloc: Global, script: &Script, words: &mut Parts) -> Result<Option<Vote>, NoMemory>
-    ensures { IfOk result (λ read. IsReadBack (vote_words script.now) (IsVote script.now) (codes "no" ∷ words.old) read) }
+    ensures { IfOk result (IsReadBack (vote_words script.now) (IsVote script.now) (codes "no" ∷ words.old)) }
 {
     let Some(cause) = read_cause(script, words) else {
         return Ok(None);
@@ -106,7 +106,7 @@ fn notice_of(
     words: &mut Parts,
 ) -> Result<Option<Notice>, NoMemory>
     requires { HasTree script.now tree }
-    ensures { IfOk result (λ read. IsReadBack (notice_words script.now tree.0) (IsNotice script.now tree.0) words.old read) }
+    ensures { IfOk result (IsReadBack (notice_words script.now tree.0) (IsNotice script.now tree.0) words.old) }
 {
     if !is_strict(script, tree) {
         let Some(values) = read_values(alloc, script, words)? else {
@@ -148,7 +148,7 @@ fn answer_of(
     words: &mut Parts,
 ) -> Result<Option<Answer>, NoMemory>
     requires { HasTree script.now tree }
-    ensures { IfOk result (λ read. IsReadBack (answer_words script.now tree.0) (IsAnswer script.now tree.0) words.old read) }
+    ensures { IfOk result (IsReadBack (answer_words script.now tree.0) (IsAnswer script.now tree.0) words.old) }
 {
     if is_strict(script, tree) {
         return strict_answer(alloc, script, tree, words);
@@ -169,7 +169,7 @@ fn strict_answer(
 ) -> Result<Option<Answer>, NoMemory>
     requires there { HasTree script.now tree }
     requires strict { HasStrictness true (slice_get script.now.trees tree.0) }
-    ensures { IfOk result (λ read. IsReadBack (answer_words script.now tree.0) (IsAnswer script.now tree.0) words.old read) }
+    ensures { IfOk result (IsReadBack (answer_words script.now tree.0) (IsAnswer script.now tree.0) words.old) }
 {
     let Some(word) = words.next() else {
         return Ok(None);

@@ -19,9 +19,9 @@ use Rattle.tx_trees.specs.ScriptData.{ScriptData, is_strict}
 use Rattle.history_text.specs.TreeNames.{cause_text, got_text, item_text, tree_text}
 use Rattle.history_text.specs.Values.{count_text}
 
--- a word, and one that may not be printed; a word and a number of 64 bits; a number of 32 bits; a tree, a subtransaction
--- and an item, by number; values of gets; the cause of a no; a node's row of counters; that a tree was committed, if it is
--- strict; and nothing, of a tree that has to be strict, or not to be
+-- a word, and one that may not be printed; a word and a number of 64 bits; a number of 32 bits; a tree, a
+-- subtransaction and an item, by number; values of gets; the cause of a no; a node's row of counters; that a tree was
+-- committed, if it is strict; and nothing, of a tree that has to be strict, or not to be
 pub data Part : Type 0 where
   Word : List ℕ → Part
   Never : List ℕ → Part
@@ -43,6 +43,10 @@ abbrev pub what_word : What → List ℕ
 what_word whats.Turn = codes "turn"
 what_word whats.Show = codes "show"
 what_word whats.Sweep = codes "sweep"
+
+-- a word, an epoch, and what is to be done with a version, or was done
+abbrev pub order_text : List ℕ → ℕ → What → ℕ → List ℕ
+order_text word e what v = count_text word e ++ (codes " " ++ (what_word what ++ count_text (codes " ") v))
 
 abbrev pub vote_parts : Vote → List Part
 vote_parts (votes.Yes vs) = Word (codes "yes") ∷ Got vs ∷ []

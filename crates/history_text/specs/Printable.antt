@@ -123,3 +123,7 @@ pub record Begins (s : ScriptData) (text : List ℕ) (e : Entry) (rest : List �
   pub lines : text ≡ entry_lines s e ++ rest
   pub may : IsPrintable s e
   pub ends : EndsEntry rest
+
+-- the text begins with the lines of no entry
+abbrev pub BeginsWithNone : ScriptData → List ℕ → Type 0
+BeginsWithNone s text = (e : Entry) (rest : List ℕ) → Begins s text e rest → ⊥

@@ -13,6 +13,10 @@ use Rattle.history_text.specs.Values.{count_text, get_text}
 abbrev pub tree_text : ScriptData → ℕ → List ℕ
 tree_text s t = elim (slice_get s.trees t) [ Some tree ↦ tree.name | None ↦ decimal t ]
 
+-- a word, tree t and the number of a subtransaction
+abbrev pub sub_text : List ℕ → ScriptData → ℕ → ℕ → List ℕ
+sub_text word s t k = word ++ (tree_text s t ++ count_text (codes " ") k)
+
 -- the name of item x, or its number where it isn't there
 abbrev pub item_text : ScriptData → ℕ → List ℕ
 item_text s x = elim (slice_get s.items x) [ Some row ↦ row.name | None ↦ decimal x ]

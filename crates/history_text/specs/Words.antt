@@ -1,5 +1,5 @@
 -- How trees, items, actors and got values are printed where they stand between spaces.
-use Rattle.std.specs.Prelude.{ℕ, ℤ, List, [], ◌∷◌, ◌++◌, codes, decimal, map, Option, Some, None, slice_get}
+use Rattle.std.specs.Prelude.{ℕ, ℤ, List, [], ◌∷◌, ◌++◌, codes, decimal, map, Option, Some, None, slice_get, ◌≡◌, MatchOption}
 use Rattle.std.specs.Fmt.{signed_decimal}
 use Rattle.std.specs.List.{AllByRecursion}
 use Rattle.tv_base.specs.declared.numbers.ActorNo.{ActorNo}
@@ -13,7 +13,8 @@ use Rattle.letter_types.specs.declared.votes.Cause.TheVariants.{Conflict, Newer,
 use Rattle.tx_trees.specs.ScriptData.{ScriptData}
 use Rattle.history_text.specs.TreeNames.{actor_text, item_text, tree_text}
 use Rattle.history_text.specs.Values.{value_text}
-use Rattle.history_text.specs.Printable.{IsActor, IsAmount, IsItemOf, IsTreeOf}
+use Rattle.history_text.specs.Printable.{IsActor, IsAmount, IsItemOf, IsTreeOf, IsCause}
+use Rattle.history_text.specs.Exact.{IsReadBack}
 
 abbrev pub name_of_tree : ScriptData → TreeNo → List ℕ
 name_of_tree s t = tree_text s t.0
@@ -51,6 +52,17 @@ cause_words s (Short x n) = codes "short" ∷ item_text s x.0 ∷ signed_decimal
 abbrev pub IsBag : List ℤ → Type 0
 IsBag ns = IsAscending ns × AllByRecursion IsAmount ns
 
+-- the numbers, if they ascend, as a bag's
+abbrev pub IsBagOf : List ℤ → Option (List ℤ) → Type 0
+IsBagOf ns made = MatchOption made (IsAscending ns → ⊥) (λ bag. (bag ≡ ns) × IsAscending ns)
+
+-- a text in braces (123 and 125), and one that isn't
+abbrev pub braced : List ℕ → List ℕ
+braced inner = 123 ∷ (inner ++ 125 ∷ [])
+
+abbrev pub IsUnbraced : List ℕ → Type 0
+IsUnbraced text = (inner : List ℕ) → text ≡ braced inner → ⊥
+
 abbrev pub AllAmounts : List ℤ → Type 0
 AllAmounts ns = AllByRecursion IsAmount ns
 
@@ -61,3 +73,7 @@ amount_words ns = map signed_decimal ns
 -- each got value as a word
 abbrev pub got_words : ScriptData → List (ItemNo × Value) → List (List ℕ)
 got_words s vs = map (got_in_words s) vs
+
+-- what is read of these words as a cause
+abbrev pub IsCauseRead : ScriptData → List (List ℕ) → Option Cause → Type 0
+IsCauseRead s words read = IsReadBack (cause_words s) (IsCause s) words read

@@ -1,8 +1,7 @@
 // Actors by name, and subtransactions by the names of their trees.
-ghost use Rattle.std.specs.Prelude.{◌≡◌, ◌++◌, OnOk, codes};
+ghost use Rattle.std.specs.Prelude.{◌≡◌, ◌++◌, OnOk};
 ghost use Rattle.std.specs.Str.{IsAscii};
-ghost use Rattle.history_text.specs.TreeNames.{actor_text, tree_text};
-ghost use Rattle.history_text.specs.Values.{count_text};
+ghost use Rattle.history_text.specs.TreeNames.{actor_text, sub_text};
 
 use crate::counts::push_count;
 use crate::tree_names::push_tree_word;
@@ -32,7 +31,7 @@ pub(crate) fn push_sub_word(
     sub: SubNo,
 ) -> Result<(), NoMemory>
     requires { IsAscii word.now }
-    ensures { OnOk result (text.new ≡ text.old ++ (word.now ++ (tree_text script.now tree.0 ++ count_text (codes " ") sub.0))) }
+    ensures { OnOk result (text.new ≡ text.old ++ sub_text word.now script.now tree.0 sub.0) }
 {
     push_tree_word(text, script, word, tree)?;
     push_count(text, b" ", sub.0 as u64)

@@ -1,8 +1,6 @@
 // Causes of noes and aborts.
-ghost use Rattle.std.specs.Prelude.{◌≡◌, ◌∷◌, []};
-ghost use Rattle.history_text.specs.Printable.{IsCause};
-ghost use Rattle.history_text.specs.Exact.{IsReadBack};
-ghost use Rattle.history_text.specs.Words.{HasItem, cause_words, name_of_item};
+ghost use Rattle.std.specs.Prelude.{◌∷◌, []};
+ghost use Rattle.history_text.specs.Words.{HasItem, name_of_item, IsCauseRead};
 
 use crate::names_read::{read_item, read_tree};
 use crate::numbers_read::{read_amount, read_number};
@@ -13,7 +11,7 @@ use tx_trees::Script;
 
 /// The cause that these words name.
 pub fn read_cause(script: &Script, words: &mut Parts) -> Option<Cause>
-    ensures { IsReadBack (cause_words script.now) (IsCause script.now) words.old result }
+    ensures { IsCauseRead script.now words.old result }
 {
     let (word, name, last) = words.last_three()?;
     let item = read_item(script, name)?;
@@ -23,7 +21,7 @@ pub fn read_cause(script: &Script, words: &mut Parts) -> Option<Cause>
 // The cause that a word and one more name, on an item.
 fn cause_on(script: &Script, word: &[u8], item: ItemNo, last: &[u8]) -> Option<Cause>
     requires { HasItem script.now item }
-    ensures { IsReadBack (cause_words script.now) (IsCause script.now) (word.now ∷ name_of_item script.now item ∷ last.now ∷ []) result }
+    ensures { IsCauseRead script.now (word.now ∷ name_of_item script.now item ∷ last.now ∷ []) result }
 {
     if word == b"conflict".as_slice() {
         let holder = read_tree(script, last)?;

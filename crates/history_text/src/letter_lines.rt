@@ -1,8 +1,8 @@
 // What letters say.
-ghost use Rattle.std.specs.Prelude.{◌≡◌, ◌++◌, OnOk, codes, flat_map};
+ghost use Rattle.std.specs.Prelude.{◌≡◌, ◌++◌, OnOk, codes};
 ghost use Rattle.std.specs.Str.{IsAscii};
-ghost use Rattle.history_text.specs.LineParts.{body_parts, parts_text, what_word};
-ghost use Rattle.history_text.specs.Values.{count_text};
+ghost use Rattle.history_text.specs.LineParts.{body_parts, parts_text, order_text};
+ghost use Rattle.history_text.specs.Values.{count_text, numbers_text, round_text, row_text, three_text};
 
 use crate::actor_names::push_sub_word;
 use crate::counts::push_count;
@@ -22,7 +22,7 @@ pub(crate) fn push_version(text: &mut Text, version: Version) -> Result<(), NoMe
 // A word, a version and a round.
 fn push_round(text: &mut Text, word: &[u8], version: Version, round: u64) -> Result<(), NoMemory>
     requires { IsAscii word.now }
-    ensures { OnOk result (text.new ≡ text.old ++ (count_text word.now version.0 ++ count_text (codes " round ") round)) }
+    ensures { OnOk result (text.new ≡ text.old ++ round_text word.now version.0 round) }
 {
     push_count(text, word, version.0)?;
     push_count(text, b" round ", round)
@@ -37,7 +37,7 @@ fn push_row(
     row: &Row,
 ) -> Result<(), NoMemory>
     requires { IsAscii word.now }
-    ensures { OnOk result (text.new ≡ text.old ++ (count_text word.now version.0 ++ (count_text (codes " round ") round ++ flat_map (count_text (codes " ")) row.now))) }
+    ensures { OnOk result (text.new ≡ text.old ++ row_text word.now version.0 round row.now) }
 {
     push_round(text, word, version, round)?;
     push_numbers(text, row.items())
@@ -45,7 +45,7 @@ fn push_row(
 
 // Numbers, each after a space.
 fn push_numbers(text: &mut Text, numbers: &[u64]) -> Result<(), NoMemory>
-    ensures { OnOk result (text.new ≡ text.old ++ flat_map (count_text (codes " ")) numbers.now) }
+    ensures { OnOk result (text.new ≡ text.old ++ numbers_text numbers.now) }
 {
     for number in numbers {
         push_count(text, b" ", *number)?;
@@ -55,7 +55,7 @@ fn push_numbers(text: &mut Text, numbers: &[u64]) -> Result<(), NoMemory>
 
 // A node's three versions.
 fn push_three(text: &mut Text, update: Version, read: Version, low: Version) -> Result<(), NoMemory>
-    ensures { OnOk result (text.new ≡ text.old ++ (count_text (codes " update ") update.0 ++ (count_text (codes " read ") read.0 ++ count_text (codes " low ") low.0))) }
+    ensures { OnOk result (text.new ≡ text.old ++ three_text update.0 read.0 low.0) }
 {
     push_count(text, b" update ", update.0)?;
     push_count(text, b" read ", read.0)?;
@@ -71,7 +71,7 @@ fn push_order(
     version: Version,
 ) -> Result<(), NoMemory>
     requires { IsAscii word.now }
-    ensures { OnOk result (text.new ≡ text.old ++ (count_text word.now epoch ++ (codes " " ++ (what_word what ++ count_text (codes " ") version.0)))) }
+    ensures { OnOk result (text.new ≡ text.old ++ order_text word.now epoch what version.0) }
 {
     push_count(text, word, epoch)?;
     match what {

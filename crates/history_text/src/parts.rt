@@ -1,6 +1,6 @@
 // A text in parts.
 ghost use Rattle.std.specs.Prelude.{ℕ, List, ◌≡◌, ◌++◌, [], ◌∷◌, true, IfSome, IsNone, MatchOption};
-ghost use Rattle.history_text.specs.Parts.{lacks, parts_at};
+ghost use Rattle.history_text.specs.Parts.{lacks, parts_at, AreNotThree};
 
 use std::marker::Model;
 
@@ -83,7 +83,7 @@ impl<'a> Parts<'a> {
 
     /// The three parts that are left. None if there aren't exactly three.
     pub fn last_three(&mut self) -> Option<(&'a [u8], &'a [u8], &'a [u8])>
-        ensures { MatchOption result ((a b c : List ℕ) → self.old ≡ a ∷ b ∷ c ∷ [] → ⊥)
+        ensures { MatchOption result (AreNotThree self.old)
             (λ three. self.old ≡ three.0.now ∷ three.1.now ∷ three.2.now ∷ []) }
     {
         let first = self.next()?;

@@ -1,11 +1,10 @@
 // Values, and the items that they are of.
-ghost use Rattle.std.specs.Prelude.{ℕ, List, ◌≡◌, ◌∷◌, ◌++◌, [], IfOk, MatchOption, Some};
-ghost use Rattle.commute_ops.specs.Numbers.{IsAscending};
+ghost use Rattle.std.specs.Prelude.{◌≡◌, [], IfOk, MatchOption, Some};
 ghost use Rattle.history_text.specs.Values.{bag_text, value_text};
 ghost use Rattle.history_text.specs.Printable.{AreGot, IsGot, IsOfKind};
 ghost use Rattle.tx_trees.specs.Valid.{IsValid};
 ghost use Rattle.history_text.specs.Exact.{IsReadBack};
-ghost use Rattle.history_text.specs.Words.{AllAmounts, HasItem, IsBag, kind_at, amount_words, got_in_words, got_words};
+ghost use Rattle.history_text.specs.Words.{AllAmounts, HasItem, IsBag, kind_at, amount_words, got_in_words, got_words, IsBagOf, IsUnbraced, braced};
 ghost use Rattle.history_text.specs.Numbers.{ascending_of};
 
 use crate::names_read::read_item;
@@ -69,7 +68,7 @@ fn read_bag(alloc: Global, field: &[u8]) -> Result<Option<BagValue>, NoMemory>
 // The bag of these numbers, if they ascend.
 #[tactic(auto, using(crate::proofs::Bags::ascending_stays, crate::proofs::Bags::same_numbers))]
 fn ascending_bag(alloc: Global, numbers: &[Amount]) -> Result<Option<BagValue>, NoMemory>
-    ensures { IfOk result (λ made. MatchOption made (IsAscending numbers.now → ⊥) (λ bag. (bag ≡ numbers.now) × IsAscending numbers.now)) }
+    ensures { IfOk result (IsBagOf numbers.now) }
 {
     let bag = bag_of(alloc, numbers)?;
     if bag.items() != numbers {
@@ -79,10 +78,8 @@ fn ascending_bag(alloc: Global, numbers: &[Amount]) -> Result<Option<BagValue>, 
 }
 
 // What stands in braces.
-
 fn in_braces(field: &[u8]) -> Option<&[u8]>
-    ensures { MatchOption result ((inner : List ℕ) → field.now ≡ 123 ∷ (inner ++ 125 ∷ []) → ⊥)
-        (λ inner. field.now ≡ 123 ∷ (inner.now ++ 125 ∷ [])) }
+    ensures { MatchOption result (IsUnbraced field.now) (λ inner. field.now ≡ braced inner.now) }
 {
     match field {
         [b'{', inner @ .., b'}'] => Some(inner),

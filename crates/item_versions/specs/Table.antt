@@ -1,5 +1,5 @@
 -- What a table holds: items by number.
-use Rattle.std.specs.Prelude.{◌<◌, Bool, false, List, [], ◌∷◌, if◌then◌else◌, ◌==◌, Option, Some, None}
+use Rattle.std.specs.Prelude.{◌<◌, Bool, false, List, [], ◌∷◌, if◌then◌else◌, ◌==◌, Option, Some, None, ℕ, ◌≡◌, IfSome, slice_get, slice_set}
 use Rattle.std.specs.List.{All, AllByRecursion, AllPairs}
 use Rattle.tv_base.specs.declared.numbers.ItemNo.{ItemNo}
 use Rattle.tv_base.specs.declared.numbers.Version.{Version}
@@ -37,6 +37,10 @@ item_in n (e ∷ es) = if e.0.0 == n.0 then Some e.1 else item_in n es
 abbrev pub replaced : ItemNo → Held → Table → Table
 replaced n h [] = []
 replaced n h (e ∷ es) = if e.0.0 == n.0 then (n, h) ∷ es else e ∷ replaced n h es
+
+-- what is held of the item at a place becomes this of what it was
+abbrev pub ChangesAt : ℕ → (Held → Held) → Table → Table → Type 0
+ChangesAt place f old new = IfSome (slice_get old place) (λ e. new ≡ slice_set old place (e.0, f e.1))
 
 -- the same, and where the item is not there it comes last
 abbrev pub table_with_item : ItemNo → Held → Table → Table

@@ -1,9 +1,9 @@
-ghost use Rattle.std.specs.Prelude.{◌≡◌, ◌++◌, ◌∷◌, ◌<◌, [], length, slice_get, slice_set, slice_index_or, IfOk, IfSome, IfNone, IsTrue, OnOk, OnErr, Some};
+ghost use Rattle.std.specs.Prelude.{◌≡◌, ◌++◌, ◌∷◌, ◌<◌, [], length, slice_get, slice_index_or, IfOk, IfSome, IfNone, IsTrue, OnOk, OnErr, Some};
 ghost use Rattle.std.specs.Bool.{OnFalse, OnTrue};
 ghost use Rattle.std.specs.Option.{option_copied};
 ghost use Rattle.std.specs.List.{All};
 ghost use Rattle.item_versions.specs.Item.{CanCollect, collected, has_room, may_touch, put_value, touched};
-ghost use Rattle.item_versions.specs.Table.{HasAscendingItems, IsAfter, IsHeldTable, item_in, replaced, pending, touched_in, may_touch_in, has_room_in, put_value_in};
+ghost use Rattle.item_versions.specs.Table.{HasAscendingItems, IsAfter, IsHeldTable, item_in, replaced, pending, touched_in, may_touch_in, has_room_in, put_value_in, ChangesAt};
 ghost use Rattle.item_versions.specs.inside.Places.{item_place};
 
 use crate::item::Item;
@@ -119,7 +119,7 @@ impl ItemTable {
     pub fn collect_at(&mut self, place: usize, f: Version)
         requires within { place < length self.old }
         requires can { IfSome (slice_get self.old place) (λ e. CanCollect f e.1) }
-        ensures { IfSome (slice_get self.old place) (λ e. self.new ≡ slice_set self.old place (e.0, collected f e.1)) }
+        ensures { ChangesAt place (collected f) self.old self.new }
     {
         collect_entry(&mut self.entries, place, f);
     }
@@ -278,8 +278,7 @@ fn place(entries: &[(ItemNo, Item)], item: ItemNo) -> Option<usize>
 fn collect_entry(entries: &mut Vec<(ItemNo, Item)>, place: usize, f: Version)
     requires within { place < length entries.old.items }
     requires can { IfSome (slice_get entries.old.items place) (λ e. CanCollect f e.1) }
-    ensures { IfSome (slice_get entries.old.items place)
-        (λ e. entries.new.items ≡ slice_set entries.old.items place (e.0, collected f e.1)) }
+    ensures { ChangesAt place (collected f) entries.old.items entries.new.items }
 {
     let entry = &mut entries[place];
     entry.1.collect(f);
@@ -333,8 +332,8 @@ fn touch_entry(
         (λ e. IsTrue (may_touch v op.now e.1) → IsTrue (has_room v e.1)) }
     ensures may { IfOk result (λ made. IfSome (slice_get entries.old.items place)
         (λ e. made ≡ may_touch v op.now e.1)) }
-    ensures made { IfOk result (λ made. OnTrue made (IfSome (slice_get entries.old.items place)
-        (λ e. entries.new.items ≡ slice_set entries.old.items place (e.0, touched v op.now e.1)))) }
+    ensures made { IfOk result (λ made. OnTrue made (ChangesAt place (touched v op.now)
+        entries.old.items entries.new.items)) }
     ensures not_made { IfOk result (λ made. OnFalse made (entries.new.items ≡ entries.old.items)) }
     ensures err { OnErr result (entries.new.items ≡ entries.old.items) }
 {
@@ -350,8 +349,7 @@ fn touch_entry(
 fn put_in_entry(entries: &mut Vec<(ItemNo, Item)>, place: usize, v: Version, value: Value)
     requires within { place < length entries.old.items }
     requires room { IfSome (slice_get entries.old.items place) (λ e. IsTrue (has_room v e.1)) }
-    ensures { IfSome (slice_get entries.old.items place)
-        (λ e. entries.new.items ≡ slice_set entries.old.items place (e.0, put_value v value e.1)) }
+    ensures { ChangesAt place (put_value v value) entries.old.items entries.new.items }
 {
     let entry = &mut entries[place];
     entry.1.put_value(v, value);

@@ -21,8 +21,8 @@ ends_with (Some e) = list_any finishes e.acts
 abbrev pub ends_last : List Entry → Bool
 ends_last es = ends_with (last_or None es)
 
--- a letter was delivered: its addressee's entry is the last of those that were made, what that sent lies in the trays, and
--- this tells whether the client has finished with it
+-- a letter was delivered: its addressee's entry is the last of those that were made, what that sent lies in the trays,
+-- and this tells whether the client has finished with it
 pub record IsDelivered (post : PostId) (s : ScriptData) (l : Letter) (made now : List Entry) (old new : DeskData) (ends : Bool) : Type 0 where
   pub out : OutboxData
   pub taken : Delivered post s l made now out
@@ -32,6 +32,13 @@ pub record IsDelivered (post : PostId) (s : ScriptData) (l : Letter) (made now :
 -- the trays are empty up to a place, and from there on as they were
 abbrev pub AreFlushed : List (List EnvelopeData) → List (List EnvelopeData) → Type 0
 AreFlushed old new = (put : ℕ) × (new ≡ empty_trays put ++ drop put old)
+
+-- so many trays are empty, or they are so up to a place; and they are empty, where they were
+abbrev pub AreEmptiedTo : ℕ → List (List EnvelopeData) → List (List EnvelopeData) → Type 0
+AreEmptiedTo count old new = (new ≡ empty_trays count) ⊎ AreFlushed old new
+
+abbrev pub StayEmpty : ℕ → List (List EnvelopeData) → List (List EnvelopeData) → Type 0
+StayEmpty count old new = old ≡ empty_trays count → new ≡ empty_trays count
 
 -- entries are left, or none is
 abbrev pub AreAllOrNone : List Entry → List Entry → Type 0

@@ -1,12 +1,14 @@
 -- An actor's cell.
-use Rattle.std.specs.Prelude.{◌≡◌, ◌≤◌, ℕ, List, length, sum_by}
+use Rattle.std.specs.Prelude.{◌≡◌, ◌≤◌, ℕ, List, length, sum_by, MatchResult, Result}
 use Rattle.tv_base.specs.declared.numbers.TheConstants.{MOST_ENTRIES}
 use Rattle.letter_types.specs.declared.entries.Entry.{Entry}
 use Rattle.tx_trees.specs.ScriptData.{ScriptData}
 use Rattle.world_core.specs.declared.actor.ActorState.{ActorState}
 use Rattle.world_core.specs.Actors.{IsFor, actor_data}
 use Rattle.history_merge.specs.Merging.{NumberedBy}
-use Rattle.history_merge.specs.OwnLogs.{led_to}
+use Rattle.history_merge.specs.OwnLogs.{led_to, Delivered, Handled}
+use Rattle.tv_base.specs.declared.numbers.NoMemory.{NoMemory}
+use Rattle.stamp_post.specs.Shown.{EnvelopeData, OutboxData, PostId}
 
 -- an actor: its number, and its own entries in order
 pub record CellData : Type 0 where
@@ -25,9 +27,22 @@ pub record LeadsTo (s : ScriptData) (a : ℕ) (es : List Entry) (st : ActorState
 abbrev pub entries_in : List CellData → ℕ
 entries_in cells = sum_by (λ c. length c.entries) cells
 
--- cells lie in the order of their numbers, from 0, and so many entries are all that they have, and no more than a history
--- takes
+-- cells lie in the order of their numbers, from 0, and so many entries are all that they have, and no more than a
+-- history takes
 pub record HasAllEntries (cells : List CellData) (count : ℕ) : Type 0 where
   pub order : NumberedBy (λ c. c.number) 0 cells
   pub whole : count ≡ entries_in cells
   pub few : count ≤ MOST_ENTRIES
+
+-- what handling a letter gave: the outbox of the entry that comes of it; or the letter comes back, and all is as it was
+abbrev pub IsHandling : PostId → EnvelopeData → CellData → CellData → List Entry → List Entry
+    → Result OutboxData (NoMemory × EnvelopeData) → Type 0
+IsHandling post envelope old new made now result = MatchResult result
+    (λ out. Handled post old.number old.entries new.entries envelope.letter made now out)
+    (λ e. (e.1 ≡ envelope) × (new ≡ old) × (now ≡ made))
+
+-- what delivering a letter gave: its addressee's outbox; or the letter comes back, and what was made is as it was
+abbrev pub IsDelivery : PostId → ScriptData → EnvelopeData → List Entry → List Entry
+    → Result OutboxData (NoMemory × EnvelopeData) → Type 0
+IsDelivery post s envelope made now result = MatchResult result
+    (λ out. Delivered post s envelope.letter made now out) (λ e. (e.1 ≡ envelope) × (now ≡ made))

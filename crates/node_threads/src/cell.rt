@@ -1,13 +1,13 @@
 // What lies under an actor's lock.
-ghost use Rattle.std.specs.Prelude.{◌≡◌, ◌+◌, ◌<◌, [], IfOk, MatchResult, None, OnErr, OnOk, length};
+ghost use Rattle.std.specs.Prelude.{◌≡◌, ◌+◌, ◌<◌, [], IfOk, None, OnErr, OnOk, length};
 ghost use Rattle.letter_types.specs.Steps.{made};
 ghost use Rattle.pair_counters.specs.Numbers.{MOST_COUNT};
 ghost use Rattle.stamp_post.specs.Shown.{seat_data};
 ghost use Rattle.tree_step.specs.Meant.{IsEmpty};
 ghost use Rattle.world_model.specs.Taking.{CountsBelow, IsAddressed};
 ghost use Rattle.world_core.specs.Actors.{IsFor, actor_data};
-ghost use Rattle.history_merge.specs.OwnLogs.{Delivered, Handled};
-ghost use Rattle.node_threads.specs.Cells.{cell_data};
+ghost use Rattle.history_merge.specs.OwnLogs.{Delivered};
+ghost use Rattle.node_threads.specs.Cells.{cell_data, IsHandling};
 ghost use Rattle.world_core.specs.Prepared.{row_at};
 
 use history_merge::{ClusterName, Made, OwnLog};
@@ -132,10 +132,7 @@ impl<K: ClusterName> ActorCell<K> {
         requires script { script.now ≡ K.script }
         requires addressee { envelope.letter.to.0 ≡ self.old.number }
         ensures number { self.new.number ≡ self.old.number }
-        ensures handled { MatchResult result
-            (λ out. Handled K.post self.old.number self.old.entries self.new.entries envelope.letter made.old.items
-            made.new.items out)
-            (λ e. (e.1 ≡ envelope) × (self.new ≡ self.old) × (made.new.items ≡ made.old.items)) }
+        ensures handled { IsHandling K.post envelope self.old self.new made.old.items made.new.items result }
         ensures delivered { IfOk result (Delivered K.post K.script envelope.letter made.old.items made.new.items) }
     {
         let _valid = script.nodes();

@@ -1,9 +1,9 @@
 // Cells behind locks.
-ghost use Rattle.std.specs.Prelude.{◌≡◌, ◌+◌, ◌≤◌, ◌⊎◌, ℕ, All, [], length, slice_get, IfErr, IfOk, MatchResult, OnErr, OnOk, Some};
-ghost use Rattle.stamp_post.specs.Shown.{ReceiptData, gatherer_data, new_seats};
+ghost use Rattle.std.specs.Prelude.{◌≡◌, ◌+◌, ◌≤◌, ◌⊎◌, All, [], length, IfErr, IfOk, OnErr, OnOk, Some};
+ghost use Rattle.stamp_post.specs.Shown.{gatherer_data, new_seats};
 ghost use Rattle.world_model.specs.Runs.{IsWorldRun};
-ghost use Rattle.history_merge.specs.Histories.{HasReceiptEntry};
-ghost use Rattle.history_merge.specs.OwnLogs.{Delivered};
+ghost use Rattle.history_merge.specs.Histories.{HasReceiptEntries};
+ghost use Rattle.node_threads.specs.Cells.{IsDelivery};
 
 use crate::cell::ActorCell;
 use crate::finishing::{closed_again, is_whole, logs_of, opened, room_for_cells};
@@ -127,9 +127,7 @@ impl<'a, K: ClusterName, G: Gate> Cluster<'a, K, G> {
         made: &mut VecDeque<Made<K>>,
     ) -> Result<Outbox, (NoMemory, Envelope)>
         requires { envelope.post ≡ K.post }
-        ensures { MatchResult result
-            (Delivered K.post K.script envelope.letter made.old.items made.new.items)
-            (λ e. (e.1 ≡ envelope) × (made.new.items ≡ made.old.items)) }
+        ensures { IsDelivery K.post K.script envelope made.old.items made.new.items result }
     {
         let to = envelope.letter().to;
         let lock: &Mutex<ActorCell<K>> = &self.cells[to.0 as usize];
@@ -176,8 +174,7 @@ impl<'a, K: ClusterName, G: Gate> Cluster<'a, K, G> {
     ) -> Result<History, (NoMemory, Cluster<'a, K, G>, Receipts)>
         requires { All (λ r. r.post ≡ K.post) receipts }
         ensures run { IfOk result (λ h. IsWorldRun K.script h) }
-        ensures told { IfOk result (λ h. (k : ℕ) (r : ReceiptData) → slice_get receipts k ≡ Some r
-            → HasReceiptEntry K.script h r) }
+        ensures told { IfOk result (HasReceiptEntries K.script receipts) }
         ensures receipts { IfErr result (λ e. e.2 ≡ receipts) }
     {
         let Ok(room) = room_for_cells::<K>(self.alloc, self.cells.len()) else {

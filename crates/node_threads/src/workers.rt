@@ -3,7 +3,7 @@ ghost use Rattle.std.specs.Prelude.{◌≡◌, ◌<◌, ◌⊎◌, [], IfErr, If
 ghost use Rattle.actor_schedule.specs.Desks.{desk_data, empty_trays};
 ghost use Rattle.actor_schedule.specs.Stops.{KeepsLetter};
 ghost use Rattle.actor_schedule.specs.declared.stop.InHand.TheVariants as helds;
-ghost use Rattle.node_threads.specs.Benches.{AreAllOrNone, AreFlushed, IsDelivered, KeepsOne, ends_last};
+ghost use Rattle.node_threads.specs.Benches.{AreAllOrNone, IsDelivered, KeepsOne, ends_last, AreEmptiedTo, StayEmpty};
 
 use crate::cluster::Cluster;
 use actor_schedule::{Desk, Ending, InHand};
@@ -98,8 +98,7 @@ impl<'a, K: ClusterName, G: Gate> Cluster<'a, K, G> {
     fn put_by<R: Wait>(&self, rt: &R, bench: &mut Bench<K>) -> Result<(), NoMemory>
         ensures hand { bench.new.desk.hand ≡ bench.old.desk.hand }
         ensures trays { OnOk result (bench.new.desk.trays ≡ empty_trays K.post.actors) }
-        ensures left { OnErr result ((bench.new.desk.trays ≡ empty_trays K.post.actors)
-            ⊎ AreFlushed bench.old.desk.trays bench.new.desk.trays) }
+        ensures left { OnErr result (AreEmptiedTo K.post.actors bench.old.desk.trays bench.new.desk.trays) }
         ensures made { AreAllOrNone bench.old.made.items bench.new.made.items }
     {
         self.dispatch.flush(rt, &mut bench.desk)?;
@@ -231,8 +230,7 @@ impl<'a, K: ClusterName, G: Gate> Cluster<'a, K, G> {
         bench: &mut Bench<K>,
     ) -> Result<(), (NoMemory, InHand)>
         ensures made { OnOk result (bench.new.made.items ≡ []) }
-        ensures trays { OnOk result (bench.old.desk.trays ≡ empty_trays K.post.actors
-            → bench.new.desk.trays ≡ empty_trays K.post.actors) }
+        ensures trays { OnOk result (StayEmpty K.post.actors bench.old.desk.trays bench.new.desk.trays) }
         ensures held { IfErr result (λ e. KeepsOne K.post e.1) }
     {
         let mut place = (worker % 256) as u8;

@@ -1,6 +1,6 @@
 -- A count: the round that is counted or was last, and what comes of what it is told. Whether it is paused is the phase
 -- of its coordinator.
-use Rattle.std.specs.Prelude.{◌≡◌, ◌<◌, ⊤, ℕ, Bool, true, false, not, ◌&&◌, List, length, if◌then◌else◌, slice_set, Option, Some, None}
+use Rattle.std.specs.Prelude.{◌≡◌, ◌<◌, ⊤, ℕ, Bool, true, false, not, ◌&&◌, List, length, if◌then◌else◌, slice_set, Option, Some, None, MatchOption}
 use Rattle.tv_base.specs.declared.numbers.Version.{Version}
 use Rattle.phase_out.specs.Rounds.{RoundData, new_round, is_of, all_in, verdict_of}
 use Rattle.phase_out.specs.declared.count.RowChange.{RowChange}
@@ -50,8 +50,8 @@ MayKeep (Asked from row) r = IsRowOf from.0 row r
 abbrev pub nudged : CountData → CountData
 nudged c = record c { flag = true }
 
--- what the verdict asks for: where a pair differs another round begins at once if a tree was answered, else with the next
--- nudge
+-- what the verdict asks for: where a pair differs another round begins at once if a tree was answered, else with the
+-- next nudge
 abbrev pub by_verdict : Option Bool → Bool → Counted
 by_verdict None flag = Goes
 by_verdict (Some true) flag = Agrees
@@ -77,6 +77,12 @@ count_stays c = record { state = c; counted = Goes }
 -- the count keeps a row
 abbrev pub count_takes : RowChange → CountData → CountOut
 count_takes row c = record { state = count_with row c; counted = counted_with row c }
+
+-- what a look at a row says that the count is told so: nothing comes of it; or it is kept, as the round may, and asks
+-- for this
+abbrev pub IsLookAt : RowChange → CountData → CountOut → Option Counted → Type 0
+IsLookAt row c told looked = MatchOption looked (told ≡ count_stays c)
+    (λ counted. (told ≡ record { state = count_with row c; counted = counted }) × MayKeep row c.current)
 
 -- a sender tells its row of completions, or of requests, of a version and a round's number: it is kept if it is one of
 -- this round, that of requests once all completions are in

@@ -1,8 +1,8 @@
 // A count: the round that is counted or was last, and what is asked of its coordinator.
-ghost use Rattle.std.specs.Prelude.{◌≡◌, MatchOption, IfOk};
+ghost use Rattle.std.specs.Prelude.{◌≡◌, IfOk};
 ghost use Rattle.tv_base.specs.Outside.{one_more};
 ghost use Rattle.phase_out.specs.Rounds.{new_round};
-ghost use Rattle.phase_out.specs.Counts.{MayKeep, start_count, count_begun, count_with, nudged, count_stays, told_done, told_asked};
+ghost use Rattle.phase_out.specs.Counts.{MayKeep, start_count, count_begun, count_with, nudged, told_done, told_asked, IsLookAt};
 
 use crate::round::Round;
 use pair_counters::Row;
@@ -90,11 +90,8 @@ impl Count {
         number: u64,
         row: &Row,
     ) -> Option<Counted>
-        ensures { MatchOption result
-            (told_done from.0 version number row.now self.now ≡ count_stays self.now)
-            (λ counted. (told_done from.0 version number row.now self.now
-            ≡ record { state = count_with (RowChange.Done from row.now) self.now; counted = counted })
-            × MayKeep (RowChange.Done from row.now) self.now.current) }
+        ensures { IsLookAt (RowChange.Done from row.now) self.now (told_done from.0 version number row.now self.now)
+            result }
     {
         if !self.current.is_of(from, version, number, row) {
             return None;
@@ -114,11 +111,8 @@ impl Count {
         number: u64,
         row: &Row,
     ) -> Option<Counted>
-        ensures { MatchOption result
-            (told_asked from.0 version number row.now self.now ≡ count_stays self.now)
-            (λ counted. (told_asked from.0 version number row.now self.now
-            ≡ record { state = count_with (RowChange.Asked from row.now) self.now; counted = counted })
-            × MayKeep (RowChange.Asked from row.now) self.now.current) }
+        ensures { IsLookAt (RowChange.Asked from row.now) self.now (told_asked from.0 version number row.now self.now)
+            result }
     {
         if !(self.current.is_of(from, version, number, row) && self.current.all_done()) {
             return None;

@@ -1,11 +1,11 @@
 // The lines of strict trees.
-ghost use Rattle.std.specs.Prelude.{◌≡◌, [], ◌++◌, OnOk, codes};
-ghost use Rattle.std.specs.Option.{option_and_then, option_copied, option_map_or};
+ghost use Rattle.std.specs.Prelude.{◌≡◌, ◌++◌, OnOk};
+ghost use Rattle.std.specs.Option.{option_and_then, option_copied};
 ghost use Rattle.std.specs.Str.{IsAscii};
-ghost use Rattle.history_text.specs.TreeNames.{got_text};
-ghost use Rattle.board_rules.specs.Outcomes.{cause_from, got_from, got_of};
+ghost use Rattle.board_rules.specs.Outcomes.{cause_from};
 ghost use Rattle.board_rules.specs.Stands.{refusal_in};
-ghost use Rattle.report_text.specs.Outcomes.{decided_text, outcome_of, strict_line, why_text};
+ghost use Rattle.report_text.specs.Outcomes.{why_text};
+ghost use Rattle.report_text.specs.inside.Voters.{decision_text, outcome_text, vote_text, voters_line, votes_text};
 
 use crate::parts::push_version;
 use board_model::Ballot;
@@ -30,8 +30,7 @@ pub(crate) fn push_strict(
     version: Version,
 ) -> Result<(), NoMemory>
     requires { IsAscii voters.tree.now.name }
-    ensures { OnOk result (text.new ≡ text.old ++ strict_line voters.entry.tree.now.name version.0
-        (outcome_of script.now voters.entry.ballot.now voters.entry.number.0 voters.entry.tree.now.subs)) }
+    ensures { OnOk result (text.new ≡ text.old ++ voters_line script.now voters.entry version) }
 {
     push_version(text, b"strict ", &voters.tree.name, version)?;
     push_outcome(text, script, voters)?;
@@ -40,8 +39,7 @@ pub(crate) fn push_strict(
 
 // How the tree came out.
 fn push_outcome(text: &mut Text, script: &Script, voters: Voters) -> Result<(), NoMemory>
-    ensures { OnOk result (text.new ≡ text.old
-        ++ outcome_of script.now voters.entry.ballot.now voters.entry.number.0 voters.entry.tree.now.subs) }
+    ensures { OnOk result (text.new ≡ text.old ++ outcome_text script.now voters.entry) }
 {
     match voters.ballot.decision(voters.number) {
         Some(commit) => push_decided(text, script, voters, commit),
@@ -56,8 +54,7 @@ fn push_decided(
     voters: Voters,
     commit: bool,
 ) -> Result<(), NoMemory>
-    ensures { OnOk result (text.new ≡ text.old
-        ++ decided_text script.now voters.entry.ballot.now voters.entry.number.0 voters.entry.tree.now.subs commit) }
+    ensures { OnOk result (text.new ≡ text.old ++ decision_text script.now voters.entry commit) }
 {
     if commit {
         text.push_all(b" committed")?;
@@ -70,8 +67,7 @@ fn push_decided(
 
 // The values of the yes votes, by subtransaction.
 fn push_all_got(text: &mut Text, script: &Script, voters: Voters) -> Result<(), NoMemory>
-    ensures { OnOk result (text.new ≡ text.old
-        ++ got_text script.now (got_from voters.entry.ballot.now voters.entry.number.0 0 voters.entry.tree.now.subs)) }
+    ensures { OnOk result (text.new ≡ text.old ++ votes_text script.now voters.entry) }
 {
     let subs = voters.tree.subs.items();
     for (k, _) in subs.iter().enumerate() {
@@ -83,7 +79,7 @@ fn push_all_got(text: &mut Text, script: &Script, voters: Voters) -> Result<(), 
 
 // The values that a vote gives, if it is there.
 fn push_vote_got(text: &mut Text, script: &Script, vote: Option<&Vote>) -> Result<(), NoMemory>
-    ensures { OnOk result (text.new ≡ text.old ++ got_text script.now (option_map_or got_of (option_copied vote.entry) [])) }
+    ensures { OnOk result (text.new ≡ text.old ++ vote_text script.now (option_copied vote.entry)) }
 {
     match vote {
         Some(Vote::Yes(got)) => push_got(text, script, got),

@@ -1,10 +1,10 @@
 // What read trees show, each taken when its version is reached in one pass over the serial order.
-ghost use Rattle.std.specs.Prelude.{◌≡◌, ◌++◌, ◌+◌, ◌<◌, ◌≤◌, ◌^◌, IfOk, OnOk, length, slice_index_or};
+ghost use Rattle.std.specs.Prelude.{◌≡◌, ◌++◌, ◌+◌, ◌<◌, ◌≤◌, ◌^◌, IfOk, OnOk, length};
 ghost use Rattle.board_model.specs.Balances.{worths};
 ghost use Rattle.board_model.specs.SerialList.{IsSerial};
 ghost use Rattle.board_model.specs.Standings.{standings_of};
 ghost use Rattle.board_model.specs.declared.serial.Member.{Member};
-ghost use Rattle.report_text.specs.inside.Served.{AreAsked, AreRead, AreTold, IsServed, ask_at, asks_from, read_version};
+ghost use Rattle.report_text.specs.inside.Served.{AreAsked, AreRead, AreTold, IsServed, ask_at, asks_from, read_version, IsAskedFor, IsServedIn};
 
 use crate::reads::{Reads, no_texts, values_of};
 use crate::run::Run;
@@ -124,11 +124,9 @@ fn serve_one(
     requires asks { AreAsked run.script.now run.history.now asks.now }
     requires served { IsServed run.script.now run.history.now run.serial.now asks.now reads.old served }
     requires more { served.place < length asks.now }
-    ensures served { IfOk result
-        (IsServed run.entry.script.now run.entry.history.now run.entry.serial.now asks.now reads.new) }
+    ensures served { IfOk result (IsServedIn run.entry asks.now reads.new) }
     ensures place { IfOk result (λ r. r.place ≡ served.place + 1) }
-    ensures version { IfOk result (λ r. (d : Member)
-        → r.carried.version ≡ (slice_index_or asks.now served.place d).version) }
+    ensures version { IfOk result (λ r. IsAskedFor asks.now served.place r.carried.version) }
 {
     let rows = run.script.items();
     let trees = run.script.trees();
@@ -160,8 +158,7 @@ fn serve_to(
     requires asks { AreAsked run.script.now run.history.now asks.now }
     requires served { IsServed run.script.now run.history.now run.serial.now asks.now reads.old served }
     requires later { served.carried.version.0 ≤ version.0 }
-    ensures served { IfOk result
-        (IsServed run.entry.script.now run.entry.history.now run.entry.serial.now asks.now reads.new) }
+    ensures served { IfOk result (IsServedIn run.entry asks.now reads.new) }
     ensures version { IfOk result (λ r. r.carried.version ≡ version) }
     ensures worths { IfOk result (λ r. r.carried.values ≡ worths run.entry.script.now run.entry.history.now version.0) }
 {

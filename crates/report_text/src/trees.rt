@@ -3,8 +3,8 @@ ghost use Rattle.std.specs.Prelude.{◌≡◌, ◌++◌, ◌+◌, ◌<◌, ◌^�
 ghost use Rattle.std.specs.Str.{IsAscii};
 ghost use Rattle.report_text.specs.inside.Lines.{trees_lines};
 ghost use Rattle.tx_trees.specs.AsciiNames.{AreAsciiTrees};
-ghost use Rattle.report_text.specs.Report.{node_line, nodes_text, read_line, tree_line, undone_mark, update_line};
-ghost use Rattle.report_text.specs.Outcomes.{outcome_of};
+ghost use Rattle.report_text.specs.Report.{node_line, nodes_text, read_line, undone_mark, update_line};
+ghost use Rattle.report_text.specs.inside.Voters.{line_shown};
 
 use crate::outcomes::{Voters, push_strict};
 use crate::parts::push_version;
@@ -50,9 +50,7 @@ fn push_tree(
     values: &Text,
 ) -> Result<(), NoMemory>
     requires { IsAscii voters.tree.now.name }
-    ensures { OnOk result (text.new ≡ text.old
-        ++ tree_line voters.entry.tree.now voters.entry.tree.now.kind born (λ _. values.now)
-        (outcome_of script.now voters.entry.ballot.now voters.entry.number.0 voters.entry.tree.now.subs)) }
+    ensures { OnOk result (text.new ≡ text.old ++ line_shown script.now voters.entry born values.now) }
 {
     let tree = voters.tree;
     match (tree.kind, born) {

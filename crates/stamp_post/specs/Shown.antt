@@ -1,5 +1,5 @@
 -- What contracts see of a post, its seats, outboxes, envelopes and receipts, and what gathering promises.
-use Rattle.std.specs.Prelude.{◌≡◌, ◌<◌, ℕ, zero, suc, ◌+◌, ◌-◌, All, List, [], ◌∷◌, Option, Some, None, IfSome, slice_get}
+use Rattle.std.specs.Prelude.{◌≡◌, ◌<◌, ℕ, zero, suc, ◌+◌, ◌-◌, All, List, [], ◌∷◌, Option, Some, None, IfSome, slice_get, ◌≤◌, ◌++◌, length}
 use Rattle.atomic_table.specs.Seated.{TableId}
 use Rattle.letter_types.specs.declared.entries.Letter.{Letter}
 use Rattle.letter_types.specs.declared.entries.Outgoing.{Outgoing}
@@ -50,11 +50,29 @@ abbrev pub seat_data : PostId → ℕ → List Posting → Option Letter → Opt
 seat_data post number own taken unsent =
     record { post = post; number = number; own = own; taken = taken; unsent = unsent }
 
+-- the seat with a posting more, of the letter that it had taken
+abbrev pub with_posting : PostId → Posting → SeatData → SeatData
+with_posting post p seat = seat_data post seat.number (seat.own ++ p ∷ []) None (Some p)
+
 abbrev pub outbox_data : PostId → ℕ → List Posting → Posting → ℕ → OutboxData
 outbox_data post number own p next = record { post = post; number = number; own = own; posting = p; next = next }
 
+-- the outbox with one letter more out; it has a letter left; and all are out
+abbrev pub one_more_out : OutboxData → OutboxData
+one_more_out o = outbox_data o.post o.number o.own o.posting (o.next + 1)
+
+abbrev pub HasLeft : OutboxData → Type 0
+HasLeft o = o.next < length o.posting.sent
+
+abbrev pub IsAllOut : OutboxData → Type 0
+IsAllOut o = length o.posting.sent ≤ o.next
+
 abbrev pub receipt_data : PostId → ℕ → List Posting → Posting → ReceiptData
 receipt_data post number own p = record { post = post; number = number; own = own; posting = p }
+
+-- what tells that an outbox's posting was stamped
+abbrev pub receipt_of : OutboxData → ReceiptData
+receipt_of o = receipt_data o.post o.number o.own o.posting
 
 -- a gatherer: its post, and the postings that it knows of
 pub record GathererData : Type 0 where
@@ -105,6 +123,10 @@ pub record Gathers (actors : ℕ) (seats : List JoinedSeat) (receipts : List Joi
   pub own : (k : ℕ) (s : JoinedSeat) → slice_get seats k ≡ Some s → s.own ≡ own_postings s.number log
   pub stands : (k : ℕ) (r : JoinedReceipt) → slice_get receipts k ≡ Some r → Stands log r.posting
   pub begins : (k : ℕ) (r : JoinedReceipt) → slice_get receipts k ≡ Some r → AreFirst log r.number r.own
+
+-- so many postings are gathered
+abbrev pub AreGathered : ℕ → List JoinedSeat → List JoinedReceipt → ℕ → Type 0
+AreGathered actors seats receipts count = (g : Gathers actors seats receipts) × (length g.log ≡ count)
 
 -- a name for no post
 abbrev pub no_post : PostId

@@ -1,5 +1,5 @@
 -- The parts of a view, and the first seat, which private code works with.
-use Rattle.std.specs.Prelude.{ℕ, List, [], Option, None}
+use Rattle.std.specs.Prelude.{ℕ, List, [], Option, None, ◌++◌}
 use Rattle.letter_types.specs.declared.entries.Letter.{Letter}
 use Rattle.letter_types.specs.declared.entries.Posting.{Posting}
 use Rattle.letter_types.specs.Letters.{go}
@@ -20,6 +20,16 @@ pub record FirstData : Type 0 where
 abbrev pub first_data : PostId → ℕ → Option Letter → List JoinedSeat → List JoinedReceipt → FirstData
 first_data post made here seats receipts =
     record { post = post; made = made; here = here; seats = seats; receipts = receipts }
+
+-- the first seat of a post with so many actors made; with seats joined; and with receipts joined
+abbrev pub with_made : PostId → ℕ → FirstData → FirstData
+with_made post made first = first_data post made first.here first.seats first.receipts
+
+abbrev pub with_seats : PostId → List JoinedSeat → FirstData → FirstData
+with_seats post more first = first_data post first.made first.here (first.seats ++ more) first.receipts
+
+abbrev pub with_receipts : PostId → List JoinedReceipt → FirstData → FirstData
+with_receipts post more first = first_data post first.made first.here first.seats (first.receipts ++ more)
 
 abbrev pub here_in : View → Option Letter
 here_in (Gathering m first seats receipts) = first

@@ -4,8 +4,8 @@ ghost use Rattle.letter_types.specs.declared.entries.Posting.{Posting};
 ghost use Rattle.letter_types.specs.Letters.{go};
 ghost use Rattle.letter_types.specs.Postal.{letters_sent};
 ghost use Rattle.stamp_post.specs.Logs.{most, posting};
-ghost use Rattle.stamp_post.specs.Shown.{seat_data, outbox_data, envelope_data, gatherer_data, receipt_data, new_seats, seat_joined, receipt_joined, AreToActors, Gathers};
-ghost use Rattle.stamp_post.specs.Views.{first_data};
+ghost use Rattle.stamp_post.specs.Shown.{seat_data, outbox_data, envelope_data, gatherer_data, new_seats, seat_joined, receipt_joined, AreToActors, AreGathered, HasLeft, IsAllOut, one_more_out, receipt_of, with_posting};
+ghost use Rattle.stamp_post.specs.Views.{first_data, with_made, with_receipts, with_seats};
 
 use crate::first::FirstSeat;
 use crate::rule::{
@@ -79,8 +79,7 @@ impl Post {
     fn split_actor(&self, first: &mut FirstSeat) -> ActorSeat
         requires post { first.old.post ≡ self.now }
         requires few { first.old.made < self.now.actors }
-        ensures first { first.new ≡ first_data self.now (first.old.made + 1) first.old.here first.old.seats
-            first.old.receipts }
+        ensures first { first.new ≡ with_made self.now (first.old.made + 1) first.old }
         ensures actor { result ≡ seat_data self.now first.old.made [] None None }
     {
         let seat = self.table.shared.split_seat::<SplitActor>(&mut first.seat);
@@ -121,8 +120,7 @@ impl Post {
         requires post { first.old.post ≡ self.now }
         requires none { first.old.made ≡ 0 }
         requires all { self.now.actors ≡ actors }
-        ensures first { IfOk result (λ _. first.new ≡ first_data self.now actors first.old.here first.old.seats
-            first.old.receipts) }
+        ensures first { IfOk result (λ _. first.new ≡ with_made self.now actors first.old) }
         ensures seats { IfOk result (λ seats. seats ≡ new_seats self.now 0 actors) }
     {
         let mut seats = Seats::new(alloc);
@@ -177,8 +175,7 @@ impl Post {
         requires taken { seat.old.taken ≡ Some letter.now }
         requires addressed { AreToActors self.now.actors sent.now }
         requires room { length seat.old.own < most }
-        ensures { let p = posting result.0 seat.old.number letter.now sent.now in
-            seat.new ≡ seat_data self.now seat.old.number (seat.old.own ++ p ∷ []) None (Some p) }
+        ensures { seat.new ≡ with_posting self.now (posting result.0 seat.old.number letter.now sent.now) seat.old }
     {
         let before = self
             .table
@@ -194,8 +191,7 @@ impl Post {
         requires taken { seat.old.taken ≡ Some letter.now }
         requires addressed { AreToActors self.now.actors sent.now }
         requires room { length seat.old.own < most }
-        ensures { let p = posting result.0 seat.old.number letter.now sent.now in
-            seat.new ≡ seat_data self.now seat.old.number (seat.old.own ++ p ∷ []) None (Some p) }
+        ensures { seat.new ≡ with_posting self.now (posting result.0 seat.old.number letter.now sent.now) seat.old }
     {
         self.stamp_as::<Brand>(seat, letter, sent)
     }
@@ -224,8 +220,7 @@ impl Post {
     // An actor comes back.
     fn join_seat(&self, first: &mut FirstSeat, seat: ActorSeat)
         requires post { (first.old.post ≡ self.now) × (seat.post ≡ self.now) }
-        ensures { first.new ≡ first_data self.now first.old.made first.old.here
-            (first.old.seats ++ seat_joined seat ∷ []) first.old.receipts }
+        ensures { first.new ≡ with_seats self.now (seat_joined seat ∷ []) first.old }
     {
         let ActorSeat {
             seat,
@@ -240,8 +235,7 @@ impl Post {
     // A witness comes back.
     fn join_witness(&self, first: &mut FirstSeat, witness: Witness)
         requires post { (first.old.post ≡ self.now) × (witness.post ≡ self.now) }
-        ensures { first.new ≡ first_data self.now first.old.made first.old.here first.old.seats
-            (first.old.receipts ++ receipt_joined witness ∷ []) }
+        ensures { first.new ≡ with_receipts self.now (receipt_joined witness ∷ []) first.old }
     {
         let Witness {
             seat,
@@ -264,8 +258,7 @@ impl Post {
     // A receipt comes back.
     fn join_receipt(&self, first: &mut FirstSeat, receipt: Receipt)
         requires post { (first.old.post ≡ self.now) × (receipt.post ≡ self.now) }
-        ensures { first.new ≡ first_data self.now first.old.made first.old.here first.old.seats
-            (first.old.receipts ++ receipt_joined receipt ∷ []) }
+        ensures { first.new ≡ with_receipts self.now (receipt_joined receipt ∷ []) first.old }
     {
         let Receipt {
             seat,
@@ -282,8 +275,7 @@ impl Post {
     fn join_seats(&self, first: &mut FirstSeat, seats: Seats)
         requires post { first.old.post ≡ self.now }
         requires seats { All (λ s. s.post ≡ self.now) seats }
-        ensures { first.new ≡ first_data self.now first.old.made first.old.here
-            (first.old.seats ++ map seat_joined seats) first.old.receipts }
+        ensures { first.new ≡ with_seats self.now (map seat_joined seats) first.old }
     {
         for seat in seats.into_vec() {
             self.join_seat(first, seat);
@@ -293,8 +285,7 @@ impl Post {
     fn join_receipts(&self, first: &mut FirstSeat, receipts: Receipts)
         requires post { first.old.post ≡ self.now }
         requires receipts { All (λ r. r.post ≡ self.now) receipts }
-        ensures { first.new ≡ first_data self.now first.old.made first.old.here first.old.seats
-            (first.old.receipts ++ map receipt_joined receipts) }
+        ensures { first.new ≡ with_receipts self.now (map receipt_joined receipts) first.old }
     {
         for receipt in receipts.into_vec() {
             self.join_receipt(first, receipt);
@@ -304,7 +295,7 @@ impl Post {
     // The last state, of which the first seat knows what was joined.
     fn close(self, first: FirstSeat) -> u64
         requires { first.post ≡ self }
-        ensures { (g : Gathers self.actors first.seats first.receipts) × (length g.log ≡ result) }
+        ensures { AreGathered self.actors first.seats first.receipts result }
     {
         let FirstSeat {
             seat,
@@ -325,8 +316,8 @@ impl Post {
         requires gatherer { gatherer.post ≡ self }
         requires seats { All (λ s. s.post ≡ self) seats }
         requires receipts { All (λ r. r.post ≡ self) receipts }
-        ensures { (g : Gathers self.actors (map seat_joined seats) (gatherer.known ++ map receipt_joined receipts))
-            × (length g.log ≡ result.count) }
+        ensures { AreGathered self.actors (map seat_joined seats) (gatherer.known ++ map receipt_joined receipts)
+            result.count }
     {
         let Gatherer { first } = gatherer;
         let mut first = first;
@@ -342,7 +333,7 @@ impl Outbox {
     pub fn witness(&mut self, post: &Post) -> Witness
         requires { self.old.post ≡ post.now }
         ensures out { self.new ≡ self.old }
-        ensures witness { result ≡ receipt_data self.old.post self.old.number self.old.own self.old.posting }
+        ensures witness { result ≡ receipt_of self.old }
     {
         let actors = self.actors;
         let number = self.number;
@@ -358,14 +349,13 @@ impl Outbox {
     pub fn next(&mut self, post: &Post) -> Option<Envelope>
         requires { self.old.post ≡ post.now }
         // None exactly where no letter is left
-        ensures left { IfSome result (λ _. self.old.next < length self.old.posting.sent) }
-        ensures none { IfNone result (length self.old.posting.sent ≤ self.old.next) }
+        ensures left { IfSome result (λ _. HasLeft self.old) }
+        ensures none { IfNone result (IsAllOut self.old) }
         // which letter it is
         ensures letter { IfSome result (λ e. slice_get (letters_sent self.old.posting) self.old.next ≡ Some e.letter) }
         ensures post { IfSome result (λ e. e.post ≡ self.old.post) }
         // what is left after
-        ensures out { IfSome result (λ _.
-            self.new ≡ outbox_data self.old.post self.old.number self.old.own self.old.posting (self.old.next + 1)) }
+        ensures out { IfSome result (λ _. self.new ≡ one_more_out self.old) }
         ensures same { IfNone result (self.new ≡ self.old) }
     {
         let Some(out) = self.left.pop_front() else {

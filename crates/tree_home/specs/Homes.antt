@@ -137,6 +137,10 @@ abbrev pub answered_version : Option Answered → Option Version
 answered_version None = None
 answered_version (Some a) = Some a.version
 
+-- the version of the answer that a notice completes, if it completes one
+abbrev pub completed_version : TreeNo → SubNo → Gets → OpenTrees → Option Version
+completed_version t s vs hs = if misses t s hs then answered_version (answer_in t s vs hs) else None
+
 -- the version of a tree that misses one notice at most
 abbrev pub last_version : OpenTree → Option Version
 last_version h = if nat_le (missing_count h.notices) 1 then Some h.version else None

@@ -1,8 +1,8 @@
-ghost use Rattle.std.specs.Prelude.{if◌then◌else◌, ◌≡◌, ◌++◌, ◌-◌, ◌<◌, length, replicate, IfOk, IfErr, IfSome, IsNone, IsSome, IsTrue, OnErr, OnOk, Some, None, slice_set, slice_get, ◌↔◌};
+ghost use Rattle.std.specs.Prelude.{◌≡◌, ◌++◌, ◌-◌, ◌<◌, length, replicate, IfOk, IfErr, IsNone, IsSome, IsTrue, OnErr, OnOk, Some, None, slice_set, slice_get, ◌↔◌};
 ghost use Rattle.std.specs.Option.{option_copied, is_some};
 ghost use Rattle.tree_home.specs.Maps.{AreAscending, by_tree, put_at};
 ghost use Rattle.tree_home.specs.HeldAnswers.{acked, answer_when_acked, held_answers, held_for, held_in, holding, waits_for_more};
-ghost use Rattle.tree_home.specs.Homes.{Gets, no_homes, open_trees, home_in, begun, with_notice, noted, forgotten, gathered, missing_count, missing_in, misses, is_missing, after_notice, answer_in, answer_of, answered_version, last_version, outcome, prospect, prospect_of, IsNotedAmong, MissesSome};
+ghost use Rattle.tree_home.specs.Homes.{Gets, no_homes, open_trees, home_in, begun, with_notice, noted, forgotten, gathered, missing_count, missing_in, misses, is_missing, after_notice, answer_in, answer_of, last_version, outcome, prospect, prospect_of, IsNotedAmong, MissesSome, completed_version};
 
 use crate::tree_map::{find, insert, remove};
 use commute_ops::{Value, Values};
@@ -184,8 +184,7 @@ impl Homes {
     /// notice isn't missing, or another notice of the tree is missing too. It needs no memory.
     #[tactic(auto, using(crate::proofs::Gathered::telling_version))]
     pub fn would_answer_in(&self, tree: TreeNo, sub: SubNo) -> Option<Version>
-        ensures { (values : Gets) → result ≡ (if misses tree sub (open_trees self.now)
-            then answered_version (answer_in tree sub values (open_trees self.now)) else None) }
+        ensures { (values : Gets) → result ≡ completed_version tree sub values (open_trees self.now) }
     {
         match find(&self.trees, tree) {
             Some(opened) if is_missing(opened.notices.items(), sub) => last_version(opened),

@@ -35,6 +35,14 @@ pub record AreWorths (first : Value) (ns : List Noted) (w : WorthsData) : Type 0
   pub rises : Rises w.puts
   pub kept : AreWorthsOf w.kind ns w
 
+-- what holds of whatever first value and deeds these are the worths of
+abbrev pub OfWorths : WorthsData → (Value → List Noted → Type 0) → Type 0
+OfWorths w P = (first : Value) (ns : List Noted) → AreWorths first ns w → P first ns
+
+-- the second worths are the first ones with these deeds more
+abbrev pub AreWorthsWith : List Noted → WorthsData → WorthsData → Type 0
+AreWorthsWith more old new = OfWorths old (λ first ns. AreWorths first (ns ++ more) new)
+
 -- the steps below a place, and then these, as far as there were as many
 abbrev pub steps_over : ℕ → List WorthStep → List WorthStep → List WorthStep
 steps_over p above ss = take p ss ++ take (length ss - p) above

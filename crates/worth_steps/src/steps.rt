@@ -1,8 +1,8 @@
 // The steps of a sum or a top.
-ghost use Rattle.std.specs.Prelude.{◌≡◌, ◌+◌, ◌<◌, ◌≤◌, ◌++◌, ◌∷◌, nat_le, drop, take, length, slice_get, suc, true, Some, IfOk, IfSome, OnErr, OnOk};
+ghost use Rattle.std.specs.Prelude.{◌≡◌, ◌+◌, ◌<◌, ◌≤◌, ◌++◌, nat_le, drop, take, length, Some, IfOk, IfSome, OnErr, OnOk};
 ghost use Rattle.worth_steps.specs.Kept.{steps_back, steps_over};
-ghost use Rattle.worth_steps.specs.Steps.{Ascends, Chained, act_on, newest_step, seen_to};
-ghost use Rattle.worth_steps.specs.inside.Editing.{changed_number, edited, first_own, is_set, number_below, revalued, stands_before, step_begun, step_gone_on, step_valued, steps_up_to};
+ghost use Rattle.worth_steps.specs.Steps.{Ascends, act_on, newest_step, seen_to};
+ghost use Rattle.worth_steps.specs.inside.Editing.{changed_number, first_own, is_set, number_below, revalued, stands_before, step_begun, step_gone_on, step_valued, steps_up_to, AreEdited, HasGoneOn, begun_at};
 
 use commute_ops::{Amount, Kind, Op};
 use script_parts::parts::Deed;
@@ -229,7 +229,7 @@ pub(crate) fn note_step(
     version: Version,
     deed: &Deed,
 ) -> Result<StepChange, NoMemory>
-    ensures ok { OnOk result (Ascends steps.old.items → Chained kind first.now steps.old.items → steps.new.items ≡ revalued kind first.now (edited version.0 deed.now steps.old.items)) }
+    ensures ok { OnOk result (AreEdited kind first.now version.0 deed.now steps.old.items steps.new.items) }
     ensures back { IfOk result (λ c. steps_back c steps.new.items ≡ steps.old.items) }
     ensures err { OnErr result (steps.new.items ≡ steps.old.items) }
 {
@@ -252,8 +252,7 @@ fn go_on(
     deed: &Deed,
 ) -> Result<StepChange, NoMemory>
     requires { place < length steps.old.items }
-    ensures ok { OnOk result ((s : WorthStep) → slice_get steps.old.items place ≡ Some s
-        → steps.new.items ≡ take place steps.old.items ++ revalued kind (number_below first.now place steps.old.items) (step_gone_on deed.now s ∷ drop (suc place) steps.old.items)) }
+    ensures ok { OnOk result (HasGoneOn kind first.now place deed.now steps.old.items steps.new.items) }
     ensures back { IfOk result (λ c. steps_back c steps.new.items ≡ steps.old.items) }
     ensures err { OnErr result (steps.new.items ≡ steps.old.items) }
 {
@@ -275,7 +274,7 @@ fn begin(
     step: &WorthStep,
 ) -> Result<StepChange, NoMemory>
     requires { place ≤ length steps.old.items }
-    ensures ok { OnOk result (steps.new.items ≡ take place steps.old.items ++ revalued kind (number_below first.now place steps.old.items) (step.now ∷ drop place steps.old.items)) }
+    ensures ok { OnOk result (steps.new.items ≡ begun_at kind first.now place step.now steps.old.items) }
     ensures back { IfOk result (λ c. steps_back c steps.new.items ≡ steps.old.items) }
     ensures err { OnErr result (steps.new.items ≡ steps.old.items) }
 {

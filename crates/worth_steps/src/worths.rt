@@ -1,9 +1,9 @@
 // What an item is worth at each version.
-ghost use Rattle.std.specs.Prelude.{◌≡◌, ◌++◌, ◌∷◌, [], true, false, List, IfOk, IsTrue, OnErr, OnOk};
+ghost use Rattle.std.specs.Prelude.{◌≡◌, ◌∷◌, [], true, false, IfOk, IsTrue, OnErr, OnOk};
 ghost use Rattle.commute_ops.specs.declared.value.Value.{Value};
-ghost use Rattle.worth_steps.specs.Kept.{AreWorths, worths_back};
+ghost use Rattle.worth_steps.specs.Kept.{AreWorths, worths_back, AreWorthsWith, OfWorths};
 ghost use Rattle.worth_steps.specs.Steps.{seen_to};
-ghost use Rattle.worth_steps.specs.Worth.{MayBegin, Noted, alters, deed_suits, last_altered, value_kind, worth_of};
+ghost use Rattle.worth_steps.specs.Worth.{MayBegin, alters, deed_suits, last_altered, value_kind, worth_of};
 ghost use Rattle.worth_steps.specs.inside.Showing.{AreOrdered, newest_by_kind, shown_value, value_number};
 
 use crate::change::{Changed, WorthChange};
@@ -54,8 +54,8 @@ impl Worths {
     /// than a hundred million deeds of the greatest magnitude. After an error the worths are as they were.
     pub fn note(&mut self, version: Version, deed: &Deed) -> Result<WorthChange, NoMemory>
         requires { IsTrue (deed_suits self.old.kind deed.now) }
-        ensures noted { OnOk result ((first : Value) (ns : List Noted) → AreWorths first ns self.old
-            → AreWorths first (ns ++ record { version = version.0; deed = deed.now } ∷ []) self.new) }
+        ensures noted { OnOk result (AreWorthsWith (record { version = version.0; deed = deed.now } ∷ [])
+            self.old self.new) }
         ensures kind { self.new.kind ≡ self.old.kind }
         ensures back { IfOk result (λ c. worths_back c self.new ≡ self.old) }
         ensures err { OnErr result (self.new ≡ self.old) }
@@ -101,7 +101,7 @@ impl Worths {
 
     /// The item's value at a version. Only a bag needs memory.
     pub fn at(&self, alloc: Global, version: Version) -> Result<Value, NoMemory>
-        ensures worth { IfOk result (λ w. (first : Value) (ns : List Noted) → AreWorths first ns self.now → w ≡ worth_of first ns version.0) }
+        ensures worth { IfOk result (λ w. OfWorths self.now (λ first ns. w ≡ worth_of first ns version.0)) }
         ensures only_bags { OnErr result (self.now.kind ≡ Kind.Bag) }
     {
         let value = self.shown(alloc, version)?;
@@ -110,15 +110,15 @@ impl Worths {
 
     /// Whether this is the item's value at a version.
     pub fn is_at(&self, version: Version, value: &Value) -> bool
-        ensures yes { result ≡ true → (first : Value) (ns : List Noted) → AreWorths first ns self.now → worth_of first ns version.0 ≡ value.now }
-        ensures no { result ≡ false → (first : Value) (ns : List Noted) → AreWorths first ns self.now → worth_of first ns version.0 ≡ value.now → ⊥ }
+        ensures yes { result ≡ true → OfWorths self.now (λ first ns. worth_of first ns version.0 ≡ value.now) }
+        ensures no { result ≡ false → OfWorths self.now (λ first ns. worth_of first ns version.0 ≡ value.now → ⊥) }
     {
         self.shows(version, value)
     }
 
     /// The greatest version with a deed that alters the item, or 0 if there is none.
     pub fn last(&self) -> Version
-        ensures { (first : Value) (ns : List Noted) → AreWorths first ns self.now → result.0 ≡ last_altered ns }
+        ensures { OfWorths self.now (λ first ns. result.0 ≡ last_altered ns) }
     {
         self.newest()
     }

@@ -36,7 +36,10 @@ lock_in None = None
 lock_in (Some (Conflict x holder)) = Some (record { item = x; holder = holder })
 lock_in (Some cause) = None
 
+-- where tree t is an update or a read tree, the acts do its subtransaction k just if this says so
+abbrev pub AreDoneAs : ScriptData → TreeNo → SubNo → Bool → List Act → Type 0
+AreDoneAs s t k done acts = IsTrue (commutes s t.0) → list_any (does t.0 k.0) acts ≡ done
+
 -- the acts do subtransaction k of tree t if nothing is in its way, and else park it for that
 abbrev pub IsAnsweredFor : ScriptData → TreeNo → SubNo → Option Cause → List Act → Type 0
-IsAnsweredFor s t k way acts =
-    (IsTrue (commutes s t.0) → list_any (does t.0 k.0) acts ≡ is_none way) × (parkings acts ≡ parking_for t k way)
+IsAnsweredFor s t k way acts = AreDoneAs s t k (is_none way) acts × (parkings acts ≡ parking_for t k way)

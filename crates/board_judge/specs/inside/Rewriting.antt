@@ -1,10 +1,8 @@
 -- The deeds of trees that acts close, noted on the items' worths, and how that is taken back.
 use Rattle.std.specs.Prelude.{if◌then◌else◌, ◌≡◌, ◌==◌, Bool, true, ℕ, List, [], ◌∷◌, ◌++◌, map, Decides, IsTrue, Option, Some, None, slice_get, slice_set}
 use Rattle.std.specs.List.{AllByRecursion}
-use Rattle.std.specs.Option.{option_map}
 use Rattle.tv_base.specs.declared.numbers.TreeNo.{TreeNo}
 use Rattle.commute_ops.specs.declared.kinds.Kind.{Kind}
-use Rattle.commute_ops.specs.declared.value.Value.{Value}
 use Rattle.letter_types.specs.declared.entries.Entry.{Entry}
 use Rattle.script_parts.specs.ScriptData.{ScriptData}
 use Rattle.script_parts.specs.declared.parts.ItemRow.{ItemRow}
@@ -12,14 +10,19 @@ use Rattle.script_parts.specs.declared.parts.Deed.{Deed}
 use Rattle.script_parts.specs.declared.parts.Sub.{Sub}
 use Rattle.script_parts.specs.declared.parts.SubOp.{SubOp}
 use Rattle.board_rules.specs.ButCause.{IsMoveButCause}
-use Rattle.board_rules.specs.Histories.{Place, places_of}
+use Rattle.board_rules.specs.Histories.{Place, places_of, act_at, acts_at}
 use Rattle.board_rules.specs.Moves.{OneByOne}
-use Rattle.board_tallies.specs.Board.{BoardData, IsBoardOf, closes_in}
-use Rattle.worth_steps.specs.Kept.{AreWorths, WorthsData, worths_back}
+use Rattle.board_tallies.specs.Board.{BoardData, IsBoardOf, closes_in, OfBoard, tree_number}
+use Rattle.worth_steps.specs.Kept.{WorthsData, worths_back, AreWorthsWith}
 use Rattle.worth_steps.specs.Worth.{Noted, deed_suits}
-use Rattle.board_judge.specs.Notes.{AreKnown, tree_noted}
+use Rattle.board_judge.specs.Notes.{AreKnown, tree_noted, subs_noted}
 use Rattle.board_judge.specs.declared.rewriting.Altered.{Altered}
 use Rattle.board_judge.specs.inside.Votes.{IsRightRead}
+use Rattle.tv_base.specs.declared.numbers.ItemNo.{ItemNo}
+use Rattle.letter_types.specs.declared.acts.Act.{Act}
+use Rattle.worth_steps.specs.declared.change.WorthChange.{WorthChange}
+use Rattle.board_judge.specs.declared.noting.NotedStep.{NotedStep}
+use Rattle.board_judge.specs.inside.Steps.{AreNoted}
 
 -- the worths with one change taken back: an item that isn't there changes nothing
 abbrev pub altered_back : Altered → List WorthsData → List WorthsData
@@ -29,6 +32,10 @@ altered_back a ws = elim (slice_get ws a.item.0) [ Some w ↦ slice_set ws a.ite
 abbrev pub unaltered : List Altered → List WorthsData → List WorthsData
 unaltered [] ws = ws
 unaltered (a ∷ rest) ws = altered_back a (unaltered rest ws)
+
+-- the first worths come back from the second ones by this change of an item
+abbrev pub ComesBack : ItemNo → List WorthsData → List WorthsData → WorthChange → Type 0
+ComesBack item olds news change = altered_back (record { item = item; change = change }) news ≡ olds
 
 -- what the walk over these acts of an entry after the history h has found
 pub record IsRewritten (s : ScriptData) (h : List Entry) (ys : List Place) (right : Bool) (ws : List WorthsData) : Type 0 where
@@ -57,24 +64,51 @@ AllSubsSuit kinds subs = AllByRecursion (λ (sub : Sub). AllSuit kinds sub.ops) 
 pub record HasNoted (more : ℕ → List Noted) (olds news : List WorthsData) : Type 0 where
   pub kinds : kinds_of news ≡ kinds_of olds
   pub each : (x : ℕ) (w z : WorthsData) → slice_get olds x ≡ Some w → slice_get news x ≡ Some z
-      → (first : Value) (ns : List Noted) → AreWorths first ns w → AreWorths first (ns ++ more x) z
+      → AreWorthsWith (more x) w z
 
 -- one deed on item i, and on no other
 abbrev pub one_noted : ℕ → Noted → ℕ → List Noted
 one_noted i n x = if i == x then n ∷ [] else []
+
+-- one deed on an item; the deeds of a tree's subtransactions, in version v
+abbrev pub HasNotedOne : ItemNo → ℕ → Deed → List WorthsData → List WorthsData → Type 0
+HasNotedOne item v deed olds news = HasNoted (one_noted item.0 (record { version = v; deed = deed })) olds news
+
+abbrev pub HasNotedSubs : ℕ → List Sub → List WorthsData → List WorthsData → Type 0
+HasNotedSubs v subs olds news = HasNoted (λ (x : ℕ). subs_noted v x subs) olds news
 
 -- the deeds of a tree that is closed, if there is one
 abbrev pub closed_noted : ScriptData → List Place → ℕ → Option TreeNo → List Noted
 closed_noted s xs x None = []
 closed_noted s xs x (Some t) = tree_noted s xs x t.0
 
+-- those of a tree that is closed, by whatever acts these are the tallies of
+abbrev pub HasNotedClosed : ScriptData → BoardData → Option TreeNo → List WorthsData → List WorthsData → Type 0
+HasNotedClosed s b closed olds news =
+    OfBoard s b (λ xs. HasNoted (λ (x : ℕ). closed_noted s xs x closed) olds news)
+
 -- the act y after the acts xs was a move, this tree is closed by it, and these are the tallies after it and later acts
 pub record IsClosing (s : ScriptData) (xs later : List Place) (y : Place) (closed : Option TreeNo) (b : BoardData) : Type 0 where
   pub move : IsMoveButCause s [] xs y
-  pub closes : option_map (λ (t : TreeNo). t.0) closed ≡ closes_in s (xs ++ y ∷ []) y.act
+  pub closes : tree_number closed ≡ closes_in s (xs ++ y ∷ []) y.act
   pub board : IsBoardOf s ((xs ++ y ∷ []) ++ later) b
 
 -- what was found of the act y after the acts xs, and the worths with it
 pub record IsCompared (s : ScriptData) (xs : List Place) (y : Place) (right : Bool) (ws : List WorthsData) : Type 0 where
   pub reads : Decides right (IsRightRead s (xs ++ y ∷ []) y.act)
   pub known : AreKnown s (xs ++ y ∷ []) ws
+
+-- what was found of an act whose step this is, with the worths after it, whatever acts were before it and later: the
+-- first worths are those of the acts before, and the tallies those of all
+abbrev pub IsComparedBy : ScriptData → BoardData → NotedStep → Act → List WorthsData → List WorthsData → Bool → Type 0
+IsComparedBy s b st act olds news right =
+    (xs later : List Place) (p : ℕ) → IsClosing s xs later (act_at p act) st.noted.closed b → AreKnown s xs olds
+    → IsCompared s xs (act_at p act) right news
+
+-- what the walk over these acts of an entry with these steps has found, with the worths after it, whatever history was
+-- before
+abbrev pub IsRewrittenBy : ScriptData → BoardData → List NotedStep → List Act → List WorthsData → List WorthsData → Bool
+    → Type 0
+IsRewrittenBy s b steps acts olds news right =
+    (h : List Entry) (p : ℕ) → AreNoted s h (acts_at p acts) steps b → AreKnown s (places_of h) olds
+    → IsRewritten s h (acts_at p acts) right news

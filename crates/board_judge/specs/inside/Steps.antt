@@ -1,24 +1,26 @@
 -- Acts that were noted one after the other, and how they are taken back.
-use Rattle.std.specs.Prelude.{◌≡◌, List, [], ◌∷◌, ◌++◌, Decides}
+use Rattle.std.specs.Prelude.{◌≡◌, List, [], ◌∷◌, ◌++◌, Decides, Bool, true}
 use Rattle.std.specs.List.{list_all}
-use Rattle.std.specs.Option.{option_map}
-use Rattle.tv_base.specs.declared.numbers.TreeNo.{TreeNo}
 use Rattle.letter_types.specs.declared.entries.Entry.{Entry}
 use Rattle.script_parts.specs.ScriptData.{ScriptData}
 use Rattle.board_rules.specs.Gates.{KeepsTo}
-use Rattle.board_rules.specs.Histories.{Place, places_of}
+use Rattle.board_rules.specs.Histories.{Place, places_of, places_at}
 use Rattle.board_rules.specs.Moves.{IsMove, OneByOne}
-use Rattle.board_tallies.specs.Board.{BoardData, IsBoardOf, closes_in}
+use Rattle.board_tallies.specs.Board.{BoardData, IsBoardOf, closes_in, tree_number}
 use Rattle.board_tallies.specs.TakenBack.{taken_back}
 use Rattle.board_judge.specs.declared.noting.NotedStep.{NotedStep}
-use Rattle.board_judge.specs.inside.Votes.{IsRightYes}
+use Rattle.board_judge.specs.inside.Votes.{IsRightYes, IsMidway, OfHistory, OfMidway}
+use Rattle.board_rules.specs.Judging.{FirstFails}
+use Rattle.board_rules.specs.declared.rule_names.Rule.{Rule}
+use Rattle.worth_steps.specs.Kept.{WorthsData}
+use Rattle.board_judge.specs.declared.votes.Basis.{Basis}
 
 -- an act that was noted after the acts xs, and what was found of it
 pub record IsStepped (s : ScriptData) (h : List Entry) (xs : List Place) (x : Place) (st : NotedStep) (b : BoardData) : Type 0 where
   pub moves : IsMove s h xs x
   pub keeps : Decides st.keeps (KeepsTo s xs x)
   pub right : Decides st.right (IsRightYes s h (xs ++ x ∷ []) x.act)
-  pub closes : option_map (λ (t : TreeNo). t.0) st.noted.closed ≡ closes_in s (xs ++ x ∷ []) x.act
+  pub closes : tree_number st.noted.closed ≡ closes_in s (xs ++ x ∷ []) x.act
   pub board : IsBoardOf s (xs ++ x ∷ []) b
 
 -- what the steps say of the trees that these acts close, after the acts xs
@@ -27,7 +29,7 @@ AreClosings s xs [] [] = Unit {0}
 AreClosings s xs [] (st ∷ sts) = ⊥
 AreClosings s xs (y ∷ ys) [] = ⊥
 AreClosings s xs (y ∷ ys) (st ∷ sts) =
-    (option_map (λ (t : TreeNo). t.0) st.noted.closed ≡ closes_in s (xs ++ y ∷ []) y.act) × AreClosings s (xs ++ y ∷ []) ys sts
+    (tree_number st.noted.closed ≡ closes_in s (xs ++ y ∷ []) y.act) × AreClosings s (xs ++ y ∷ []) ys sts
 
 -- these acts of an entry after the history h were noted, one after the other, with these steps
 pub record AreNoted (s : ScriptData) (h : List Entry) (ys : List Place) (steps : List NotedStep) (b : BoardData) : Type 0 where
@@ -42,3 +44,22 @@ pub record AreNoted (s : ScriptData) (h : List Entry) (ys : List Place) (steps :
 abbrev pub restored : List NotedStep → BoardData → BoardData
 restored [] b = b
 restored (st ∷ sts) b = taken_back st.noted (restored sts b)
+
+-- the act x was noted with this step, and these are the tallies after it, whatever was before
+abbrev pub IsStepOf : Basis → BoardData → List WorthsData → Place → BoardData → NotedStep → Type 0
+IsStepOf basis b ws x new st = OfMidway basis b ws (λ h xs. IsStepped basis.script.now h xs x st new)
+
+-- where the act x is a move, it was noted behind those of its entry, whichever were noted with the first steps and
+-- tallies: with it these are the second ones
+abbrev pub AreNotedIf : Basis → List WorthsData → Place → List NotedStep → BoardData → List NotedStep → BoardData → Bool
+    → Type 0
+AreNotedIf basis ws x steps b steps' b' moves = moves ≡ true → (h : List Entry) (ys : List Place)
+    → IsMidway basis.script.now basis.gates basis.users h (places_of h ++ ys) b ws
+    → AreNoted basis.script.now h ys steps b → AreNoted basis.script.now h (ys ++ x ∷ []) steps' b'
+
+-- all acts of an entry were noted with these steps and tallies; and the first of them that isn't a move is of this rule
+abbrev pub AreAllNoted : Basis → BoardData → List WorthsData → Entry → List NotedStep → BoardData → Type 0
+AreAllNoted basis b ws e steps new = OfHistory basis b ws (λ h. AreNoted basis.script.now h (places_at e) steps new)
+
+abbrev pub FailsFirst : Basis → BoardData → List WorthsData → Entry → Rule → Type 0
+FailsFirst basis b ws e rule = OfHistory basis b ws (λ h. FirstFails basis.script.now h e rule)

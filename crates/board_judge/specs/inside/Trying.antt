@@ -23,8 +23,12 @@ refused_for stamp (Ok None) = None
 refused_for stamp (Ok (Some rule)) = Some (refused.Wrong (record { stamp = stamp; rule = rule }))
 refused_for stamp (Err none) = Some refused.NoMemory
 
--- what trying an entry after the history h has found: nothing, and then these are the tallies with it, or the first rule that
--- it breaks
+-- what trying an entry after the history h has found: nothing, and then these are the tallies with it, or the first
+-- rule that it breaks
 abbrev pub IsTried : JudgeData → List Entry → Entry → Option Rule → BoardData → List WorthsData → Type 0
 IsTried j h e None b ws = MayCome j.script h e × HasJudged (record j { board = b; worths = ws }) (h ++ e ∷ [])
 IsTried j h e (Some rule) b ws = Breaks j.script h e rule
+
+-- the same, whatever history the judge has taken
+abbrev pub IsTriedBy : JudgeData → Entry → BoardData → List WorthsData → Option Rule → Type 0
+IsTriedBy j e b ws broken = (h : List Entry) → HasJudged j h → IsTried j h e broken b ws

@@ -1,5 +1,5 @@
--- Who has which item in which mode, by what trees have done and voted: the operations on an item, tree by tree, and which of
--- them stand.
+-- Who has which item in which mode, by what trees have done and voted: the operations on an item, tree by tree, and
+-- which of them stand.
 use Rattle.std.specs.Prelude.{if◌then◌else◌, ℕ, suc, max, Bool, true, false, not, ◌==◌, ◌&&◌, ◌||◌, List, [], ◌∷◌, ◌++◌, ◌≡◌, ◌<◌, length, get_or, Option, Some, None, min, nat_lt, slice_get, take}
 use Rattle.std.specs.List.{list_any}
 use Rattle.tv_base.specs.declared.numbers.TreeNo.{TreeNo}
@@ -21,6 +21,10 @@ use Rattle.board_judge.specs.declared.users.User.{User}
 -- subtransaction j of tree k has taken its items: an update tree's was done, or it has voted yes
 abbrev pub has_taken : ScriptData → List Place → ℕ → ℕ → Bool
 has_taken s xs k j = (updates s k && was_done k j xs) || voted_yes k j xs
+
+-- the operation was done in an update tree
+abbrev pub was_updated : ScriptData → List Place → User → Bool
+was_updated s xs u = updates s u.tree.0 && was_done u.tree.0 u.sub.0 xs
 
 -- of these subtransactions of tree k, the first of which is number j, one has taken item x in a mode that passes
 abbrev pub any_taken : ScriptData → List Place → ℕ → ℕ → (Mode → Bool) → ℕ → List Sub → Bool
@@ -106,6 +110,10 @@ abbrev pub newest_by : ScriptData → List Place → ℕ → List User → ℕ
 newest_by s xs p [] = 0
 newest_by s xs p (u ∷ us) = if has_written s xs p u then max (version_by xs u) (newest_by s xs p us) else newest_by s xs p us
 
+-- a version, or that of an operation which has written in a greater one
+abbrev pub newer_by : ScriptData → List Place → ℕ → User → ℕ → ℕ
+newer_by s xs p u v = if has_written s xs p u then max v (version_by xs u) else v
+
 -- an operation that writes an item which is written in a version above v, as a cause
 abbrev pub newer_item : ScriptData → List Place → ℕ → ℕ → SubOp → Option Cause
 newer_item s xs p v o =
@@ -128,8 +136,12 @@ pub record HaveNoUsers (items : ℕ) (lists : List (List User)) : Type 0 where
 abbrev pub is_meant : Bool → TreeKind → Bool
 is_meant strict k = if strict then is_strict k else is_update k
 
--- for each item they are the operations on it of the script's strict trees, or of its update trees: of the first n trees, and
--- of all
+-- each list has the tree's operations on its item more at its end, if the tree is of the kind that is meant
+abbrev pub HasTreeMore : Bool → ℕ → Tree → List (List User) → List (List User) → Type 0
+HasTreeMore strict t tree olds news = HasMore (λ (x : ℕ). tree_users (is_meant strict) t x tree) olds news
+
+-- for each item they are the operations on it of the script's strict trees, or of its update trees: of the first n
+-- trees, and of all
 pub record AreUsersTo (s : ScriptData) (strict : Bool) (n : ℕ) (lists : List (List User)) : Type 0 where
   pub count : length lists ≡ length s.items
   pub each : (x : ℕ) → x < length lists → get_or lists x [] ≡ trees_users (is_meant strict) 0 x (take n s.trees)

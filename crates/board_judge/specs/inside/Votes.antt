@@ -1,5 +1,5 @@
 -- In the midst of an entry; what votes name, and what votes and reads give.
-use Rattle.std.specs.Prelude.{Bool, true, false, ◌≡◌, ◌==◌, ◌&&◌, List, [], Option, Some, None}
+use Rattle.std.specs.Prelude.{Bool, true, false, ◌≡◌, ◌==◌, ◌&&◌, List, [], Option, Some, None, ℕ, ◌∷◌, ◌++◌, Decides}
 use Rattle.std.specs.Ordering.{int_eq}
 use Rattle.tv_base.specs.declared.numbers.ItemNo.{ItemNo}
 use Rattle.commute_ops.specs.declared.value.Value.{Value}
@@ -9,11 +9,11 @@ use Rattle.letter_types.specs.declared.entries.Entry.{Entry}
 use Rattle.letter_types.specs.declared.votes.Cause.{Cause}
 use Rattle.letter_types.specs.declared.votes.Cause.TheVariants.{Conflict, Newer, Short}
 use Rattle.letter_types.specs.declared.votes.Vote.TheVariants.{Yes, No}
-use Rattle.script_parts.specs.ScriptData.{ScriptData}
-use Rattle.board_rules.specs.Histories.{Place, places_of, version_in}
-use Rattle.board_rules.specs.Right.{IsRightAct}
-use Rattle.board_rules.specs.Stands.{refusal_in}
-use Rattle.board_tallies.specs.Board.{BoardData}
+use Rattle.script_parts.specs.ScriptData.{ScriptData, ops_of}
+use Rattle.board_rules.specs.Histories.{Place, places_of, version_in, act_at, is_strict_tree}
+use Rattle.board_rules.specs.Right.{IsRightAct, IsShown, gets_among}
+use Rattle.board_rules.specs.Stands.{refusal_in, cause_of}
+use Rattle.board_tallies.specs.Board.{BoardData, IsBoardOf}
 use Rattle.board_tallies.specs.GateRows.{AreGatesOf, GatesData}
 use Rattle.board_judge.specs.Notes.{AreKnown}
 use Rattle.board_judge.specs.Views.{IsView, UsersData}
@@ -21,14 +21,41 @@ use Rattle.board_judge.specs.declared.at_once.Asked.{Asked}
 use Rattle.worth_steps.specs.Kept.{WorthsData}
 use Rattle.board_judge.specs.declared.votes.NamedVote.{NamedVote}
 use Rattle.board_judge.specs.declared.votes.Given.{Given}
+use Rattle.board_rules.specs.ButCause.{IsMoveButCause}
+use Rattle.board_rules.specs.Moves.{IsMove}
+use Rattle.board_rules.specs.Worth.{worth_in}
+use Rattle.board_judge.specs.declared.votes.Basis.{Basis}
 
--- after acts of an entry, before which the history was h, all acts so far were xs: these are their tallies, and the worths are
--- still those of the history
+-- after acts of an entry, before which the history was h, all acts so far were xs: these are their tallies, and the
+-- worths are still those of the history
 pub record IsMidway (s : ScriptData) (g : GatesData) (u : UsersData) (h : List Entry) (xs : List Place) (b : BoardData)
     (ws : List WorthsData) : Type 0 where
   pub gates : AreGatesOf s g
   pub view : IsView s xs b u
   pub known : AreKnown s (places_of h) ws
+
+-- what holds of whatever history these are the worths after, and whatever acts of its next entry these are the tallies
+-- with
+abbrev pub OfMidway : Basis → BoardData → List WorthsData → (List Entry → List Place → Type 0) → Type 0
+OfMidway basis b ws P =
+    (h : List Entry) (xs : List Place) → IsMidway basis.script.now basis.gates basis.users h xs b ws → P h xs
+
+-- what holds of whatever history these are the tallies and the worths after
+abbrev pub OfHistory : Basis → BoardData → List WorthsData → (List Entry → Type 0) → Type 0
+OfHistory basis b ws P =
+    (h : List Entry) → IsMidway basis.script.now basis.gates basis.users h (places_of h) b ws → P h
+
+-- the act x is a move there; and it isn't
+abbrev pub DecidesMove : Basis → BoardData → List WorthsData → Place → Bool → Type 0
+DecidesMove basis b ws x moves = OfMidway basis b ws (λ h xs. Decides moves (IsMove basis.script.now h xs x))
+
+abbrev pub IsNoMove : Basis → BoardData → List WorthsData → Place → Type 0
+IsNoMove basis b ws x = OfMidway basis b ws (λ h xs. IsMove basis.script.now h xs x → ⊥)
+
+-- why a subtransaction of a strict tree has to vote no there, at node p, if it has to
+abbrev pub NamesCause : Basis → BoardData → List WorthsData → ℕ → Asked → Option Cause → Type 0
+NamesCause basis b ws p asked cause = OfMidway basis b ws (λ h xs. is_strict_tree basis.script.now asked.tree.0 ≡ true
+    → cause ≡ cause_of basis.script.now h xs p asked.tree.0 (ops_of basis.script.now asked.tree.0 asked.sub.0))
 
 -- the vote that an act is
 abbrev pub ballot_of : Act → Option NamedVote
@@ -79,3 +106,23 @@ abbrev pub HasVersions : List Place → List Place → Act → Type 0
 HasVersions xs upto (Did t k values) = version_in t.0 upto ≡ version_in t.0 xs
 HasVersions xs upto Finished = Unit {0}
 HasVersions xs upto _ = Unit {0}
+
+-- what holds of whatever acts these are the tallies of, and of whatever acts these are the worths after
+abbrev pub OfBoth : ScriptData → BoardData → List WorthsData → (List Place → List Place → Type 0) → Type 0
+OfBoth s b ws P = (xs upto : List Place) → IsBoardOf s xs b → AreKnown s upto ws → P xs upto
+
+-- the act shows what was worth after those acts, if it is a read tree's; and these values are what the subtransaction's
+-- gets were worth after them
+abbrev pub DecidesRead : ScriptData → BoardData → List WorthsData → Act → Bool → Type 0
+DecidesRead s b ws act right =
+    OfBoth s b ws (λ xs upto. HasVersions xs upto act → Decides right (IsRightRead s upto act))
+
+abbrev pub DecidesGiven : ScriptData → BoardData → List WorthsData → Asked → List (ItemNo × Value) → Bool → Type 0
+DecidesGiven s b ws asked values right = OfBoth s b ws (λ xs upto. Decides right
+    (IsShown (worth_in s upto) (gets_among (ops_of s asked.tree.0 asked.sub.0)) values (version_in asked.tree.0 xs)))
+
+-- an act that is a move shows what was worth in the history before its entry, if it is a yes
+abbrev pub DecidesYes : ScriptData → BoardData → List WorthsData → Act → Bool → Type 0
+DecidesYes s b ws act right =
+    (h : List Entry) (xs : List Place) (p : ℕ) → IsBoardOf s xs b → AreKnown s (places_of h) ws
+    → IsMoveButCause s h xs (act_at p act) → Decides right (IsRightYes s h (xs ++ act_at p act ∷ []) act)

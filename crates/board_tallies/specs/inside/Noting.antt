@@ -19,6 +19,7 @@ use Rattle.board_tallies.specs.declared.states.StateNews.TheVariants as news
 use Rattle.board_tallies.specs.declared.states.StateWas.{StateWas}
 use Rattle.board_tallies.specs.declared.states.StateWas.TheVariants as was
 use Rattle.board_tallies.specs.declared.states.TreeState.{TreeState}
+use Rattle.board_tallies.specs.declared.pending.Pending.{Pending}
 
 -- the numbers of a node after its act
 abbrev pub numbers_with : Act → Numbers → Numbers
@@ -137,3 +138,7 @@ first_board nodes trees = record {
   passed = 0;
   finished = false;
 }
+
+-- where the counts were those of the states before a change, they are those of the states after it
+abbrev pub StayCounted : List Tree → List TreeState → List Pending → List TreeState → List Pending → Type 0
+StayCounted trees states ps states' ps' = AreCounted trees states ps → AreCounted trees states' ps'

@@ -1,5 +1,5 @@
 -- In the midst of an audit, and how it ends.
-use Rattle.std.specs.Prelude.{ℕ, Bool, true, false, ◌≡◌, List, Result, Ok, Err}
+use Rattle.std.specs.Prelude.{ℕ, Bool, true, false, ◌≡◌, List, Result, Ok, Err, [], ◌∷◌, ◌++◌}
 use Rattle.letter_types.specs.declared.entries.Entry.{Entry}
 use Rattle.tx_trees.specs.ScriptData.{ScriptData}
 use Rattle.board_judge.specs.Judged.{HasJudged, JudgeData}
@@ -12,6 +12,7 @@ use Rattle.history_audit.specs.declared.auditor.AuditRefusal.{AuditRefusal}
 use Rattle.history_audit.specs.declared.auditor.AuditRefusal.TheVariants as refusals
 use Rattle.history_audit.specs.declared.rules.AuditRule.{AuditRule}
 use Rattle.history_audit.specs.declared.rules.AuditRule.TheVariants as rules
+use Rattle.history_audit.specs.Audited.{IsAudited}
 
 -- the walk of the text has come behind these entries, and the judge has taken them
 pub record IsUnderAudit (s : ScriptData) (text : List ℕ) (h : List Entry) (w : WalkData) (j : JudgeData) : Type 0 where
@@ -19,6 +20,16 @@ pub record IsUnderAudit (s : ScriptData) (text : List ℕ) (h : List Entry) (w :
   pub judge : j.script ≡ s
   pub walked : IsWalked s text h w
   pub taken : HasJudged j h
+
+-- the second walk and the second judge have taken one entry more, whatever the first ones have taken
+abbrev pub HaveTakenOne : WalkData → JudgeData → WalkData → JudgeData → Type 0
+HaveTakenOne w j v k = (s : ScriptData) (text : List ℕ) (h : List Entry) → IsUnderAudit s text h w j
+    → (e : Entry) × IsUnderAudit s text (h ++ e ∷ []) v k
+
+-- the text is refused so, whatever the walk and the judge have taken
+abbrev pub RefusesSo : WalkData → JudgeData → AuditRefusal → Type 0
+RefusesSo w j refusal = (s : ScriptData) (text : List ℕ) (h : List Entry) → IsUnderAudit s text h w j
+    → IsAudited s text (Err refusal)
 
 -- the refusal of the entry of this number by this rule
 abbrev pub audit_refusal : ℕ → AuditRule → AuditRefusal

@@ -90,3 +90,7 @@ with_sent e letters = record { begun = letters.begun; senders = letters.senders 
 -- an entry with the letter that it took
 abbrev pub entry_with : Entry → Letter → Entry
 entry_with e letter = record { stamp = e.stamp; actor = e.actor; took = letter; sent = e.sent; acts = e.acts }
+
+-- the letters that are left behind an entry, with those that it sent
+abbrev pub left_behind : Entry → LettersLeft → LettersLeft
+left_behind e letters = with_sent e (left_without e.took.id letters)

@@ -1,8 +1,58 @@
--- The next word of a line.
-use Rattle.std.specs.Prelude.{ℕ, ◌≡◌, List, ◌∷◌, Option, Some, None}
+-- The next words of a line.
+use Rattle.std.specs.Prelude.{ℕ, ◌≡◌, List, ◌∷◌, Option, Some, None, [], MatchOption, codes, decimal}
+use Rattle.tv_base.specs.declared.numbers.SubNo.{SubNo}
+use Rattle.tv_base.specs.declared.numbers.TreeNo.{TreeNo}
+use Rattle.tv_base.specs.declared.numbers.Version.{Version}
+use Rattle.letter_types.specs.declared.bodies.What.{What}
+use Rattle.tx_trees.specs.ScriptData.{ScriptData}
+use Rattle.history_text.specs.LineParts.{what_word}
+use Rattle.history_text.specs.Words.{name_of_tree}
+use Rattle.history_text.specs.Printable.{IsSubOf, IsWord}
 
--- of what is printed as the first of these words, and may be: the one that was read, with the other words left, or there
--- is none
+-- of what is printed as the first of these words, and may be: the one that was read, with the other words left, or
+-- there is none
 abbrev pub IsNext : {T : Type 0} → (T → List ℕ) → (T → Type 0) → List (List ℕ) → List (List ℕ) → Option T → Type 0
 IsNext print May old new (Some x) = (old ≡ print x ∷ new) × May x
 IsNext {T} print May old new None = (x : T) (rest : List (List ℕ)) → old ≡ print x ∷ rest → May x → ⊥
+
+-- this very word comes first, with the other words left, or it doesn't
+abbrev pub IsNextWord : {T : Type 0} → List ℕ → List (List ℕ) → List (List ℕ) → Option T → Type 0
+IsNextWord word old new read = MatchOption read ((rest : List (List ℕ)) → old ≡ word ∷ rest → ⊥) (λ _. old ≡ word ∷ new)
+
+-- this number comes behind a word; and no number comes there
+abbrev pub IsBehind : List ℕ → List (List ℕ) → List (List ℕ) → ℕ → Type 0
+IsBehind word old new n = (old ≡ word ∷ decimal n ∷ new) × IsWord n
+
+abbrev pub HasNoneBehind : List ℕ → List (List ℕ) → Type 0
+HasNoneBehind word old = (n : ℕ) (rest : List (List ℕ)) → old ≡ word ∷ decimal n ∷ rest → IsWord n → ⊥
+
+-- a version comes behind its word; and none does
+abbrev pub IsNextVersion : List (List ℕ) → List (List ℕ) → Version → Type 0
+IsNextVersion old new v = (old ≡ codes "version" ∷ decimal v.0 ∷ new) × IsWord v.0
+
+abbrev pub HasNoVersion : List (List ℕ) → Type 0
+HasNoVersion old = (v : Version) (rest : List (List ℕ)) → old ≡ codes "version" ∷ decimal v.0 ∷ rest → IsWord v.0 → ⊥
+
+-- a tree's subtransaction comes first; and none does
+abbrev pub IsNextSub : ScriptData → List (List ℕ) → List (List ℕ) → TreeNo → SubNo → Type 0
+IsNextSub s old new t k = (old ≡ name_of_tree s t ∷ decimal k.0 ∷ new) × IsSubOf s t.0 k.0
+
+abbrev pub HasNoSub : ScriptData → List (List ℕ) → Type 0
+HasNoSub s old = (t : TreeNo) (k : SubNo) (rest : List (List ℕ))
+    → old ≡ name_of_tree s t ∷ decimal k.0 ∷ rest → IsSubOf s t.0 k.0 → ⊥
+
+-- an epoch, what is to be done, and a version are all that is left; and they aren't
+abbrev pub IsLastOrder : List (List ℕ) → ℕ → What → Version → Type 0
+IsLastOrder old e what v = (old ≡ decimal e ∷ what_word what ∷ decimal v.0 ∷ []) × IsWord e × IsWord v.0
+
+abbrev pub IsNoOrder : List (List ℕ) → Type 0
+IsNoOrder old = (e : ℕ) (what : What) (v : Version)
+    → old ≡ decimal e ∷ what_word what ∷ decimal v.0 ∷ [] → IsWord e → IsWord v.0 → ⊥
+
+-- a version and a round come first; and they don't
+abbrev pub IsNextRound : List (List ℕ) → List (List ℕ) → Version → ℕ → Type 0
+IsNextRound old new v k = (old ≡ decimal v.0 ∷ codes "round" ∷ decimal k ∷ new) × IsWord v.0 × IsWord k
+
+abbrev pub HasNoRound : List (List ℕ) → Type 0
+HasNoRound old = (v : Version) (k : ℕ) (rest : List (List ℕ))
+    → old ≡ decimal v.0 ∷ codes "round" ∷ decimal k ∷ rest → IsWord v.0 → IsWord k → ⊥

@@ -15,6 +15,7 @@ use Rattle.board_model.specs.declared.serial.Member.{Member}
 use Rattle.board_model.specs.declared.standings.Standing.{Standing}
 use Rattle.report_text.specs.declared.served.Served.{Served}
 use Rattle.report_text.specs.Report.{gets_text}
+use Rattle.report_text.specs.declared.run.Run.{Run}
 
 -- the version of a read tree
 abbrev pub read_version : TreeKind → Option Version → Option Version
@@ -65,6 +66,14 @@ pub record IsServed (s : ScriptData) (h : List Entry) (serial asks : List Member
       → r.carried.version.0 ≤ (slice_index_or asks i d).version.0
   pub count : length texts ≡ length s.trees
   pub told : AreTold s h asks r.place texts
+
+-- so many of a run's
+abbrev pub IsServedIn : Run → List Member → List (List ℕ) → Served → Type 0
+IsServedIn run asks texts r = IsServed run.script.now run.history.now run.serial.now asks texts r
+
+-- the version of the tree that was asked for at this place
+abbrev pub IsAskedFor : List Member → ℕ → Version → Type 0
+IsAskedFor asks place v = (d : Member) → v ≡ (slice_index_or asks place d).version
 
 -- what each read tree shows is listed by tree number
 pub record AreRead (s : ScriptData) (h : List Entry) (texts : List (List ℕ)) : Type 0 where

@@ -1,5 +1,5 @@
 -- How steps and puts are edited. Only the code cites it.
-use Rattle.std.specs.Prelude.{if◌then◌else◌, ℕ, zero, suc, Bool, true, false, ◌==◌, ◌||◌, nat_lt, nat_le, int_le, ℤ, pos, ◌+ℤ◌, ◌-ℤ◌, List, [], ◌∷◌, Option, Some, None, slice_get}
+use Rattle.std.specs.Prelude.{if◌then◌else◌, ℕ, zero, suc, Bool, true, false, ◌==◌, ◌||◌, nat_lt, nat_le, int_le, ℤ, pos, ◌+ℤ◌, ◌-ℤ◌, List, [], ◌∷◌, Option, Some, None, slice_get, ◌≡◌, ◌++◌, take, drop}
 use Rattle.std.specs.Int.{int_max}
 use Rattle.commute_ops.specs.declared.kinds.Kind.{Kind}
 use Rattle.commute_ops.specs.declared.kinds.Op.TheVariants.{Add, Top, Put as PutIn}
@@ -7,7 +7,7 @@ use Rattle.script_parts.specs.declared.parts.Deed.{Deed}
 use Rattle.script_parts.specs.declared.parts.Deed.TheVariants.{Apply, Get, Set, Draw}
 use Rattle.worth_steps.specs.declared.puts.Put.{Put}
 use Rattle.worth_steps.specs.declared.steps.WorthStep.{WorthStep}
-use Rattle.worth_steps.specs.Steps.{act_on}
+use Rattle.worth_steps.specs.Steps.{act_on, Ascends, Chained}
 
 -- a number after a deed
 abbrev pub changed_number : ℤ → Deed → ℤ
@@ -71,6 +71,23 @@ number_below first (suc p) ss = elim (slice_get ss p) [ None ↦ first | Some s 
 abbrev pub stands_before : ℕ → ℕ → List WorthStep → Bool
 stands_before zero v ss = false
 stands_before (suc p) v ss = elim (slice_get ss p) [ None ↦ false | Some s ↦ s.version.0 == v ]
+
+-- steps with these in place of those from a place on, and their values worked out anew; where one begins at the place,
+-- and where the one there goes on with a deed
+abbrev pub revalued_from : Kind → ℤ → ℕ → List WorthStep → List WorthStep → List WorthStep
+revalued_from k first p above ss = take p ss ++ revalued k (number_below first p ss) above
+
+abbrev pub begun_at : Kind → ℤ → ℕ → WorthStep → List WorthStep → List WorthStep
+begun_at k first p s ss = revalued_from k first p (s ∷ drop p ss) ss
+
+abbrev pub HasGoneOn : Kind → ℤ → ℕ → Deed → List WorthStep → List WorthStep → Type 0
+HasGoneOn k first p d olds news =
+    (s : WorthStep) → slice_get olds p ≡ Some s
+    → news ≡ revalued_from k first p (step_gone_on d s ∷ drop (suc p) olds) olds
+
+-- steps that ascend, each from the one before, with a deed of version v
+abbrev pub AreEdited : Kind → ℤ → ℕ → Deed → List WorthStep → List WorthStep → Type 0
+AreEdited k first v d olds news = Ascends olds → Chained k first olds → news ≡ revalued k first (edited v d olds)
 
 -- what a deed of version v puts into a bag
 abbrev pub put_of : ℕ → Deed → Option Put
