@@ -1,3 +1,4 @@
 pub mod OfScript
+pub mod PrintedRuns
 pub mod Ranges
 pub mod ReplyLines

@@ -1,17 +1,7 @@
 // Laws of runs and their printed histories.
-ghost use Rattle.std.specs.Prelude.{ℕ, List, [], ◌≡◌, length, true, Ok, Some};
-ghost use Rattle.std.specs.List.{AllByRecursion};
-ghost use Rattle.letter_types.specs.declared.entries.Entry.{Entry};
-ghost use Rattle.tx_trees.specs.ScriptData.{ScriptData};
-ghost use Rattle.tx_trees.specs.Valid.{IsValid};
 ghost use Rattle.board_rules.specs.Right.{HasFinished};
 ghost use Rattle.world_model.specs.Runs.{IsWorldRun};
-ghost use Rattle.history_text.specs.History.{history_lines_of};
-ghost use Rattle.history_text.specs.Printable.{IsPrintable};
-ghost use Rattle.history_reader.specs.Walks.{Reading};
-ghost use Rattle.history_audit.specs.Audits.{HasNoHistoryLine, IsAuditOf, audited, ends_in_feed};
-ghost use Rattle.history_audit.specs.Verdicts.{Verdict};
-ghost use Rattle.script_reader.specs.Reading.{read_of};
+ghost use Rattle.audit_laws.specs.PrintedRuns.{IsPassed, IsReadBack, OfEachFinished, OfEachPrinted, PassesAudits};
 
 use crate::printable::runs_are_printable;
 use headline::every_run_is_accepted;
@@ -20,8 +10,7 @@ use tx_trees::Script;
 
 /// The lines of every run that has finished are accepted, with all its entries, if each of these may be printed.
 pub fn printed_runs_are_accepted()
-    ensures { (s : ScriptData) (h : List Entry) → IsValid s → IsWorldRun s h → HasFinished h
-        → AllByRecursion (IsPrintable s) h → Verdict s (history_lines_of s h) (Ok (length h)) }
+    ensures { OfEachFinished IsPassed }
 {
     every_run_is_accepted();
 }
@@ -31,7 +20,7 @@ pub fn printed_runs_are_accepted()
 pub fn printed_histories_are_accepted(script: &Script, history: &History)
     requires run { IsWorldRun script.now history.now }
     requires finished { HasFinished history.now }
-    ensures { Verdict script.now (history_lines_of script.now history.now) (Ok (length history.now)) }
+    ensures { IsPassed script.now history.now }
 {
     // That says that the script is valid.
     let _nodes = script.nodes();
@@ -42,14 +31,13 @@ pub fn printed_histories_are_accepted(script: &Script, history: &History)
 /// The lines of every run, finished or not, are read back as its history, with the messages that were taken, if each
 /// entry may be printed.
 pub fn printed_runs_are_read_back()
-    ensures { (s : ScriptData) (h : List Entry) → IsWorldRun s h → AllByRecursion (IsPrintable s) h
-        → Reading s (history_lines_of s h) (Ok h) }
+    ensures { OfEachPrinted IsReadBack }
 {}
 
 /// The same of each history of the script that is such a run. It walks the history and changes nothing.
 pub fn printed_histories_are_read_back(script: &Script, history: &History)
     requires { IsWorldRun script.now history.now }
-    ensures { Reading script.now (history_lines_of script.now history.now) (Ok history.now) }
+    ensures { IsReadBack script.now history.now }
 {
     runs_are_printable(script, history);
     printed_runs_are_read_back();
@@ -59,9 +47,7 @@ pub fn printed_histories_are_read_back(script: &Script, history: &History)
 /// that line and the lines of a finished run of the script behind it: the text is divided exactly there, and the
 /// history is accepted with all its entries.
 pub fn printed_runs_pass_audits()
-    ensures { (text : List ℕ) (s : ScriptData) (h : List Entry) → read_of text ≡ Ok s → ends_in_feed text ≡ true
-        → HasNoHistoryLine text → IsValid s → IsWorldRun s h → HasFinished h → AllByRecursion (IsPrintable s) h
-        → IsAuditOf (Some (audited text (history_lines_of s h))) (Some []) (Ok (length h)) }
+    ensures { OfEachFinished PassesAudits }
 {
     printed_runs_are_accepted();
 }
@@ -70,8 +56,7 @@ pub fn printed_runs_pass_audits()
 pub fn printed_histories_pass_audits(script: &Script, history: &History)
     requires run { IsWorldRun script.now history.now }
     requires finished { HasFinished history.now }
-    ensures { (text : List ℕ) → read_of text ≡ Ok script.now → ends_in_feed text ≡ true → HasNoHistoryLine text
-        → IsAuditOf (Some (audited text (history_lines_of script.now history.now))) (Some []) (Ok (length history.now)) }
+    ensures { PassesAudits script.now history.now }
 {
     // That says that the script is valid.
     let _nodes = script.nodes();

@@ -3,7 +3,7 @@ ghost use Rattle.std.specs.Prelude.{◌≡◌, ◌+◌, ◌^◌, ◌<◌, ◌≤
 ghost use Rattle.tx_trees.specs.Adding.{advances_in};
 ghost use Rattle.tx_trees.specs.Valid.{NamesInOrder};
 ghost use Rattle.client_rows.specs.News.{answered_after};
-ghost use Rattle.client_rows.specs.inside.Places.{is_over};
+ghost use Rattle.client_rows.specs.inside.Places.{is_over, furthest_place};
 ghost use Rattle.client_rows.specs.inside.Places.{place_at, furthest, waits};
 
 use crate::news::{News, is_answered};
@@ -100,8 +100,7 @@ pub(crate) fn furthest(
     requires from { from ≡ place_at rows.now (answered_after news answered.now) from.next }
     ensures forward { from.next ≤ result.next }
     ensures within { result.next ≤ length rows.now }
-    ensures place { result ≡ place_at rows.now (answered_after news answered.now)
-        (furthest (answered_after news answered.now) ended rows.now from.next) }
+    ensures place { result ≡ furthest_place rows.now (answered_after news answered.now) ended from.next }
 {
     let mut at = from;
     while at.next < rows.len() {

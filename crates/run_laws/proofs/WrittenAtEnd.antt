@@ -1,4 +1,5 @@
--- Where every tree is whole, an item is written in a version by its node's acts just where the trees of that version write it.
+-- Where every tree is whole, an item is written in a version by its node's acts just where the trees of that version
+-- write it.
 use Rattle.std.proofs.Common.{◌≡◌, inl, inr, ℕ, zero, suc, ◌+◌, ◌<◌, ◌==◌, ◌&&◌, Bool, true, false, List, [], ◌∷◌, length, reverse, refl, sym, ap, subst, ◌∙◌, arith, Option, Some, None}
 use Rattle.std.specs.Prelude.{slice_get}
 use Rattle.std.proofs.lemmas.Bool.{and_from, and_parts, eqb-true, or_cases, or_left, or_right}
@@ -15,7 +16,7 @@ use Rattle.script_parts.specs.declared.parts.Sub.{Sub}
 use Rattle.script_parts.specs.declared.parts.Tree.{Tree}
 use Rattle.script_parts.specs.declared.parts.TreeKind.{TreeKind}
 use Rattle.script_parts.specs.declared.parts.TreeKind.TheVariants as trees
-use Rattle.board_rules.specs.Histories.{Place, applies, decides_as, does, is_strict_tree, is_whole_in, places_of, version_in, version_of, was_applied, was_decided_as}
+use Rattle.board_rules.specs.Histories.{Place, applies, decides_as, does, is_strict_tree, is_whole_in, places_of, version_in, version_of, was_applied, was_decided_as, AreAllWhole}
 use Rattle.board_rules.specs.Rules.{AreByRule}
 use Rattle.board_rules.specs.Serial.{is_version}
 use Rattle.board_rules.specs.Worth.{is_written, may_write, ops_change, subs_change, trees_write, writes}
@@ -36,7 +37,7 @@ use Rattle.tree_laws.proofs.NodeLoads.{StrictTree, strict_there}
 use Rattle.run_laws.proofs.EveryWhole.{strict_is}
 use Rattle.run_laws.proofs.Rules.{follows_rules}
 use Rattle.run_laws.proofs.Writes.{changes_at}
-use Rattle.run_laws.specs.Held.{AreAllWhole, IsWrittenAtEnd}
+use Rattle.run_laws.specs.Held.{IsWrittenAtEnd}
 use Rattle.run_laws.specs.Written.{was_written, act_writes, writes_in}
 use Rattle.run_laws.proofs.HeldNewest.{tree_changes}
 

@@ -1,5 +1,5 @@
 -- What holds of the runs of valid scripts: laws over runs are said so.
-use Rattle.std.specs.Prelude.{ℕ, Bool, true, false, ◌≡◌, ◌<◌, List, [], ◌++◌, length, reverse, Some}
+use Rattle.std.specs.Prelude.{ℕ, Bool, true, false, ◌≡◌, ◌<◌, List, [], ◌++◌, length, reverse, Some, ◌∷◌}
 use Rattle.letter_types.specs.declared.bodies.Body.{Body}
 use Rattle.letter_types.specs.declared.entries.Entry.{Entry}
 use Rattle.letter_types.specs.declared.entries.Letter.{Letter}
@@ -36,6 +36,14 @@ OfEachLosslessRun P =
 abbrev pub OfEachSimpleRun : (ScriptData → List Entry → Type 0) → Type 0
 OfEachSimpleRun P = (s : ScriptData) (past : List Entry) → IsValid s → is_lossy s ≡ false → has_strict s ≡ false
     → IsStepRun s past → P s past
+
+-- of each step of a run, by the entries before it; and of those of runs whose coordinator forgets nothing
+abbrev pub OfEachStep : (ScriptData → List Entry → Entry → Type 0) → Type 0
+OfEachStep P = (s : ScriptData) (past : List Entry) (e : Entry) → IsValid s → IsStepRun s (e ∷ past) → P s past e
+
+abbrev pub OfEachLosslessStep : (ScriptData → List Entry → Entry → Type 0) → Type 0
+OfEachLosslessStep P = (s : ScriptData) (past : List Entry) (e : Entry) → IsValid s → is_lossy s ≡ false
+    → IsStepRun s (e ∷ past) → P s past e
 
 -- of each tree in each run; of each subtransaction; and of each node that a tree visits, with a commit or an abort
 abbrev pub OfEachTree : (ScriptData → List Entry → ℕ → Type 0) → Type 0

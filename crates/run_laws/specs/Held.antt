@@ -1,10 +1,10 @@
 -- What nodes hold of their items.
-use Rattle.std.specs.Prelude.{ℕ, ◌≡◌, ◌<◌, List, length, reverse, IsTrue, Some, slice_get}
+use Rattle.std.specs.Prelude.{ℕ, ◌≡◌, ◌<◌, List, reverse, Some, slice_get}
 use Rattle.letter_types.specs.declared.entries.Entry.{Entry}
 use Rattle.script_parts.specs.ScriptData.{ScriptData}
 use Rattle.script_parts.specs.declared.parts.ItemRow.{ItemRow}
 use Rattle.world_model.specs.Runs.{node_in}
-use Rattle.board_rules.specs.Histories.{Place, is_whole_in, places_of}
+use Rattle.board_rules.specs.Histories.{places_of}
 use Rattle.board_rules.specs.Worth.{is_written}
 use Rattle.run_laws.specs.Written.{holds_in, was_written}
 
@@ -12,10 +12,6 @@ use Rattle.run_laws.specs.Written.{holds_in, was_written}
 abbrev pub HoldsWritten : ScriptData → List Entry → ℕ → ℕ → Type 0
 HoldsWritten s past p x = (w : ℕ) (r : ItemRow) → slice_get s.items x ≡ Some r → r.node.0 ≡ p → (node_in s past p).turns.low.0 < w
     → holds_in (record { 0 = w }) (record { 0 = x }) (node_in s past p).items ≡ was_written s (places_of (reverse past)) p x w
-
--- each tree of the script is whole after these acts
-abbrev pub AreAllWhole : ScriptData → List Place → Type 0
-AreAllWhole s xs = (t : ℕ) → t < length s.trees → IsTrue (is_whole_in s xs t)
 
 -- acts of node p write its item x in just those versions in which trees write it
 abbrev pub IsWrittenAtEnd : ScriptData → List Entry → ℕ → ℕ → Type 0

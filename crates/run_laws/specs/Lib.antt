@@ -14,3 +14,4 @@ pub mod Newest
 pub mod ValuesByActs
 pub mod VoteLocks
 pub mod Replies
+pub mod Sums

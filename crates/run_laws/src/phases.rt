@@ -1,16 +1,15 @@
 // Phases of the coordinator, and counters.
-ghost use Rattle.std.specs.Prelude.{ℕ, ◌≡◌, ◌<◌, ◌+◌, ◌*◌, length, reverse};
-ghost use Rattle.pair_counters.specs.Numbers.{AllBelow};
+ghost use Rattle.std.specs.Prelude.{◌≡◌, reverse};
 ghost use Rattle.advance_laws.specs.Advances.{AdvancesAreKept, RoundsAreFew};
 ghost use Rattle.advance_laws.specs.Phases.{PhasesHaveTheirLetters, VersionsKeepToThePhase};
-ghost use Rattle.advance_laws.specs.Balance.{IsBalanced, MOST_COUNTED};
+ghost use Rattle.advance_laws.specs.Balance.{IsBalanced};
 ghost use Rattle.advance_laws.specs.Given.{NodesKeepTogether};
 ghost use Rattle.run_laws.specs.EachRun.{OfEachHistory, OfEachLosslessRun, OfEachRun};
 ghost use Rattle.run_laws.specs.Taken.{TakesWhatIsApt};
 ghost use Rattle.tree_laws.specs.Entries.{rounds_in};
 ghost use Rattle.tx_trees.specs.Counts.{advances_in};
-ghost use Rattle.world_model.specs.Runs.{node_in};
 ghost use Rattle.world_model.specs.Timely.{AllTimely};
+ghost use Rattle.run_laws.specs.Sums.{HasSmallCounts};
 
 /// In every run each message that a node took came in time: a Sub, Done, Decide or Decided no later than its version
 /// may be counted; an order no earlier and no later than the node's versions allow, unless it is of an epoch before the
@@ -71,6 +70,5 @@ pub fn requests_are_completions_and_letters()
 
 /// Each counter of a node is at most `MOST_COUNTED` times the number of entries.
 pub fn counts_are_small()
-    ensures { OfEachRun (λ s past.
-        (p : ℕ) → p < s.nodes → AllBelow (MOST_COUNTED * length past + 1) (node_in s past p).counts) }
+    ensures { OfEachRun HasSmallCounts }
 {}

@@ -1,14 +1,9 @@
 // What holds of a version that is shown, or that is swept to.
-ghost use Rattle.std.specs.Prelude.{false, ◌≡◌, ◌∷◌, List, reverse};
-ghost use Rattle.letter_types.specs.declared.entries.Entry.{Entry};
+ghost use Rattle.std.specs.Prelude.{reverse};
 ghost use Rattle.advance_laws.specs.Given.{IsGivenAnew};
 ghost use Rattle.advance_laws.specs.Quiet.{IsGivenInQuiet};
-ghost use Rattle.run_laws.specs.EachRun.{EachInFlight, EachSent, OfEachLaterRun, OfEachRun};
+ghost use Rattle.run_laws.specs.EachRun.{EachInFlight, EachSent, OfEachLaterRun, OfEachRun, OfEachLosslessStep, OfEachStep};
 ghost use Rattle.run_laws.specs.Shown.{IsBackedBy, IsClosedBy};
-ghost use Rattle.script_parts.specs.Counts.{is_lossy};
-ghost use Rattle.tx_trees.specs.ScriptData.{ScriptData};
-ghost use Rattle.tx_trees.specs.Valid.{IsValid};
-ghost use Rattle.world_model.specs.Runs.{IsStepRun};
 
 /// A version that nodes are told to show is no later than the latest one so far, or it is the next one: then nothing
 /// counted of it is outstanding, and every node's update version is above it. A version that nodes are told to sweep to
@@ -17,16 +12,14 @@ ghost use Rattle.world_model.specs.Runs.{IsStepRun};
 /// with which they begin. This holds for every script, also if the coordinator forgets and tells nodes again what they
 /// have done.
 pub fn orders_are_given_before_or_in_quiet()
-    ensures { (s : ScriptData) (past : List Entry) (e : Entry) → IsValid s → IsStepRun s (e ∷ past)
-        → EachSent (IsGivenAnew s past) e }
+    ensures { OfEachStep (λ s past e. EachSent (IsGivenAnew s past) e) }
 {}
 
 /// If the coordinator keeps its state, an entry sends Show(v) only if nothing counted of version v is outstanding and
 /// every node's update version is above v, and Sweep(v) only if nothing counted of version v - 1 is outstanding and
 /// every node's read version is at least v.
 pub fn orders_are_given_in_quiet()
-    ensures { (s : ScriptData) (past : List Entry) (e : Entry) → IsValid s → is_lossy s ≡ false → IsStepRun s (e ∷ past)
-        → EachSent (IsGivenInQuiet s past) e }
+    ensures { OfEachLosslessStep (λ s past e. EachSent (IsGivenInQuiet s past) e) }
 {}
 
 /// While Show(v) is in flight, or an order that stands for it, each begun update and strict transaction of version at

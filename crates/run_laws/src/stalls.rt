@@ -1,14 +1,12 @@
 // The end of every run: no run stalls, a run to its end has so many entries, and no run has more than so many.
-ghost use Rattle.std.specs.Prelude.{ℕ, ◌≡◌, ◌<◌, ◌≤◌, ◌+◌, ◌*◌, List, [], length, true, false, reverse};
+ghost use Rattle.std.specs.Prelude.{ℕ, ◌≡◌, ◌<◌, ◌≤◌, ◌+◌, ◌*◌, [], length, true, false, reverse};
 ghost use Rattle.board_rules.specs.Right.{HasFinished};
-ghost use Rattle.letter_types.specs.declared.entries.Entry.{Entry};
 ghost use Rattle.run_laws.specs.EachRun.{OfEachEnd, OfEachRun, OfEachSimpleRun};
 ghost use Rattle.tree_laws.specs.Entries.{entries_most, entries_of, lossy_entries, rounds_in};
 ghost use Rattle.tx_trees.specs.Counts.{advances_in, has_strict};
 ghost use Rattle.tx_trees.specs.ScriptData.{ScriptData};
-ghost use Rattle.tx_trees.specs.Valid.{IsValid};
 ghost use Rattle.world_model.specs.Kept.{kept_in};
-ghost use Rattle.world_model.specs.Runs.{client_in, in_flight, IsStepRun};
+ghost use Rattle.world_model.specs.Runs.{client_in, in_flight};
 
 /// No run stalls, with strict transactions or without, even if its coordinator forgets: once no message is in flight,
 /// the client has finished, every transaction is answered, and every advancement has ended.
@@ -18,8 +16,7 @@ pub fn no_run_stalls()
 
 /// Once no message is in flight, no node defers one either.
 pub fn nothing_is_kept_at_the_end()
-    ensures { (s : ScriptData) (past : List Entry) (p : ℕ) → IsValid s → IsStepRun s past → in_flight s past ≡ [] → p < s.nodes
-        → kept_in s past p ≡ [] }
+    ensures { OfEachEnd (λ s past. (p : ℕ) → p < s.nodes → kept_in s past p ≡ []) }
 {}
 
 /// If a script has no strict transactions and its coordinator keeps its state, a run in which no message is in flight

@@ -1,17 +1,13 @@
 // Trees, of every kind, in every run of every valid script.
-ghost use Rattle.std.specs.Prelude.{true, false, ◌≤◌, ◌+◌, ◌≡◌, reverse};
-ghost use Rattle.board_rules.specs.Histories.{places_of};
+ghost use Rattle.std.specs.Prelude.{true, false, ◌≤◌, ◌+◌};
 ghost use Rattle.board_rules.specs.Right.{IsAtOnce};
-ghost use Rattle.letter_types.specs.declared.entries.Letter.{Letter};
 ghost use Rattle.run_laws.specs.EachRun.{OfEachHistory, OfEachRun, OfEachSub, OfEachTree, OfEachVisit};
 ghost use Rattle.run_laws.specs.Waiting.{NothingIsInTheWay, OnlyHoldersAreInTheWay};
-ghost use Rattle.tree_laws.specs.Applied.{applied_at, decided_as, decisions_to, noes};
-ghost use Rattle.tree_laws.specs.Carried.{CarriesVersion};
+ghost use Rattle.tree_laws.specs.Applied.{decided_as};
 ghost use Rattle.tree_laws.specs.Dids.{letters_asking};
 ghost use Rattle.tree_laws.specs.Stages.{StageAt};
 ghost use Rattle.tree_laws.specs.Turns.{turns};
-ghost use Rattle.world_model.specs.Counts.{Each};
-ghost use Rattle.world_model.specs.Kept.{outstanding};
+ghost use Rattle.run_laws.specs.Sums.{CarryTheirVersions, IsAppliedAsDecided, IsDecidedByVotes};
 
 /// In every run, for each subtransaction, the outstanding messages that ask for it and its turns, each a Did or a vote,
 /// are at most one together.
@@ -29,8 +25,7 @@ pub fn trees_go_by_stages()
 /// In every run each outstanding Sub, notice, decision and acknowledgement is of a begun transaction, and carries the
 /// version with which it was begun.
 pub fn letters_carry_versions()
-    ensures { OfEachRun (λ s past.
-        Each (λ (l : Letter). CarriesVersion (places_of (reverse past)) l.body) (outstanding s past)) }
+    ensures { OfEachRun CarryTheirVersions }
 {}
 
 /// In every run a strict transaction is decided at most once.
@@ -41,15 +36,13 @@ pub fn trees_are_decided_once()
 /// In every run a decision was applied at each node that its transaction visits, or is on its way there, as often as it
 /// was made: so at most once, and only as it was made.
 pub fn decisions_are_applied_once()
-    ensures { OfEachVisit (λ s past t q commit.
-        applied_at past t commit q + decisions_to s past t commit q ≡ decided_as past t commit) }
+    ensures { OfEachVisit IsAppliedAsDecided }
 {}
 
 /// In every run a strict transaction commits only if none of its subtransactions has voted no, and aborts only if one
 /// has.
 pub fn decisions_follow_votes()
-    ensures { OfEachTree (λ s past t.
-        (1 ≤ decided_as past t true → noes past t ≡ 0) × (1 ≤ decided_as past t false → 1 ≤ noes past t)) }
+    ensures { OfEachTree IsDecidedByVotes }
 {}
 
 /// In every run no step of a read or an update waits for anything but a strict transaction's lock. An entry that takes

@@ -33,3 +33,7 @@ knowing answered ended = record { next = 0; answered = answered; ended = ended; 
 -- how many rows are submitted in the end, where so many are by now
 abbrev pub furthest : List Bool → ℕ → List ScriptRow → ℕ → ℕ
 furthest answered ended rows next = next + submitted (knowing answered ended) (take next rows) (drop next rows)
+
+-- the place with as many rows submitted as are in the end, where so many are by now
+abbrev pub furthest_place : List ScriptRow → List Bool → ℕ → ℕ → RowPlace
+furthest_place rows answered ended next = place_at rows answered (furthest answered ended rows next)
