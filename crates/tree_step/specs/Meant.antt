@@ -5,7 +5,6 @@ use Rattle.tv_base.specs.declared.numbers.Version.{Version}
 use Rattle.letter_types.specs.declared.entries.StepOut.{StepOut}
 use Rattle.letter_types.specs.Steps.{Out}
 use Rattle.tree_home.specs.Homes.{Gets}
-use Rattle.tree_home.specs.declared.homes.Answered.{Answered}
 use Rattle.nc_locks.specs.declared.modes.Lock.{Lock}
 use Rattle.tree_home.specs.Maps.{by_tree}
 use Rattle.world_model.specs.Core.{Core, Refusals}
@@ -37,6 +36,7 @@ use Rattle.tree_step.specs.declared.plan.HoldPlan.{HoldPlan}
 use Rattle.tree_step.specs.declared.plan.HoldPlan.TheVariants as hold_plans
 use Rattle.tree_step.specs.declared.plan.VotePlan.{VotePlan}
 use Rattle.tree_step.specs.declared.plan.VotePlan.TheVariants as vote_plans
+use Rattle.tree_step.specs.declared.plan.PartPlan.{PartPlan}
 use Rattle.tree_step.specs.declared.plan.Plan.{Plan}
 use Rattle.tree_step.specs.declared.plan.Scratch.{Scratch}
 
@@ -75,8 +75,8 @@ abbrev pub parts_meant : Doing → Scratch → Prepared
 parts_meant d x = record { change = doing_meant d x; out = out_in x }
 
 -- before the tree is answered
-abbrev pub part_meant : TreePlan → Scratch → Option Answered → TreePrepared
-part_meant p x a = record { prepared = parts_meant (doings.Tree p) x; answered = a }
+abbrev pub part_meant : PartPlan → Scratch → TreePrepared
+part_meant p x = record { prepared = parts_meant p.doing x; answered = p.answered }
 
 -- what becomes of locks or noes
 abbrev pub noted_by : TreeNo → Option NegativeVote → VoteChange

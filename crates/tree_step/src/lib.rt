@@ -21,7 +21,7 @@ mod refusals;
 mod replies;
 mod steps;
 
-pub use asked::{InVersion, Request, asked_ops, asked_version, prepare_tree};
+pub use asked::{InVersion, Request, SubTurn, asked_ops, asked_version, plan_tree, prepare_tree};
 pub use change::{Change, HomeChange, Prepared, TreeChange, TreePrepared, done, done_twice};
 pub use core_change::{CorePrepared, HoldChange, Visited, VoteChange};
 pub use counting::Counting;
@@ -31,9 +31,10 @@ pub use flattening::flatten;
 pub use lookups::{is_strict, kind_of};
 pub use node::{Effect, NodeParts};
 pub use node_core::NodeCore;
-pub use notices::prepare_notice;
+pub use notices::{plan_notice, prepare_notice};
 pub use plan::{
-    Doing, HoldPlan, HomePlan, Plan, Scratch, TreePlan, VotePlan, new_scratch, take_out, wipe,
+    Doing, HoldPlan, HomePlan, PartPlan, Plan, Scratch, TreePlan, VotePlan, new_scratch, take_out,
+    wipe,
 };
 pub use refusals::Refusals;
 pub use replies::{push_reply, reply};

@@ -1,11 +1,12 @@
 // A notice at its tree's home.
-ghost use Rattle.std.specs.Prelude.{◌≡◌, ◌<◌, [], false, IfOk, IsTrue};
+ghost use Rattle.std.specs.Prelude.{◌≡◌, ◌<◌, [], false, IfOk, IsTrue, OnOk};
 ghost use Rattle.item_versions.specs.Window.{in_window};
 ghost use Rattle.pair_counters.specs.Numbers.{AllBelow, MOST_COUNT};
 ghost use Rattle.pair_counters.specs.Rows.{counts_of};
 ghost use Rattle.tree_home.specs.Homes.{open_trees};
 ghost use Rattle.tree_step.specs.Changes.{home_after, MayHome};
 ghost use Rattle.world_model.specs.Notices.{answer_noted, homes_noted};
+ghost use Rattle.tree_step.specs.Meant.{part_meant};
 ghost use Rattle.tree_step.specs.Node.{IsInWindow};
 ghost use Rattle.tree_step.specs.inside.Noting.{noting};
 ghost use Rattle.tree_step.specs.AtNode.{IsNotedPart};
@@ -13,7 +14,9 @@ ghost use Rattle.tree_step.specs.AtNode.{IsNotedPart};
 use crate::asked::Request;
 use crate::change::{Change, HomeChange, Prepared, TreeChange, TreePrepared};
 use crate::counting::Counting;
+use crate::flattening::flatten_part;
 use crate::node::NodeParts;
+use crate::plan::{PartPlan, Scratch};
 use commute_ops::{Values, copy_values};
 use item_versions::Staged;
 use letter_types::StepOut;
@@ -91,4 +94,35 @@ pub fn prepare_notice(
     let Request { tree, sub, .. } = request;
     let (home, answered) = notice_home(alloc, &node.homes, tree, sub, values)?;
     Ok(noting(alloc, request, home, answered))
+}
+
+/// Plans that a tree's home takes a notice of these values down and counts its completion, before the tree is answered,
+/// which it is where no notice is missing any more. A notice that isn't missing is counted and changes nothing else.
+pub fn plan_notice(
+    alloc: Global,
+    node: &NodeParts,
+    request: Request,
+    values: &Values,
+    scratch: &mut Scratch,
+) -> Result<PartPlan, NoMemory>
+    // What the caller knows.
+    requires from { request.from.0 < (counts_of node.now.counters).nodes }
+    requires small { AllBelow MOST_COUNT (counts_of node.now.counters).numbers }
+    requires window { IsInWindow node.now }
+    requires near { IsTrue (in_window node.now.turns.low.0 request.version.0) }
+    requires none_staged { scratch.old.staged ≡ [] }
+    requires no_values { scratch.old.values ≡ [] }
+    requires none_sent { scratch.old.sent ≡ [] }
+    requires no_acts { scratch.old.acts ≡ [] }
+    // What is planned.
+    ensures part { IfOk result (λ part. IsNotedPart request values.now node.now (part_meant part scratch.new)) }
+    ensures rest { OnOk result (scratch.new ≡ record scratch.old {
+      staged = scratch.new.staged;
+      values = scratch.new.values;
+      sent = scratch.new.sent;
+      acts = scratch.new.acts;
+    }) }
+{
+    let part = prepare_notice(alloc, node, request, values)?;
+    Ok(flatten_part(part, scratch))
 }
