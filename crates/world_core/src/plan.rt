@@ -25,9 +25,9 @@ use node_keeping::{
     root_waiting, suits_coordinator, waits_for_show, wake_apt,
 };
 use std::alloc::Global;
-use strict_step::{prepare_acked, prepare_decide, prepare_note, prepare_release, prepare_vote};
-use tree_step::{NodeCore, Request, Scratch, flatten, is_due, kind_of};
-use tv_base::{NoMemory, NodeNo, SubNo, TreeNo, Version};
+use strict_step::{Acknowledgement, plan_acked, plan_decide, plan_note, plan_release, plan_vote};
+use tree_step::{NodeCore, Request, Scratch, is_due, kind_of};
+use tv_base::{NoMemory, NodeNo, SubNo, TreeNo};
 use tx_trees::{Script, TreeKind};
 use update_step::can_update;
 
@@ -36,13 +36,6 @@ use update_step::can_update;
 struct Noted<'a> {
     request: Request,
     notice: &'a Notice,
-}
-
-/// An acknowledgement of a decision.
-#[derive(Clone, Copy)]
-struct Acked {
-    tree: TreeNo,
-    version: Version,
 }
 
 /// A subtransaction of an update tree that meets a lock, and whose operations may be made: it is parked.
@@ -143,8 +136,7 @@ fn choose_strict(
         let keep = root_waiting(&core.parts.turns, tree, &mut scratch.acts)?;
         return Ok(CoreChoice::Keeps(keep));
     }
-    let prepared = prepare_vote(alloc, core, letter, script, tree)?;
-    let plan = flatten(prepared.into_inner(), scratch);
+    let plan = plan_vote(alloc, core, letter, script, tree, scratch)?;
     Ok(CoreChoice::Does(plan))
 }
 
@@ -224,8 +216,7 @@ fn choose_note(
     if !decides_near(core, script, request) {
         return Ok(CoreChoice::Still);
     }
-    let prepared = prepare_note(alloc, core, script, request, notice)?;
-    let plan = flatten(prepared.into_inner(), scratch);
+    let plan = plan_note(alloc, core, script, request, notice, scratch)?;
     Ok(CoreChoice::Does(plan))
 }
 
@@ -248,10 +239,7 @@ fn choose_decide(
     if !decide_apt(core, letter, script, decision) {
         return Ok(CoreChoice::Still);
     }
-    let node = NodeNo(letter.to.0);
-    let from = NodeNo(letter.from.0);
-    let prepared = prepare_decide(alloc, core, script, node, from, decision)?;
-    let plan = flatten(prepared.into_inner(), scratch);
+    let plan = plan_decide(alloc, core, letter, script, decision, scratch)?;
     Ok(CoreChoice::Does(plan))
 }
 
@@ -261,29 +249,26 @@ fn choose_acked(
     core: &NodeCore,
     letter: &Letter,
     script: &Script,
-    acked: Acked,
+    acked: Acknowledgement,
     scratch: &mut Scratch,
 ) -> Result<CoreChoice, NoMemory>
     // What the caller knows.
     requires ready { IsCoreReady script.now letter.now.to.0 core.now }
     requires body { letter.now.body ≡ Decided acked.tree acked.version }
+    requires from { acked.from.0 ≡ letter.now.from.0 }
     requires empty { IsEmpty scratch.old }
     // What is planned.
     ensures { IfOk result (λ choice. IsOwnPlan script.now letter.now core.now (choice_meant choice scratch.new)) }
 {
-    let Acked { tree, version } = acked;
-    if !acked_apt(core, letter, script, tree, version) {
+    if !acked_apt(core, letter, script, acked.tree, acked.version) {
         return Ok(CoreChoice::Still);
     }
-    let from = NodeNo(letter.from.0);
-    let prepared = prepare_acked(alloc, core, script, from, tree, version)?;
-    let plan = flatten(prepared.into_inner(), scratch);
+    let plan = plan_acked(alloc, core, script, acked, scratch)?;
     Ok(CoreChoice::Does(plan))
 }
 
 /// Marks of an update tree that go.
 fn choose_release(
-    alloc: Global,
     core: &NodeCore,
     letter: &Letter,
     script: &Script,
@@ -300,8 +285,7 @@ fn choose_release(
     if !release_apt(script, letter.to, tree) {
         return Ok(CoreChoice::Still);
     }
-    let prepared = prepare_release(alloc, core, tree)?;
-    let plan = flatten(prepared.into_inner(), scratch);
+    let plan = plan_release(core, tree, scratch)?;
     Ok(CoreChoice::Does(plan))
 }
 
@@ -373,13 +357,14 @@ fn choose_own(
             choose_decide(alloc, core, letter, script, decision, scratch)
         }
         Body::Decided { tree, version } => {
-            let acked = Acked {
+            let acked = Acknowledgement {
                 tree: *tree,
                 version: *version,
+                from: NodeNo(letter.from.0),
             };
             choose_acked(alloc, core, letter, script, acked, scratch)
         }
-        Body::Release { tree } => choose_release(alloc, core, letter, script, *tree, scratch),
+        Body::Release { tree } => choose_release(core, letter, script, *tree, scratch),
         Body::Wake { tree, sub } => Ok(choose_wake(core, letter, script, *tree, *sub, scratch)),
         _ => choose_advancing(alloc, core, letter, script, scratch),
     }

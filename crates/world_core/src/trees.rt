@@ -11,13 +11,13 @@ ghost use Rattle.world_core.specs.inside.Planned.{IsReadBy, IsUpdateBy};
 
 use letter_types::Letter;
 use nc_locks::{Mode, WantedLocks};
-use read_step::read_part;
+use read_step::plan_read;
 use std::alloc::Global;
-use strict_step::answered_step;
-use tree_step::{NodeCore, Plan, Scratch, VoteChange, asked_ops, flatten};
+use strict_step::plan_answered;
+use tree_step::{NodeCore, Plan, Scratch, VotePlan, asked_ops};
 use tv_base::{NoMemory, TreeNo};
 use tx_trees::{Script, SubOp};
-use update_step::update_part;
+use update_step::plan_update;
 
 /// Plans a subtransaction of a read tree. None exactly where its operations may not be made.
 pub(crate) fn plan_read_tree(
@@ -36,11 +36,11 @@ pub(crate) fn plan_read_tree(
     ensures can { IfOk result (λ found. is_some found ≡ can_read script.now (data_of core.now.parts) letter.now.body) }
     ensures step { IfOk result (λ found. IfSome found (IsReadBy script.now letter.now core.now scratch.new)) }
 {
-    let Some(part) = read_part(alloc, &core.parts, letter, script)? else {
+    let Some(part) = plan_read(alloc, &core.parts, letter, script, scratch)? else {
         return Ok(None);
     };
-    let prepared = answered_step(alloc, core, script, part, VoteChange::Stay)?;
-    Ok(Some(flatten(prepared.into_inner(), scratch)))
+    let plan = plan_answered(core, script, part, VotePlan::Stay, scratch)?;
+    Ok(Some(plan))
 }
 
 /// Adds the marks that operations of an update tree take: none where there is no strict tree.
@@ -76,12 +76,10 @@ pub(crate) fn plan_update_tree(
     ensures can { IfOk result (λ found. is_some found ≡ can_update script.now (data_of core.now.parts) letter.now.body) }
     ensures step { IfOk result (λ found. IfSome found (IsUpdateBy script.now letter.now tree core.now scratch.new)) }
 {
-    let Some(part) = update_part(alloc, &core.parts, letter, script)? else {
+    push_marks(&mut scratch.wanted, script, asked_ops(letter, script))?;
+    let Some(part) = plan_update(alloc, &core.parts, letter, script, scratch)? else {
         return Ok(None);
     };
-    let mut wanted = WantedLocks::new(alloc);
-    push_marks(&mut wanted, script, asked_ops(letter, script))?;
-    let votes = VoteChange::Take { tree, wanted };
-    let prepared = answered_step(alloc, core, script, part, votes)?;
-    Ok(Some(flatten(prepared.into_inner(), scratch)))
+    let plan = plan_answered(core, script, part, VotePlan::Take(tree), scratch)?;
+    Ok(Some(plan))
 }

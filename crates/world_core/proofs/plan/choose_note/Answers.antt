@@ -1,5 +1,4 @@
-use Rattle.std.proofs.Common.{sym, subst, ◌∙◌}
-use Rattle.tree_step.specs.AtNode.{IsNoteStep}
+use Rattle.std.proofs.Common.{sym}
 use Rattle.tree_step.specs.Meant.{core_meant}
 use Rattle.world_model.specs.Notices.{values_of}
 use Rattle.world_core.proofs.Noting.{note_far, note_plan, note_undue}
@@ -17,17 +16,13 @@ returns-then-not-decides_near c =
     note_far c.args.script.now c.args.letter.now c.args.core.now r.tree r.sub r.version c.args.noted.notice.now
     c.requires.body c.if-not-is_due.ensures (sym (c.if-not-decides_near.ensures (values_of c.args.noted.notice.now)))
 
-pub prepare_note-requires-clause-decides : goal.prepare_note-requires-clause-decides
-prepare_note-requires-clause-decides c = sym (c.if-not-decides_near.ensures (values_of c.args.noted.notice.now))
+pub plan_note-requires-clause-decides : goal.plan_note-requires-clause-decides
+plan_note-requires-clause-decides c = sym (c.if-not-decides_near.ensures (values_of c.args.noted.notice.now))
 
 pub returns : goal.returns
 returns c =
-    let s = c.args.script.now in
-    let n = c.args.core.now in
     let r = c.args.noted.request in
     let notice = c.args.noted.notice.now in
-    let made = c.flatten-plan.ensures.step ∙ c.into_inner.ensures in
-    note_plan s c.args.letter.now n r.tree r.sub r.version notice r.from.0
-    (core_meant c.flatten-plan.result c.flatten-plan.new.scratch) c.requires.body c.if-not-is_due.ensures
-    (sym (c.if-not-decides_near.ensures (values_of notice))) c.requires.from
-    (subst (IsNoteStep s r notice n) (sym made) c.in_ok-prepared.ensures)
+    note_plan c.args.script.now c.args.letter.now c.args.core.now r.tree r.sub r.version notice r.from.0
+    (core_meant c.in_ok-plan.plan c.plan_note.new.scratch) c.requires.body c.if-not-is_due.ensures
+    (sym (c.if-not-decides_near.ensures (values_of notice))) c.requires.from c.in_ok-plan.ensures

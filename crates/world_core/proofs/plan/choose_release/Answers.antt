@@ -1,10 +1,7 @@
-use Rattle.std.proofs.Common.{refl, sym, subst, ◌∙◌}
+use Rattle.std.proofs.Common.{refl, sym}
 use Rattle.letter_types.specs.declared.bodies.Body.TheVariants.{Release}
 use Rattle.tree_step.specs.Core.{core_of}
-use Rattle.tree_step.specs.CoreChanges.{IsCoreStepOf}
 use Rattle.tree_step.specs.Meant.{core_meant}
-use Rattle.tree_step.specs.declared.core_change.CorePrepared.{CorePrepared}
-use Rattle.world_model.specs.Strict.{release_core}
 use Rattle.node_keeping.specs.declared.plans.CorePlan.TheVariants.{Still, Does}
 use Rattle.node_keeping.proofs.Aptness.{freed_apt}
 use Rattle.node_keeping.proofs.Planned.{plan_one}
@@ -23,12 +20,6 @@ returns c =
     let s = c.args.script.now in
     let l = c.args.letter.now in
     let n = c.args.core.now in
-    let made = c.flatten-plan.ensures.step ∙ c.into_inner.ensures in
-    plan_one s l n (Release c.args.tree) _ (Does (core_meant c.flatten-plan.result c.flatten-plan.new.scratch))
+    plan_one s l n (Release c.args.tree) _ (Does (core_meant c.in_ok-plan.plan c.plan_release.new.scratch))
     c.requires.body (freed_apt s l.to.0 l.from.0 (core_of n) c.args.tree)
-    (record {
-      apt = sym c.if-not-release_apt.ensures;
-      free = refl;
-      step = subst (λ (p : CorePrepared). IsCoreStepOf (release_core c.args.tree (core_of n)) n p) (sym made)
-          c.in_ok-prepared.ensures;
-    })
+    (record { apt = sym c.if-not-release_apt.ensures; free = refl; step = c.in_ok-plan.ensures })

@@ -1,5 +1,4 @@
-use Rattle.std.proofs.Common.{refl, sym, subst, ◌∙◌}
-use Rattle.tree_step.specs.AtNode.{IsVoteStep}
+use Rattle.std.proofs.Common.{refl, sym}
 use Rattle.tree_step.specs.Core.{core_of}
 use Rattle.node_keeping.specs.Choices.{kept_by_plan}
 use Rattle.node_keeping.proofs.Waiting.{votes_free, waiting_plan}
@@ -12,13 +11,9 @@ returns-then-waits_for_show c =
     c.in_ok-keep.ensures
 
 pub returns : goal.returns
-returns c =
-    let s = c.args.script.now in
-    let n = c.args.core.now in
-    let l = c.args.letter.now in
-    let made = c.flatten-plan.ensures.step ∙ c.into_inner.ensures in
-    record {
-      apt = refl;
-      free = votes_free s (core_of n) c.args.tree l.body (sym c.if-waits_for_show.ensures);
-      step = subst (IsVoteStep s l c.args.tree n) (sym made) c.in_ok-prepared.ensures;
-    }
+returns c = record {
+  apt = refl;
+  free = votes_free c.args.script.now (core_of c.args.core.now) c.args.tree c.args.letter.now.body
+      (sym c.if-waits_for_show.ensures);
+  step = c.in_ok-plan.ensures;
+}
