@@ -1,4 +1,4 @@
-use Rattle.std.proofs.Common.{◌≡◌, sym, subst, false, None, Option, Some}
+use Rattle.std.proofs.Common.{◌≡◌, refl, sym, subst, false, Option, Some}
 use Rattle.std.specs.Prelude.{IfOk}
 use Rattle.tree_step.specs.Core.{core_of}
 use Rattle.tree_step.specs.Node.{data_of}
@@ -18,7 +18,7 @@ pub returns-in_default : goal.returns-in_default
 returns-in_default c =
     let s = c.args.script.now in
     subst (λ (k : Option TreeKind). makes_by s (data_of c.args.core.now.parts) c.args.letter.now.body k ≡ false)
-    (rw c.in_default.is at c.kind_of-found.ensures) cc
+    (rw c.in_default.is at c.kind_of-found.ensures) refl
 
 pub returns-in-Update : goal.returns-in-Update
 returns-in-Update c =
