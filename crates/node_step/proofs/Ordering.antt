@@ -1,5 +1,5 @@
--- What a node does with a coordinator's letter, planned by its parts, is its row.
-use Rattle.std.proofs.Common.{◌≡◌, true, [], sym, subst}
+-- An order that was planned by its parts is its row.
+use Rattle.std.proofs.Common.{◌≡◌, true, sym, subst}
 use Rattle.tv_base.specs.declared.numbers.Version.{Version}
 use Rattle.letter_types.specs.declared.bodies.Body.{Body}
 use Rattle.letter_types.specs.declared.bodies.What.{What}
@@ -11,10 +11,9 @@ use Rattle.tree_step.specs.Meant.{doing_meant, parts_meant}
 use Rattle.tree_step.specs.Node.{CanStep, data_of}
 use Rattle.tree_step.specs.declared.node.NodeParts.{NodeParts}
 use Rattle.tree_step.specs.declared.plan.Doing.{Doing}
-use Rattle.tree_step.specs.declared.plan.Doing.TheVariants.{Still}
 use Rattle.tree_step.specs.declared.plan.Scratch.{Scratch}
 use Rattle.world_model.specs.Advancing.{to_coordinator}
-use Rattle.node_step.specs.Orders.{ordered_row, told_row}
+use Rattle.node_step.specs.Orders.{ordered_row}
 use Rattle.node_step.specs.inside.Advancing.{order_acts, order_doing}
 
 -- an order that a node can obey fits it
@@ -47,13 +46,4 @@ ordered s whats.Show v answer n d x ready can is sent acts = record {
 ordered s whats.Sweep v answer n d x ready can is sent acts = record {
   row = λ i. record { state = after_change (doing_meant (is i) x) x.sent (data_of n); sent = sent i; acts = acts i };
   may = may_obey s whats.Sweep v n d x ready can is;
-}
-
--- a node that stays as it is, and tells the coordinator this
-pub told : (s : ScriptData) (answer : Body) (n : NodeParts) (x : Scratch) → CanStep s n
-    → x.sent ≡ to_coordinator s answer → x.acts ≡ []
-    → IsNodeStepOf (told_row s answer (data_of n)) n (parts_meant Still x)
-told s answer n x ready sent acts = record {
-  row = λ i. record { state = data_of n; sent = sent i; acts = acts i };
-  may = record { fits = tt; small = ready.small; window = ready.window };
 }
