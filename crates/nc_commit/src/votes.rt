@@ -1,5 +1,5 @@
 // How a subtransaction of a strict tree votes.
-ghost use Rattle.std.specs.Prelude.{◌≡◌, IfOk, Some};
+ghost use Rattle.std.specs.Prelude.{◌≡◌, [], IfOk, OnOk, Some};
 ghost use Rattle.std.specs.Option.{option_copied};
 ghost use Rattle.letter_types.specs.declared.votes.Vote.TheVariants.{No};
 ghost use Rattle.world_model.specs.Reads.{gets, got_by_deed, seen_in};
@@ -75,10 +75,19 @@ pub fn wanted_by(alloc: Global, ops: &[SubOp]) -> Result<WantedLocks, NoMemory>
     ensures { IfOk result (λ wanted. wanted ≡ wanted_by ops.now) }
 {
     let mut wanted = Seq::with_capacity(alloc, ops.len())?;
+    push_wanted(&mut wanted, ops)?;
+    Ok(wanted)
+}
+
+/// Adds the locks that the operations of a strict tree want.
+pub fn push_wanted(wanted: &mut WantedLocks, ops: &[SubOp]) -> Result<(), NoMemory>
+    requires { wanted.old ≡ [] }
+    ensures { OnOk result (wanted.new ≡ wanted_by ops.now) }
+{
     for op in ops {
         wanted.push((op.item, mode_wanted(&op.deed)))?;
     }
-    Ok(wanted)
+    Ok(())
 }
 
 /// How a deed of a strict tree locks its item: a get looks at it, and a set or a draw holds it.
