@@ -110,7 +110,8 @@ pub fn prepare_tree(
     }
 }
 
-/// Plans the subtransaction that a letter asks for, which makes what is staged in the scratch, before the tree is answered.
+/// Plans the subtransaction that a letter asks for, and that makes what is staged in the scratch, before the tree is
+/// answered.
 pub fn plan_tree(
     alloc: Global,
     node: &NodeParts,

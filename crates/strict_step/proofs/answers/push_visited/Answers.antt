@@ -4,7 +4,7 @@ use Rattle.std.proofs.lemmas.List.Elements.{recursion_from_All}
 use Rattle.tx_trees.specs.ScriptData.{visited}
 use Rattle.tx_trees.specs.declared.parts.Sub.{Sub}
 use Rattle.strict_step.proofs.Deciding.{as_many, visited_some}
-use Rattle.strict_step.proofs.answers.visited.Goals as goal
+use Rattle.strict_step.proofs.answers.push_visited.Goals as goal
 
 pub returns-clause-some : goal.returns-clause-some
 returns-clause-some c = λ some.
@@ -15,4 +15,4 @@ returns-clause-some c = λ some.
     (recursion_from_All (λ (x : Sub). x.node.0 < c.args.script.now.nodes) subs c.subs_of-subs.ensures.nodes) in
     let here : 0 < length subs = subst (λ (ys : List Sub). 0 < length ys) (sym c.subs_of-subs.ensures.subs) some in
     let many = visited_some subs c.loop-node.node all here in
-    omega (arith, many, as_many c.loop-node.nodes (visited subs c.loop-node.node) c.loop-node.invariant)
+    omega (arith, many, as_many c.loop-node.told (visited subs c.loop-node.node) c.loop-node.invariant)
