@@ -1,18 +1,18 @@
 use Rattle.std.proofs.Common.{◌≡◌, ◌∙◌, true, ap, subst, sym}
 use Rattle.tv_base.specs.declared.numbers.Version.{Version}
-use Rattle.letter_types.specs.declared.bodies.Notice.{Notice}
 use Rattle.item_versions.proofs.Window.{in_window-is}
 use Rattle.item_versions.specs.Table.{Table, pending}
 use Rattle.item_versions.specs.Window.{in_window, IsWindowedTable}
 use Rattle.letter_types.specs.Steps.{Out}
 use Rattle.nc_locks.specs.Locks.{Wanted}
 use Rattle.tree_home.specs.HeldAnswers.{held_answers}
+use Rattle.tree_home.specs.Maps.{by_tree}
 use Rattle.world_model.specs.Core.{Core}
 use Rattle.world_model.specs.Node.{Effect}
 use Rattle.tree_step.proofs.Dues.{asked_near}
 use Rattle.tree_step.specs.Node.{data_of}
 use Rattle.tree_step.specs.CoreChanges.{IsCoreStepOf}
-use Rattle.tree_step.specs.Meant.{core_meant, part_meant}
+use Rattle.tree_step.specs.Meant.{core_meant, part_meant, votes_meant}
 use Rattle.tree_step.specs.declared.plan.Scratch.{Scratch}
 use Rattle.world_model.specs.Asked.{tree_part}
 use Rattle.strict_step.specs.inside.Voting.{change_by}
@@ -89,10 +89,11 @@ returns c =
     (ap (λ (w : Scratch). w.wanted) c.in_ok-part.ensures.rest)
     (ap (λ (w : Scratch). w.refusal) c.in_ok-part.ensures.rest)
     ∙ c.change_by-votes.ensures.votes
-    ∙ ap (λ (w : Wanted). change_by c.args.tree c.in_ok-vote.vote w l.body _) c.in_ok-push_wanted.ensures in
+    ∙ ap (λ (w : Wanted). change_by c.args.tree c.in_ok-vote.vote w l.body (by_tree n.refusals))
+    c.in_ok-push_wanted.ensures in
     subst (λ (o : Out Core). IsCoreStepOf o n (core_meant c.in_ok-plan.plan c.plan_decided.new.scratch))
     (vote_row s l.to.0 l.from.0 c.args.tree l.body n (part_meant c.in_ok-part.part x) c.asked_version-version.result
-    c.is_above-raises.result before.staged c.notice_by.result c.in_ok-vote.vote c.asked_ops-ops.result.now _
-    c.in_ok-part.ensures.part.row none c.notice_by.ensures c.is_above-raises.ensures votes c.asked_ops-ops.ensures
+    c.is_above-raises.result before.staged c.notice_by.result c.in_ok-vote.vote c.asked_ops-ops.result.now
+    (votes_meant c.change_by-votes.result x) c.in_ok-part.ensures.part.row none c.notice_by.ensures c.is_above-raises.ensures votes c.asked_ops-ops.ensures
     c.in_ok-vote.ensures c.asked_version-version.ensures)
     c.in_ok-plan.ensures
