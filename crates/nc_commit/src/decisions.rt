@@ -50,22 +50,6 @@ pub fn apply_decision(
     Ok(())
 }
 
-/// The items as a decision makes them at a node. The table takes them without memory.
-pub fn stage_decision(
-    alloc: Global,
-    items: &ItemTable,
-    decision: Decision,
-    script: &Script,
-    node: NodeNo,
-) -> Result<Staged, NoMemory>
-    requires { IsTrue (may_apply_decision script.now node.0 decision items.now) }
-    ensures { IfOk result (λ staged. pending staged items.now ≡ decided_in script.now node.0 decision items.now) }
-{
-    let mut staged = Staged::new(alloc);
-    stage_decided(alloc, items, &mut staged, decision, script, node)?;
-    Ok(staged)
-}
-
 /// Stages the items as a decision makes them at a node, where nothing is staged. The table takes them without memory.
 pub fn stage_decided(
     alloc: Global,
