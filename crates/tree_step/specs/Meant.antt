@@ -1,5 +1,6 @@
 -- What a plan and a scratch mean: a step that was prepared.
 use Rattle.std.specs.Prelude.{◌≡◌, List, [], Ok, Option, Some, None}
+use Rattle.tv_base.specs.declared.numbers.SubNo.{SubNo}
 use Rattle.tv_base.specs.declared.numbers.TreeNo.{TreeNo}
 use Rattle.tv_base.specs.declared.numbers.Version.{Version}
 use Rattle.letter_types.specs.declared.entries.StepOut.{StepOut}
@@ -40,15 +41,15 @@ use Rattle.tree_step.specs.declared.plan.PartPlan.{PartPlan}
 use Rattle.tree_step.specs.declared.plan.Plan.{Plan}
 use Rattle.tree_step.specs.declared.plan.Scratch.{Scratch}
 
--- what the home does
-abbrev pub home_planned : TreePlan → Gets → HomePlan → HomeChange
-home_planned p values home_plans.Stay = homes.Stay
-home_planned p values (home_plans.Open n v) = homes.Open p.tree n v values
-home_planned p values home_plans.Note = homes.Note p.tree p.sub values
-home_planned p values home_plans.Forget = homes.Forget p.tree
+-- what the home of tree t does, for its subtransaction k
+abbrev pub home_at : TreeNo → SubNo → Gets → HomePlan → HomeChange
+home_at t k values home_plans.Stay = homes.Stay
+home_at t k values (home_plans.Open n v) = homes.Open t n v values
+home_at t k values home_plans.Note = homes.Note t k values
+home_at t k values home_plans.Forget = homes.Forget t
 
 abbrev pub home_meant : TreePlan → Gets → HomeChange
-home_meant p values = home_planned p values p.home
+home_meant p values = home_at p.tree p.sub values p.home
 
 -- what a node does for a subtransaction or a notice
 abbrev pub tree_meant : TreePlan → Scratch → TreeChange
