@@ -1,12 +1,10 @@
 -- A tree is answered, or decided, as is planned: the step is its row, and the node may do it.
 use Rattle.std.proofs.Common.{◌≡◌, ◌<◌, ◌≤◌, Bool, List, [], ◌∷◌, ◌++◌, length, refl, ap, sym, subst, ◌∙◌, append_assoc, Option, Some, None}
-use Rattle.tv_base.specs.declared.numbers.ItemNo.{ItemNo}
 use Rattle.tv_base.specs.declared.numbers.NodeNo.{NodeNo}
 use Rattle.letter_types.specs.declared.acts.Act.{Act}
 use Rattle.letter_types.specs.declared.acts.Act.TheVariants as acts
 use Rattle.letter_types.specs.declared.bodies.Body.TheVariants.{Decide}
 use Rattle.letter_types.specs.declared.entries.Outgoing.{Outgoing}
-use Rattle.letter_types.specs.declared.entries.StepOut.{StepOut}
 use Rattle.nc_locks.specs.Locks.{Wanted}
 use Rattle.tree_home.specs.HeldAnswers.{held_answers}
 use Rattle.tree_home.specs.declared.homes.Answered.{Answered}
@@ -18,9 +16,8 @@ use Rattle.tree_step.proofs.Replied.{after_more, do_more}
 use Rattle.tree_step.specs.Changes.{MayDo, SendsRequests, after_change, part_row}
 use Rattle.tree_step.specs.Core.{AreApart, core_of}
 use Rattle.tree_step.specs.CoreChanges.{IsCoreStepOf, numbers_of_nodes, prepared_of, with_votes}
-use Rattle.tree_step.specs.Meant.{core_meant, doing_meant, home_meant, noted_by, out_in, part_meant, parts_meant, refusals_meant, votes_meant}
+use Rattle.tree_step.specs.Meant.{core_meant, doing_meant, home_meant, noted_by, out_in, part_meant, refusals_meant, votes_meant}
 use Rattle.tree_step.specs.Node.{Node, data_of}
-use Rattle.tree_step.specs.declared.change.Change.{Change}
 use Rattle.tree_step.specs.declared.change.Change.TheVariants as changes
 use Rattle.tree_step.specs.declared.change.TreePrepared.{TreePrepared}
 use Rattle.tree_step.specs.declared.core_change.CorePrepared.{CorePrepared}

@@ -15,7 +15,6 @@ use Rattle.letter_types.specs.declared.bodies.Notice.TheVariants as notices
 use Rattle.letter_types.specs.declared.votes.Vote.{Vote}
 use Rattle.letter_types.specs.declared.votes.Vote.TheVariants as votes
 use Rattle.nc_locks.specs.declared.modes.Lock.{Lock}
-use Rattle.script_parts.specs.Wants.{wanted_by}
 use Rattle.tree_home.specs.HeldAnswers.{held_answers, held_in}
 use Rattle.tree_home.specs.Homes.{Gets, begun, home_in, misses, misses_of, open_trees}
 use Rattle.tree_home.specs.Maps.{by_tree}
@@ -142,20 +141,20 @@ note_decides s from t k v values n part script there kind near apart row =
 
 -- what a vote changes
 locks_voted : (t : TreeNo) (vote : Vote) (ops : List SubOp) (body : Body) (rs : Refusals) (ls : List Lock)
-    → locks_with (change_by t vote (wanted_by ops) body rs) ls ≡ locks_by vote t ops ls
+    → locks_with (change_by t vote ops body rs) ls ≡ locks_by vote t ops ls
 locks_voted t (votes.Yes values) ops body rs ls = refl
 locks_voted t (votes.No cause) ops (Root u) rs ls = refl
 locks_voted t (votes.No cause) ops _ rs ls = refl
 
 noes_voted : (t : TreeNo) (vote : Vote) (ops : List SubOp) (body : Body) (rs : Refusals)
-    → refusals_with (change_by t vote (wanted_by ops) body rs) rs ≡ noted_vote body vote rs
+    → refusals_with (change_by t vote ops body rs) rs ≡ noted_vote body vote rs
 noes_voted t (votes.Yes values) ops (Root u) rs = refl
 noes_voted t (votes.No cause) ops (Root u) rs = refl
 noes_voted t (votes.Yes values) ops _ rs = refl
 noes_voted t (votes.No cause) ops _ rs = refl
 
 voted_vote : (t : TreeNo) (vote : Vote) (ops : List SubOp) (body : Body) (c : Core)
-    → with_votes (change_by t vote (wanted_by ops) body c.refusals) c
+    → with_votes (change_by t vote ops body c.refusals) c
     ≡ record c { locks = locks_by vote t ops c.locks; refusals = noted_vote body vote c.refusals }
 voted_vote t vote ops body c = λ i. record c {
   locks = locks_voted t vote ops body c.refusals c.locks i;
@@ -169,7 +168,7 @@ pub vote_row : (s : ScriptData) (p from : ℕ) (t : TreeNo) (body : Body) (n : N
     → part_row part (data_of n.parts)
     ≡ tree_part s p from v raises (record { items = pending staged n.parts.items; notice = notice }) body (data_of n.parts)
     → staged ≡ [] → notice ≡ notice_by vote → raises ≡ nat_lt n.parts.turns.update.0 v.0
-    → change ≡ change_by t vote (wanted_by ops) body (by_tree n.refusals) → ops ≡ asked_ops s body
+    → change ≡ change_by t vote ops body (by_tree n.refusals) → ops ≡ asked_ops s body
     → vote ≡ vote_of n.locks n.parts.items t v ops → v ≡ asked_version n.parts.turns.update body
     → decided s (with_votes change (core_of n)) (part_row part (data_of n.parts)) part.answered
     ≡ strict_core s p from t body (core_of n)
@@ -184,7 +183,7 @@ vote_row s p from t body n part v raises staged notice vote ops change row none 
     (row ∙ ap (λ (e : Effect). tree_part s p from v raises e body st) effect
     ∙ ap (λ (b : Bool). tree_part s p from v b (voting vote items) body st) above)
     ∙ ap (λ (x : VoteChange). decided s (with_votes x c) o o.answered)
-    (is ∙ ap (λ (os : List SubOp). change_by t vote (wanted_by os) body c.refusals) asked)
+    (is ∙ ap (λ (os : List SubOp). change_by t vote os body c.refusals) asked)
     ∙ ap (λ (x : Core). decided s x o o.answered) (voted_vote t vote (asked_ops s body) body c)
     ∙ ap (λ (w : Vote). voted_core s p from t v w body c)
     (cast ∙ ap (λ (os : List SubOp). vote_of n.locks items t v os) asked)

@@ -1,5 +1,5 @@
 // A subtransaction of a strict tree votes, and a vote comes to its tree's home.
-ghost use Rattle.std.specs.Prelude.{◌≡◌, ◌<◌, length, [], IfOk, IsTrue};
+ghost use Rattle.std.specs.Prelude.{◌≡◌, ◌<◌, length, [], IfOk, IsTrue, OnOk};
 ghost use Rattle.item_versions.specs.Window.{in_window};
 ghost use Rattle.tree_home.specs.Homes.{misses};
 ghost use Rattle.tree_home.specs.Maps.{by_tree};
@@ -22,7 +22,7 @@ use tree_step::{
     asked_version, is_above, is_strict, plan_notice, plan_tree,
 };
 use tv_base::{NoMemory, SubNo, TreeNo};
-use tx_trees::Script;
+use tx_trees::{Script, SubOp};
 use world_model::NegativeVote;
 
 /// Of two noes that of the lesser number.
@@ -150,21 +150,27 @@ fn no_by(refusals: &Refusals, cause: Cause, body: &Body, scratch: &mut Scratch) 
     }
 }
 
-/// What a vote changes: a yes takes the locks that the scratch wants.
+/// What a vote changes: a yes takes the locks that the operations want.
 fn change_by(
     refusals: &Refusals,
     tree: TreeNo,
     vote: &Vote,
+    ops: &[SubOp],
     body: &Body,
     scratch: &mut Scratch,
-) -> VotePlan
-    ensures votes { votes_meant result scratch.new
-        ≡ change_by tree vote.now scratch.old.wanted body.now (by_tree refusals.now) }
-    ensures rest { scratch.new ≡ record scratch.old { refusal = scratch.new.refusal } }
+) -> Result<VotePlan, NoMemory>
+    requires { scratch.old.wanted ≡ [] }
+    ensures votes { IfOk result (λ votes. votes_meant votes scratch.new
+        ≡ change_by tree vote.now ops.now body.now (by_tree refusals.now)) }
+    ensures rest { OnOk result (scratch.new
+        ≡ record scratch.old { wanted = scratch.new.wanted; refusal = scratch.new.refusal }) }
 {
     match vote {
-        Vote::Yes(_) => VotePlan::Take(tree),
-        Vote::No(cause) => no_by(refusals, *cause.get(), body, scratch),
+        Vote::Yes(_) => {
+            push_wanted(&mut scratch.wanted, ops)?;
+            Ok(VotePlan::Take(tree))
+        }
+        Vote::No(cause) => Ok(no_by(refusals, *cause.get(), body, scratch)),
     }
 }
 
@@ -188,9 +194,8 @@ pub fn plan_vote(
 {
     let version = asked_version(letter, core.parts.turns.update);
     let ops = asked_ops(letter, script);
-    push_wanted(&mut scratch.wanted, ops)?;
     let vote = vote_on(alloc, &core.locks, &core.parts.items, tree, version, ops)?;
-    let votes = change_by(&core.refusals, tree, &vote, &letter.body, scratch);
+    let votes = change_by(&core.refusals, tree, &vote, ops, &letter.body, scratch)?;
     let raises = is_above(&core.parts.turns, version);
     let turn = SubTurn {
         within: InVersion { version, raises },

@@ -1,5 +1,5 @@
 -- What a vote changes. Private code alone cites these definitions.
-use Rattle.std.specs.Prelude.{Bool, if◌then◌else◌}
+use Rattle.std.specs.Prelude.{Bool, List, if◌then◌else◌}
 use Rattle.tv_base.specs.declared.numbers.SubNo.{SubNo}
 use Rattle.tv_base.specs.declared.numbers.TreeNo.{TreeNo}
 use Rattle.letter_types.specs.declared.bodies.Body.{Body}
@@ -9,10 +9,11 @@ use Rattle.letter_types.specs.declared.bodies.Notice.TheVariants as notices
 use Rattle.letter_types.specs.declared.votes.Cause.{Cause}
 use Rattle.letter_types.specs.declared.votes.Vote.{Vote}
 use Rattle.letter_types.specs.declared.votes.Vote.TheVariants as votes
-use Rattle.nc_locks.specs.Locks.{Wanted}
 use Rattle.tree_home.specs.Homes.{misses, open_trees}
 use Rattle.tree_home.specs.Maps.{by_tree}
+use Rattle.tx_trees.specs.declared.parts.SubOp.{SubOp}
 use Rattle.world_model.specs.Core.{Refusals, lesser}
+use Rattle.script_parts.specs.Wants.{wanted_by}
 use Rattle.tree_step.specs.declared.asked.Request.{Request}
 use Rattle.tree_step.specs.declared.core_change.VoteChange.{VoteChange}
 use Rattle.tree_step.specs.declared.core_change.VoteChange.TheVariants.{Stay, Take, Note}
@@ -36,10 +37,10 @@ abbrev pub no_by : Cause → Body → Refusals → VoteChange
 no_by cause (Root t) rs = noted_no t (record { 0 = 0 }) cause rs
 no_by cause _ rs = Stay
 
--- a yes takes the locks that are wanted
-abbrev pub change_by : TreeNo → Vote → Wanted → Body → Refusals → VoteChange
-change_by t (votes.Yes values) wanted body rs = Take t wanted
-change_by t (votes.No cause) wanted body rs = no_by cause body rs
+-- a yes takes the locks that the operations want
+abbrev pub change_by : TreeNo → Vote → List SubOp → Body → Refusals → VoteChange
+change_by t (votes.Yes values) ops body rs = Take t (wanted_by ops)
+change_by t (votes.No cause) ops body rs = no_by cause body rs
 
 -- the same of a request at its tree's home
 abbrev pub refusal_at : Request → Notice → NodeCore → VoteChange

@@ -1,4 +1,4 @@
-use Rattle.std.proofs.Common.{◌≡◌, ◌∙◌, ap, refl, subst, sym}
+use Rattle.std.proofs.Common.{◌∙◌, ap, subst, sym}
 use Rattle.letter_types.specs.Steps.{Out}
 use Rattle.tree_home.specs.HeldAnswers.{held_answers}
 use Rattle.tree_home.specs.Homes.{Gets, open_trees}
