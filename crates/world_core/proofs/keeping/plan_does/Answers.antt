@@ -10,7 +10,7 @@ use Rattle.node_keeping.specs.Meant.{IsPlanned}
 use Rattle.node_keeping.specs.State.{keeping_of}
 use Rattle.node_keeping.specs.declared.node_plan.NodePlan.{NodePlan}
 use Rattle.world_core.specs.inside.Bringing.{waking_out}
-use Rattle.world_core.proofs.Woken.{order_done, wake_done}
+use Rattle.world_core.proofs.Woken.{itself_done, not_order, not_wake, order_done, wake_done}
 use Rattle.world_core.proofs.keeping.plan_does.Goals as goal
 
 pub returns-in-Wake : goal.returns-in-Wake
@@ -34,3 +34,14 @@ returns-in-Order c =
     ∙ order_done c.in-Order.epoch c.in-Order.what c.in-Order.version c.args.letter.now c.args.brought.now (keeping_of n)
     o c.in-Order.is c.requires.brought.brings)
     c.plan_waking.ensures
+
+pub returns-in_default : goal.returns-in_default
+returns-in_default c =
+    let n = c.args.node.now in
+    let l = c.args.letter.now in
+    let o = core_prepared_row (core_meant c.args.plan c.args.scratch.now) (core_of n.core) in
+    subst (λ (out : Out KeepingNode). IfOk c.plan_waking-in_default.result
+    (λ (p : NodePlan). IsPlanned out n p c.plan_waking-in_default.new.scratch))
+    (itself_done l c.args.brought.now (keeping_of n) o (not_wake l.body c.in_default.not-Wake)
+    (not_order l.body c.in_default.not-Order) c.requires.brought.brings)
+    c.plan_waking-in_default.ensures
