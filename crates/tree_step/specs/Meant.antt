@@ -4,15 +4,14 @@ use Rattle.tv_base.specs.declared.numbers.SubNo.{SubNo}
 use Rattle.tv_base.specs.declared.numbers.TreeNo.{TreeNo}
 use Rattle.tv_base.specs.declared.numbers.Version.{Version}
 use Rattle.letter_types.specs.declared.entries.StepOut.{StepOut}
-use Rattle.letter_types.specs.Steps.{Out}
 use Rattle.tree_home.specs.Homes.{Gets}
 use Rattle.nc_locks.specs.declared.modes.Lock.{Lock}
 use Rattle.tree_home.specs.Maps.{by_tree}
-use Rattle.world_model.specs.Core.{Core, Refusals}
+use Rattle.world_model.specs.Core.{Refusals}
 use Rattle.world_model.specs.declared.refusal.NegativeVote.{NegativeVote}
 use Rattle.tree_step.specs.Changes.{IsDone, prepared_row}
 use Rattle.tree_step.specs.Core.{core_of}
-use Rattle.tree_step.specs.CoreChanges.{IsCoreDone, IsCoreStepOf, core_prepared_row, locks_with, refusals_with}
+use Rattle.tree_step.specs.CoreChanges.{IsCoreDone, core_prepared_row, locks_with, refusals_with}
 use Rattle.tree_step.specs.Node.{data_of}
 use Rattle.tree_step.specs.declared.node.NodeParts.{NodeParts}
 use Rattle.tree_step.specs.declared.change.HomeChange.{HomeChange}

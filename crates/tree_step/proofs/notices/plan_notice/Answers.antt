@@ -1,9 +1,8 @@
-use Rattle.std.proofs.Common.{◌≡◌, false, sym, subst}
+use Rattle.std.proofs.Common.{false, sym, subst}
 use Rattle.tree_step.specs.AtNode.{IsNotedPart}
 use Rattle.tree_step.specs.Meant.{home_at}
 use Rattle.tree_step.specs.declared.change.Change.TheVariants.{Tree}
 use Rattle.tree_step.specs.declared.change.TreePrepared.{TreePrepared}
-use Rattle.tree_step.specs.inside.Noting.{noting}
 use Rattle.tree_step.proofs.Noticed.{noted_part}
 use Rattle.tree_step.proofs.notices.plan_notice.Goals as goal
 

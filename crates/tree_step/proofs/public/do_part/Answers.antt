@@ -1,8 +1,8 @@
-use Rattle.std.proofs.Common.{◌≡◌, ◌+◌, ◌∙◌, ℕ, ap, arith, refl, subst, sym}
+use Rattle.std.proofs.Common.{◌+◌, ◌∙◌, ℕ, ap, arith, refl, subst, sym}
 use Rattle.letter_types.specs.declared.entries.StepOut.{StepOut}
 use Rattle.letter_types.specs.Steps.{made}
 use Rattle.tree_step.specs.Changes.{MayDo, after_change}
-use Rattle.tree_step.specs.Meant.{doing_meant, out_in, part_meant}
+use Rattle.tree_step.specs.Meant.{out_in, part_meant}
 use Rattle.tree_step.specs.Node.{data_of}
 use Rattle.tree_step.specs.declared.change.Change.{Change}
 use Rattle.tree_step.specs.declared.plan.Scratch.{Scratch}

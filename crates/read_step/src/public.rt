@@ -1,48 +1,53 @@
-ghost use Rattle.std.specs.Prelude.{◌≡◌, false, IfOk, IsTrue, OnErr, OnOk};
-ghost use Rattle.item_versions.specs.Table.{pending};
-ghost use Rattle.item_versions.specs.Window.{in_window, IsWindowedTable};
+// No run makes this call: a run plans a step of a whole node and does it apart.
+ghost use Rattle.std.specs.Prelude.{◌≡◌, [], false, IfOk, IsTrue, OnErr, OnOk};
+ghost use Rattle.item_versions.specs.Window.{in_window};
+ghost use Rattle.letter_types.specs.declared.bodies.Notice.TheVariants.{Did};
 ghost use Rattle.letter_types.specs.Steps.{made};
 ghost use Rattle.tree_step.specs.Changes.{IsDoneTwice};
 ghost use Rattle.tree_step.specs.Node.{data_of, IsInWindow, IsOf, IsReady, state_of};
 ghost use Rattle.tree_step.specs.AtNode.{IsDueAt};
 ghost use Rattle.read_step.specs.Rows.{read_at, read_done_at};
 
-use crate::steps::get_all;
+use crate::plan::get_values;
+use commute_ops::Values;
 use item_versions::ItemTable;
-use letter_types::{Letter, Step};
+use letter_types::{Letter, Notice, Step};
 use node_versions::Turns;
 use pair_counters::Counters;
 use std::alloc::Global;
 use std::mem;
 use tree_home::Homes;
 use tree_step::{
-    Effect, InVersion, NodeParts, asked_ops, asked_version, done_twice, prepare_tree, reply,
+    InVersion, NodeParts, SubTurn, asked_ops, asked_version, do_part, new_scratch, plan_tree,
 };
 use tv_base::{NoMemory, Version};
 use tx_trees::Script;
 
-/// Prepares the subtransaction that a letter asks for, with the answer to the client, and does it. Running out of memory leaves the node as it was.
+/// Plans the subtransaction that a letter asks for and that gets these values, with the answer to the client, and does
+/// it. Running out of memory leaves the node as it was.
 fn step_read(
     alloc: Global,
     node: &mut NodeParts,
     letter: &Letter,
     script: &Script,
     version: Version,
-    effect: Effect,
+    values: Values,
 ) -> Result<Step, NoMemory>
     requires ready { IsReady script.now letter.now.to.0 node.old }
     requires due { IsDueAt script.now letter.now node.old }
     requires near { IsTrue (in_window node.old.turns.low.0 version.0) }
-    requires fits { IsWindowedTable node.old.turns.low.0 (pending effect.staged node.old.items) }
-    ensures { IsDoneTwice (read_done_at script.now letter.now version effect node.old) node.old node.new result }
+    ensures { IsDoneTwice (read_done_at script.now letter.now version
+        (record { staged = []; notice = Did values }) node.old) node.old node.new result }
 {
     let within = InVersion {
         version,
         raises: false,
     };
-    let part = prepare_tree(alloc, node, letter, script, within, effect)?;
-    let prepared = reply(script, part)?;
-    let step = done_twice(alloc, node, prepared)?;
+    let notice = Notice::Did(values);
+    let turn = SubTurn { within, notice };
+    let mut scratch = new_scratch(alloc);
+    let part = plan_tree(alloc, node, letter, script, turn, &mut scratch)?;
+    let step = do_part(alloc, node, script, part, &mut scratch)?;
     Ok(step)
 }
 
@@ -71,7 +76,7 @@ pub fn run_read(
     ensures same_homes { OnErr result (homes.new ≡ homes.old) }
 {
     let version = asked_version(letter, turns.read);
-    let Some(effect) = get_all(alloc, items, version, asked_ops(letter, script))? else {
+    let Some(values) = get_values(alloc, items, version, asked_ops(letter, script))? else {
         return Ok(Step::still(alloc));
     };
     let mut node = NodeParts {
@@ -80,7 +85,7 @@ pub fn run_read(
         counters: mem::replace(counters, Counters::new(0)),
         homes: mem::replace(homes, Homes::new(alloc)),
     };
-    let step = step_read(alloc, &mut node, letter, script, version, effect);
+    let step = step_read(alloc, &mut node, letter, script, version, values);
     *counters = node.counters;
     *homes = node.homes;
     step
