@@ -8,15 +8,13 @@ ghost use Rattle.tree_step.specs.Node.{IsReady};
 ghost use Rattle.tree_step.specs.AtNode.{IsDueAt, IsTreePartAt};
 
 use crate::change::{Prepared, TreePrepared};
-use crate::flattening::flatten_part;
 use crate::lookups::ops_of;
 use crate::node::{Effect, NodeParts};
-use crate::plan::{PartPlan, Scratch};
+use crate::plan::{Doing, PartPlan, Scratch};
 use crate::steps::{prepare_root, prepare_sub};
-use item_versions::Staged;
+use crate::subs::{plan_root, plan_sub};
 use letter_types::{Body, Letter, Notice};
 use std::alloc::Global;
-use std::mem;
 use tv_base::{NoMemory, NodeNo, SubNo, TreeNo, Version};
 use tx_trees::{Script, SubOp};
 
@@ -110,7 +108,8 @@ pub fn prepare_tree(
     }
 }
 
-/// Plans the subtransaction that a letter asks for, which makes what is staged in the scratch, before the tree is answered.
+/// Plans the subtransaction that a letter asks for, and that makes what is staged in the scratch, before the tree is
+/// answered.
 pub fn plan_tree(
     alloc: Global,
     node: &NodeParts,
@@ -137,9 +136,29 @@ pub fn plan_tree(
       acts = scratch.new.acts;
     }) }
 {
-    let SubTurn { within, notice } = turn;
-    let staged = mem::replace(&mut scratch.staged, Staged::new(alloc));
-    let effect = Effect { staged, notice };
-    let part = prepare_tree(alloc, node, letter, script, within, effect)?;
-    Ok(flatten_part(part, scratch))
+    let version = turn.within.version;
+    match &letter.body {
+        Body::Root { tree } => {
+            let request = Request {
+                tree: *tree,
+                sub: SubNo(0),
+                version,
+                from: NodeNo(letter.to.0),
+            };
+            plan_root(alloc, node, script, request, turn.notice, scratch)
+        }
+        Body::Sub { tree, sub, .. } => {
+            let request = Request {
+                tree: *tree,
+                sub: *sub,
+                version,
+                from: NodeNo(letter.from.0),
+            };
+            plan_sub(alloc, node, script, request, turn, scratch)
+        }
+        _ => Ok(PartPlan {
+            doing: Doing::Still,
+            answered: None,
+        }),
+    }
 }

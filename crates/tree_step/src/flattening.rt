@@ -1,11 +1,11 @@
 // A step that was prepared is taken apart into a plan and a scratch.
 ghost use Rattle.std.specs.Prelude.{◌≡◌};
-ghost use Rattle.tree_step.specs.Meant.{core_meant, doing_meant, home_meant, holds_meant, part_meant, votes_meant};
+ghost use Rattle.tree_step.specs.Meant.{core_meant, doing_meant, home_meant, holds_meant, votes_meant};
 
-use crate::change::{Change, HomeChange, Prepared, TreeChange, TreePrepared};
+use crate::change::{Change, HomeChange, Prepared, TreeChange};
 use crate::core_change::{CorePrepared, HoldChange, VoteChange};
 use crate::counting::Counting;
-use crate::plan::{Doing, HoldPlan, HomePlan, PartPlan, Plan, Scratch, TreePlan, VotePlan};
+use crate::plan::{Doing, HoldPlan, HomePlan, Plan, Scratch, TreePlan, VotePlan};
 use letter_types::StepOut;
 use tree_home::Answered;
 use tv_base::{SubNo, TreeNo};
@@ -83,25 +83,6 @@ fn flatten_change(change: Change, scratch: &mut Scratch) -> Doing
         Change::Show(version) => Doing::Show(version),
         Change::Sweep(version) => Doing::Sweep(version),
     }
-}
-
-/// The plan that means this step of a tree's letter, with what takes memory put into the scratch.
-pub(crate) fn flatten_part(part: TreePrepared, scratch: &mut Scratch) -> PartPlan
-    ensures part { part_meant result scratch.new ≡ part }
-    ensures rest { scratch.new ≡ record scratch.old {
-      staged = scratch.new.staged;
-      values = scratch.new.values;
-      sent = scratch.new.sent;
-      acts = scratch.new.acts;
-    } }
-{
-    let TreePrepared { prepared, answered } = part;
-    let Prepared { change, out } = prepared;
-    let StepOut { sent, acts } = out;
-    scratch.sent = sent;
-    scratch.acts = acts;
-    let doing = flatten_change(change, scratch);
-    PartPlan { doing, answered }
 }
 
 /// What becomes of locks or noes.

@@ -17,9 +17,11 @@ mod node;
 mod node_core;
 mod notices;
 mod plan;
+mod public;
 mod refusals;
 mod replies;
 mod steps;
+mod subs;
 
 pub use asked::{InVersion, Request, SubTurn, asked_ops, asked_version, plan_tree, prepare_tree};
 pub use change::{Change, HomeChange, Prepared, TreeChange, TreePrepared, done, done_twice};
@@ -36,5 +38,6 @@ pub use plan::{
     Doing, HoldPlan, HomePlan, PartPlan, Plan, Scratch, TreePlan, VotePlan, new_scratch, take_out,
     wipe,
 };
+pub use public::do_part;
 pub use refusals::Refusals;
 pub use replies::{push_reply, reply};

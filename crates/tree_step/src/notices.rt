@@ -6,7 +6,7 @@ ghost use Rattle.pair_counters.specs.Rows.{counts_of};
 ghost use Rattle.tree_home.specs.Homes.{open_trees};
 ghost use Rattle.tree_step.specs.Changes.{home_after, MayHome};
 ghost use Rattle.world_model.specs.Notices.{answer_noted, homes_noted};
-ghost use Rattle.tree_step.specs.Meant.{part_meant};
+ghost use Rattle.tree_step.specs.Meant.{home_at, part_meant};
 ghost use Rattle.tree_step.specs.Node.{IsInWindow};
 ghost use Rattle.tree_step.specs.inside.Noting.{noting};
 ghost use Rattle.tree_step.specs.AtNode.{IsNotedPart};
@@ -14,9 +14,8 @@ ghost use Rattle.tree_step.specs.AtNode.{IsNotedPart};
 use crate::asked::Request;
 use crate::change::{Change, HomeChange, Prepared, TreeChange, TreePrepared};
 use crate::counting::Counting;
-use crate::flattening::flatten_part;
 use crate::node::NodeParts;
-use crate::plan::{PartPlan, Scratch};
+use crate::plan::{Doing, HomePlan, PartPlan, Scratch, TreePlan};
 use commute_ops::{Values, copy_values};
 use item_versions::Staged;
 use letter_types::StepOut;
@@ -96,6 +95,32 @@ pub fn prepare_notice(
     Ok(noting(alloc, request, home, answered))
 }
 
+/// What the home does for a notice of these values, of which a copy is noted if it is taken down, and what the tree is
+/// answered then.
+#[tactic(auto, using(crate::proofs::Noticed::noticed))]
+fn home_for(
+    alloc: Global,
+    homes: &Homes,
+    request: Request,
+    values: &Values,
+    noted: &mut Values,
+) -> Result<(HomePlan, Option<Answered>), NoMemory>
+    ensures after { IfOk result (λ r. home_after (home_at request.tree request.sub noted.new r.0) (open_trees homes.now)
+        ≡ homes_noted request.tree request.sub values.now (open_trees homes.now)) }
+    ensures answered { IfOk result (λ r. r.1
+        ≡ answer_noted request.tree request.sub values.now (open_trees homes.now)) }
+    ensures may { IfOk result (λ r. MayHome (home_at request.tree request.sub noted.new r.0) (open_trees homes.now)) }
+{
+    match homes.would_answer(request.tree, request.sub, values)? {
+        Prospect::NotMissing => Ok((HomePlan::Stay, None)),
+        Prospect::Noted => {
+            *noted = copy_values(alloc, values)?;
+            Ok((HomePlan::Note, None))
+        }
+        Prospect::Answered(answer) => Ok((HomePlan::Forget, Some(answer))),
+    }
+}
+
 /// Plans that a tree's home takes a notice of these values down and counts its completion, before the tree is answered,
 /// which it is where no notice is missing any more. A notice that isn't missing is counted and changes nothing else.
 pub fn plan_notice(
@@ -123,6 +148,28 @@ pub fn plan_notice(
       acts = scratch.new.acts;
     }) }
 {
-    let part = prepare_notice(alloc, node, request, values)?;
-    Ok(flatten_part(part, scratch))
+    let (home, answered) = home_for(alloc, &node.homes, request, values, &mut scratch.values)?;
+    let Request {
+        tree,
+        sub,
+        version,
+        from,
+    } = request;
+    let counting = Counting {
+        version,
+        root: false,
+        from,
+        asked: 0,
+    };
+    let plan = TreePlan {
+        tree,
+        sub,
+        raises: false,
+        counting,
+        home,
+    };
+    Ok(PartPlan {
+        doing: Doing::Tree(plan),
+        answered,
+    })
 }

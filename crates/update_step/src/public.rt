@@ -1,3 +1,4 @@
+// No run makes this call: a run plans a step of a whole node and does it apart.
 ghost use Rattle.std.specs.Prelude.{◌≡◌, IfOk, OnErr, OnOk};
 ghost use Rattle.letter_types.specs.Steps.{made};
 ghost use Rattle.tree_step.specs.Changes.{IsDoneTwice};
@@ -5,7 +6,7 @@ ghost use Rattle.tree_step.specs.Node.{data_of, IsInWindow, IsOf, IsReady, state
 ghost use Rattle.tree_step.specs.AtNode.{IsDueAt};
 ghost use Rattle.update_step.specs.Rows.{update_at};
 
-use crate::steps::prepare_update;
+use crate::plan::plan_update;
 use item_versions::ItemTable;
 use letter_types::{Letter, Step};
 use node_versions::Turns;
@@ -13,11 +14,12 @@ use pair_counters::Counters;
 use std::alloc::Global;
 use std::mem;
 use tree_home::Homes;
-use tree_step::{NodeParts, done_twice};
+use tree_step::{NodeParts, do_part, new_scratch};
 use tv_base::NoMemory;
 use tx_trees::Script;
 
-/// Prepares the step and does it. Running out of memory leaves the node as it was.
+/// Plans the step, with the answer to the client, and does it. A letter whose operations may not be made changes and
+/// sends nothing. Running out of memory leaves the node as it was.
 fn step_update(
     alloc: Global,
     node: &mut NodeParts,
@@ -28,8 +30,11 @@ fn step_update(
     requires due { IsDueAt script.now letter.now node.old }
     ensures { IsDoneTwice (update_at script.now letter.now node.old) node.old node.new result }
 {
-    let prepared = prepare_update(alloc, node, letter, script)?;
-    let step = done_twice(alloc, node, prepared)?;
+    let mut scratch = new_scratch(alloc);
+    let Some(part) = plan_update(alloc, node, letter, script, &mut scratch)? else {
+        return Ok(Step::still(alloc));
+    };
+    let step = do_part(alloc, node, script, part, &mut scratch)?;
     Ok(step)
 }
 
