@@ -5,6 +5,7 @@ use Rattle.letter_types.specs.declared.acts.Act.{Act}
 use Rattle.letter_types.specs.declared.acts.Act.TheVariants as acts
 use Rattle.letter_types.specs.declared.bodies.Body.TheVariants.{Decide}
 use Rattle.letter_types.specs.declared.entries.Outgoing.{Outgoing}
+use Rattle.letter_types.specs.declared.entries.StepOut.{StepOut}
 use Rattle.nc_locks.specs.Locks.{Wanted}
 use Rattle.tree_home.specs.HeldAnswers.{held_answers}
 use Rattle.tree_home.specs.declared.homes.Answered.{Answered}
