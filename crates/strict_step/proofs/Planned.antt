@@ -5,6 +5,7 @@ use Rattle.letter_types.specs.declared.acts.Act.{Act}
 use Rattle.letter_types.specs.declared.acts.Act.TheVariants as acts
 use Rattle.letter_types.specs.declared.bodies.Body.TheVariants.{Decide}
 use Rattle.letter_types.specs.declared.entries.Outgoing.{Outgoing}
+use Rattle.letter_types.specs.declared.entries.StepOut.{StepOut}
 use Rattle.nc_locks.specs.Locks.{Wanted}
 use Rattle.tree_home.specs.HeldAnswers.{held_answers}
 use Rattle.tree_home.specs.declared.homes.Answered.{Answered}
@@ -67,7 +68,8 @@ plan_of d v h = record { doing = d; votes = v; holds = h; epoch = None }
 -- a step with other letters
 abbrev sending : TreePrepared → VoteChange → List Outgoing → CorePrepared
 sending p votes sent =
-    prepared_of (record { change = p.prepared.change; out = record { sent = sent; acts = p.prepared.out.acts } }) votes Stay
+    let out : StepOut = record { sent = sent; acts = p.prepared.out.acts } in
+    prepared_of (record { change = p.prepared.change; out = out }) votes Stay
 
 -- an answer goes behind what is sent
 answered_with : (s : ScriptData) (p : TreePrepared) (votes : VoteChange) (n : NodeCore) (sent : List Outgoing)
@@ -120,9 +122,9 @@ pub undecided : (s : ScriptData) (p : TreePrepared) (votes : VoteChange) (n : No
     → MayDo p.prepared.change p.prepared.out.sent n.parts → IsApartAfter p n → p.answered ≡ None
     → IsDecidedStep s votes p n (prepared_of p.prepared votes Stay)
 undecided s p votes n may apart none =
-    subst (λ (o : Option Answered). IsCoreStepOf (decided s (with_votes votes (core_of n)) (part_row p (data_of n.parts)) o) n
-    (prepared_of p.prepared votes Stay))
-    (sym none)
+    let c = with_votes votes (core_of n) in
+    let o = part_row p (data_of n.parts) in
+    subst (λ (a : Option Answered). IsCoreStepOf (decided s c o a) n (prepared_of p.prepared votes Stay)) (sym none)
     (record { row = refl; may = record { parts = may; holds = tt; asks = tt; apart = apart } })
 
 -- what the scratch has once it is decided
@@ -144,12 +146,13 @@ decided_planned s part v n a commit x told sent done may counted apart decide is
     let p = part_meant part x in
     let votes = votes_meant v x in
     let y = deciding x a told sent done in
+    let c = with_votes votes (core_of n) in
+    let o = part_row p (data_of n.parts) in
     let can : IsDecidable s p n a = subst (λ (o : Option Answered). MayDecide s p n o) is decide in
     let change = sym (same_doing part.doing x y refl refl) in
     let noted = sym (same_votes v x y refl refl) in
     subst (λ (q : CorePrepared). IsDecidedStep s votes p n q)
     (λ i. prepared_of (record { change = change i; out = out_in y }) (noted i) (Hold a told))
-    (subst (λ (o : Option Answered). IsCoreStepOf (decided s (with_votes votes (core_of n)) (part_row p (data_of n.parts)) o) n
-    (decided_change p votes a told (out_in y)))
-    (sym is)
-    (decided_step s p votes n a commit told (out_in y) may counted apart can few (some can.there) known names letters acted))
+    (subst (λ (b : Option Answered). IsCoreStepOf (decided s c o b) n (decided_change p votes a told (out_in y))) (sym is)
+    (decided_step s p votes n a commit told (out_in y) may counted apart can few (some can.there) known names letters
+    acted))

@@ -81,7 +81,7 @@ fn push_tree_releases(sent: &mut Letters, script: &Script, tree: TreeNo) -> Resu
 }
 
 /// Plans a step of an update or a read tree's letter, with what is sent where the tree is answered, behind what was
-/// sent before: its marks go, and the client hears.
+/// sent before: that its marks go, and the answer to the client.
 pub fn plan_answered(
     core: &NodeCore,
     script: &Script,
@@ -140,8 +140,8 @@ fn push_decides(sent: &mut Letters, decision: Decision, nodes: &[NodeNo]) -> Res
     Ok(())
 }
 
-/// Plans a step of a strict tree's letter, with the decision where all its votes are there, behind what was sent before:
-/// each node that the tree visits is told, and the answer is held until all have told that they applied it.
+/// Plans a step of a strict tree's letter, with the decision where all its votes are there. Each node that the tree
+/// visits is told, behind what was sent before, and the answer is held until all have told that they applied it.
 pub(crate) fn plan_decided(
     core: &NodeCore,
     script: &Script,

@@ -11,8 +11,8 @@ returns c =
     let s = c.args.script.now in
     let x = c.args.scratch.now in
     let a = c.args.part.answered in
-    answered_planned s c.args.part c.args.votes c.args.core.now x c.push_reply.new.sent c.requires.may c.requires.counted
-    c.requires.apart
+    answered_planned s c.args.part c.args.votes c.args.core.now x c.push_reply.new.sent c.requires.may
+    c.requires.counted c.requires.apart
     (c.in_ok-push_reply.ensures.ok
     ∙ ap (λ (os : List Outgoing). os ++ reply_letters c.client_of.result.0 a) c.in_ok-push_releases.ensures
     ∙ ap (λ (to : ActorNo). x.sent ++ release_letters s a ++ reply_letters to.0 a) c.client_of.ensures)

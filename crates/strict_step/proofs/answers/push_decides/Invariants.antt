@@ -7,4 +7,5 @@ use Rattle.strict_step.proofs.answers.push_decides.Given as goal
 -- a letter to each node so far
 abbrev pub invariant-loop-node : goal.invariant-loop-node
 invariant-loop-node l = l.sent ≡ l.initial.sent
-    ++ to_each (Decide l.decision.tree l.decision.version l.decision.commit) (numbers_of_nodes (take l.node-index l.nodes))
+    ++ to_each (Decide l.decision.tree l.decision.version l.decision.commit)
+    (numbers_of_nodes (take l.node-index l.nodes))

@@ -31,7 +31,8 @@ returns-then-not-is_strict c =
     let r = c.args.request in
     let n = c.args.core.now in
     let row = c.in_ok-part.ensures.part.row
-    ∙ ap (λ (vs : Gets). note_part r.from.0 r.tree.0 r.sub.0 r.version.0 vs (data_of n.parts)) c.values_of-values.ensures in
+    ∙ ap (λ (vs : Gets). note_part r.from.0 r.tree.0 r.sub.0 r.version.0 vs (data_of n.parts))
+    c.values_of-values.ensures in
     subst (λ (o : Out Core). IsCoreStepOf o n (core_meant c.in_ok-plan.plan c.plan_answered.new.scratch))
     (note_answered c.args.script.now r.from.0 r.tree r.sub r.version c.args.notice.now (core_of n)
     (part_row (part_meant c.in_ok-part.part c.plan_notice.new.scratch) (data_of n.parts))
@@ -53,7 +54,8 @@ plan_decided-requires-clause-decide c =
     let r = c.args.request in
     let n = c.args.core.now in
     let row = c.in_ok-part-2.ensures.part.row
-    ∙ ap (λ (vs : Gets). note_part r.from.0 r.tree.0 r.sub.0 r.version.0 vs (data_of n.parts)) c.values_of-values.ensures in
+    ∙ ap (λ (vs : Gets). note_part r.from.0 r.tree.0 r.sub.0 r.version.0 vs (data_of n.parts))
+    c.values_of-values.ensures in
     note_decides c.args.script.now r.from.0 r.tree r.sub r.version (values_of c.args.notice.now) n
     (part_meant c.in_ok-part-2.part c.plan_notice-2.new.scratch)
     c.requires.ready.parts.script c.requires.there (sym c.if-not-is_strict.ensures) c.requires.decides
@@ -70,7 +72,8 @@ returns c =
     let n = c.args.core.now in
     let x = c.plan_notice-2.new.scratch in
     let row = c.in_ok-part-2.ensures.part.row
-    ∙ ap (λ (vs : Gets). note_part r.from.0 r.tree.0 r.sub.0 r.version.0 vs (data_of n.parts)) c.values_of-values.ensures in
+    ∙ ap (λ (vs : Gets). note_part r.from.0 r.tree.0 r.sub.0 r.version.0 vs (data_of n.parts))
+    c.values_of-values.ensures in
     let votes = same_votes c.refused_there-votes.result c.refused_there-votes.new.scratch x
     (ap (λ (w : Scratch). w.wanted) c.in_ok-part-2.ensures.rest)
     (ap (λ (w : Scratch). w.refusal) c.in_ok-part-2.ensures.rest)

@@ -89,6 +89,6 @@ returns c =
     subst (λ (o : Out Core). IsCoreStepOf o n (core_meant c.in_ok-plan.plan c.plan_decided.new.scratch))
     (vote_row s l.to.0 l.from.0 c.args.tree l.body n (part_meant c.in_ok-part.part x) c.asked_version-version.result
     c.is_above-raises.result before.staged c.notice_by.result c.in_ok-vote.vote c.asked_ops-ops.result.now
-    (votes_meant c.in_ok-votes.votes x) c.in_ok-part.ensures.part.row none c.notice_by.ensures c.is_above-raises.ensures votes c.asked_ops-ops.ensures
-    c.in_ok-vote.ensures c.asked_version-version.ensures)
+    (votes_meant c.in_ok-votes.votes x) c.in_ok-part.ensures.part.row none c.notice_by.ensures
+    c.is_above-raises.ensures votes c.asked_ops-ops.ensures c.in_ok-vote.ensures c.asked_version-version.ensures)
     c.in_ok-plan.ensures
