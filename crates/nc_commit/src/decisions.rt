@@ -1,5 +1,5 @@
 // What a node makes of the decision on a strict tree.
-ghost use Rattle.std.specs.Prelude.{◌≡◌, ◌++◌, IfOk, IsTrue, OnErr, OnOk};
+ghost use Rattle.std.specs.Prelude.{◌≡◌, ◌++◌, [], IfOk, IsTrue, OnErr, OnOk};
 ghost use Rattle.item_versions.specs.Table.{item_in, pending};
 ghost use Rattle.world_model.specs.Named.{is_strict_at};
 ghost use Rattle.script_parts.specs.Deeds.{after_deed, overwrites};
@@ -43,31 +43,34 @@ pub fn apply_decision(
     ensures locks_stay { OnErr result (locks.new ≡ locks.old) }
     ensures items_stay { OnErr result (items.new ≡ items.old) }
 {
-    let staged = stage_decision(alloc, items, decision, script, node)?;
+    let mut staged = Staged::new(alloc);
+    stage_decided(alloc, items, &mut staged, decision, script, node)?;
     items.put_staged(staged);
     locks.free(decision.tree);
     Ok(())
 }
 
-/// The items as a decision makes them at a node. The table takes them without memory.
-pub fn stage_decision(
+/// Stages the items as a decision makes them at a node, where nothing is staged. The table takes them without memory.
+pub fn stage_decided(
     alloc: Global,
     items: &ItemTable,
+    staged: &mut Staged,
     decision: Decision,
     script: &Script,
     node: NodeNo,
-) -> Result<Staged, NoMemory>
-    requires { IsTrue (may_apply_decision script.now node.0 decision items.now) }
-    ensures { IfOk result (λ staged. pending staged items.now ≡ decided_in script.now node.0 decision items.now) }
+) -> Result<(), NoMemory>
+    requires can { IsTrue (may_apply_decision script.now node.0 decision items.now) }
+    requires none { staged.old ≡ [] }
+    ensures { OnOk result (pending staged.new items.now ≡ decided_in script.now node.0 decision items.now) }
 {
     if !decision.commit {
-        return Ok(Staged::new(alloc));
+        return Ok(());
     }
     // The reader says that the script is valid.
     let _trees = script.trees();
     let ops = ops_at(alloc, script.subs_of(decision.tree), node)?;
-    let staged = stage_all(alloc, items, decision.version, &ops)?;
-    Ok(staged)
+    stage_all(items, staged, decision.version, &ops)?;
+    Ok(())
 }
 
 /// Whether a decision may be applied at a node: its tree is a strict tree of the script, and on a commit the item of
@@ -168,22 +171,22 @@ fn push_all(ops: &mut Vec<SubOp>, more: &[SubOp]) -> Result<(), NoMemory>
     Ok(())
 }
 
-/// The items after the sets and draws among the operations, of which no two are on one item.
+/// Stages the items after the sets and draws among the operations, of which no two are on one item.
 fn stage_all(
-    alloc: Global,
     items: &ItemTable,
+    staged: &mut Staged,
     v: Version,
     ops: &[SubOp],
-) -> Result<Staged, NoMemory>
+) -> Result<(), NoMemory>
     requires once { AreOnce ops.now }
     requires can { IsTrue (can_apply v ops.now items.now) }
-    ensures { IfOk result (λ staged. pending staged items.now ≡ applied_in v ops.now items.now) }
+    requires none { staged.old ≡ [] }
+    ensures { OnOk result (pending staged.new items.now ≡ applied_in v ops.now items.now) }
 {
-    let mut staged = Staged::new(alloc);
     for op in ops {
-        stage_op(items, &mut staged, v, op)?;
+        stage_op(items, staged, v, op)?;
     }
-    Ok(staged)
+    Ok(())
 }
 
 /// Stages a set or a draw of an item of which nothing is staged yet.

@@ -4,5 +4,5 @@
 mod decisions;
 mod votes;
 
-pub use decisions::{Decision, apply_decision, may_apply_decision, stage_decision};
-pub use votes::{vote, vote_on, wanted_by};
+pub use decisions::{Decision, apply_decision, may_apply_decision, stage_decided};
+pub use votes::{push_wanted, vote, vote_on};

@@ -1,7 +1,8 @@
 // How a subtransaction of a strict tree votes.
-ghost use Rattle.std.specs.Prelude.{◌≡◌, IfOk, Some};
+ghost use Rattle.std.specs.Prelude.{◌≡◌, [], IfOk, OnOk, Some};
 ghost use Rattle.std.specs.Option.{option_copied};
 ghost use Rattle.letter_types.specs.declared.votes.Vote.TheVariants.{No};
+ghost use Rattle.nc_locks.specs.Locks.{first_where, is_in_way, met_by, met_in};
 ghost use Rattle.world_model.specs.Reads.{gets, got_by_deed, seen_in};
 ghost use Rattle.script_parts.specs.Deeds.{found_short, overwrites};
 ghost use Rattle.letter_types.specs.Causes.{short_cause};
@@ -10,9 +11,9 @@ ghost use Rattle.nc_commit.specs.Votes.{greatest_version, mode_wanted, newer_at,
 use commute_ops::{Value, Values};
 use item_versions::{Item, ItemTable};
 use letter_types::{Boxed, Cause, Vote};
-use nc_locks::{Locks, Mode, WantedLocks};
+use nc_locks::{Locks, Met, Mode, WantedLocks};
 use std::alloc::Global;
-use tv_base::{ItemNo, NoMemory, Seq, TreeNo, Version};
+use tv_base::{ItemNo, NoMemory, TreeNo, Version};
 use tx_trees::{Deed, Sub, SubOp};
 
 /// How a subtransaction of a strict tree votes in version `version`. It looks at its operations in order, three times:
@@ -44,8 +45,7 @@ pub fn vote_on(
 ) -> Result<Vote, NoMemory>
     ensures { IfOk result (λ vote. vote ≡ vote_of locks.now items.now tree version ops.now) }
 {
-    let wanted = wanted_by(alloc, ops)?;
-    if let Some(met) = locks.met(tree, wanted.items()) {
+    if let Some(met) = conflict(locks, tree, ops) {
         let cause = Cause::Conflict {
             item: met.item,
             holder: met.holder,
@@ -62,6 +62,26 @@ pub fn vote_on(
     Ok(Vote::Yes(values))
 }
 
+/// What the first of the operations meets whose lock conflicts with one of another tree.
+fn conflict(locks: &Locks, tree: TreeNo, ops: &[SubOp]) -> Option<Met>
+    ensures { result ≡ met_in tree (wanted_by ops.now) locks.now }
+{
+    for op in ops {
+        let met = conflict_at(locks, tree, op);
+        if met.is_some() {
+            return met;
+        }
+    }
+    None
+}
+
+fn conflict_at(locks: &Locks, tree: TreeNo, op: &SubOp) -> Option<Met>
+    ensures { result ≡ met_by (first_where (is_in_way tree op.now.item (mode_wanted op.now.deed)) locks.now) }
+{
+    let wanted = [(op.item, mode_wanted(&op.deed))];
+    locks.met(tree, &wanted)
+}
+
 /// A no for this cause.
 fn no(alloc: Global, cause: Cause) -> Result<Vote, NoMemory>
     ensures { IfOk result (λ vote. vote ≡ No cause) }
@@ -70,15 +90,15 @@ fn no(alloc: Global, cause: Cause) -> Result<Vote, NoMemory>
     Ok(Vote::No(cause))
 }
 
-/// The locks that the operations of a strict tree want.
-pub fn wanted_by(alloc: Global, ops: &[SubOp]) -> Result<WantedLocks, NoMemory>
-    ensures { IfOk result (λ wanted. wanted ≡ wanted_by ops.now) }
+/// Adds the locks that the operations of a strict tree want.
+pub fn push_wanted(wanted: &mut WantedLocks, ops: &[SubOp]) -> Result<(), NoMemory>
+    requires { wanted.old ≡ [] }
+    ensures { OnOk result (wanted.new ≡ wanted_by ops.now) }
 {
-    let mut wanted = Seq::with_capacity(alloc, ops.len())?;
     for op in ops {
         wanted.push((op.item, mode_wanted(&op.deed)))?;
     }
-    Ok(wanted)
+    Ok(())
 }
 
 /// How a deed of a strict tree locks its item: a get looks at it, and a set or a draw holds it.

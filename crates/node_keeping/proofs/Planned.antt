@@ -18,8 +18,11 @@ use Rattle.tree_step.specs.Due.{is_due}
 use Rattle.tree_step.specs.Node.{data_of}
 use Rattle.tree_step.specs.Core.{core_of}
 use Rattle.tree_step.specs.declared.node_core.NodeCore.{NodeCore}
+use Rattle.tree_step.specs.declared.plan.Scratch.{Scratch}
 use Rattle.node_keeping.specs.Plans.{IsPlanBy, IsPlanOf, IsPlanWhere}
+use Rattle.node_keeping.specs.declared.plans.CoreChoice.{CoreChoice}
 use Rattle.node_keeping.specs.declared.plans.CorePlan.{CorePlan}
+use Rattle.node_keeping.specs.Choices.{IsChoiceOfKind, IsChoiceOfTree, IsDueChoice, choice_meant}
 use Rattle.node_keeping.specs.Apt.{IsOwnPlan, apt_by, makes_by, tree_apt}
 use Rattle.node_keeping.proofs.Aptness.{own_apt, root_apt, sub_apt}
 
@@ -34,12 +37,14 @@ plan_one s l n body test plan is same planned =
     subst (λ (b : Body). IsPlanHere s l n b (apt_by s l.to.0 l.from.0 (core_of n) b) plan) (sym is)
     (subst (λ (x : Bool). IsPlanHere s l n body x plan) same planned)
 
-pub plan_result : (s : ScriptData) (l : Letter) (n : NodeCore) (body : Body) (test : Bool) (r : Result CorePlan NoMemory)
-    → l.body ≡ body → test ≡ apt_by s l.to.0 l.from.0 (core_of n) body → IfOk r (IsPlanHere s l n body test)
-    → IfOk r (IsOwnPlan s l n)
-plan_result s l n body test r is same planned =
-    subst (λ (b : Body). IfOk r (IsPlanHere s l n b (apt_by s l.to.0 l.from.0 (core_of n) b))) (sym is)
-    (subst (λ (x : Bool). IfOk r (IsPlanHere s l n body x)) same planned)
+pub plan_result : (s : ScriptData) (l : Letter) (n : NodeCore) (x : Scratch) (body : Body) (test : Bool)
+    (r : Result CoreChoice NoMemory) → l.body ≡ body → test ≡ apt_by s l.to.0 l.from.0 (core_of n) body
+    → IfOk r (λ (c : CoreChoice). IsPlanHere s l n body test (choice_meant c x))
+    → IfOk r (λ (c : CoreChoice). IsOwnPlan s l n (choice_meant c x))
+plan_result s l n x body test r is same planned =
+    subst (λ (b : Body). IfOk r (λ (c : CoreChoice).
+    IsPlanHere s l n b (apt_by s l.to.0 l.from.0 (core_of n) b) (choice_meant c x))) (sym is)
+    (subst (λ (t : Bool). IfOk r (λ (c : CoreChoice). IsPlanHere s l n body t (choice_meant c x))) same planned)
 
 -- two tests of which the first holds
 pub first_holds : (a b : Bool) → a ≡ true → (a && b) ≡ b
@@ -73,38 +78,48 @@ abbrev IsTreePlan : ScriptData → Letter → NodeCore → TreeNo → Body → B
 IsTreePlan s l n t body test kind plan =
     IsPlanBy test (kept_by_kind s (core_of n) t body kind) (core_by_kind s l.to.0 l.from.0 t body kind (core_of n)) n plan
 
-pub tree_plan : (s : ScriptData) (l : Letter) (n : NodeCore) (t : TreeNo) (kind : Option TreeKind)
-    (r : Result CorePlan NoMemory) → kind ≡ tree_kind_at s t.0
+-- the same of a choice and a scratch
+abbrev IsTreeChoice : ScriptData → Letter → NodeCore → Scratch → TreeNo → Body → Bool → Option TreeKind → CoreChoice → Type 0
+IsTreeChoice s l n x t body test kind choice = IsTreePlan s l n t body test kind (choice_meant choice x)
+
+-- one of this kind
+pub kind_plan : (s : ScriptData) (l : Letter) (n : NodeCore) (x : Scratch) (t : TreeNo) (kind : Option TreeKind)
+    (r : Result CoreChoice NoMemory) → kind ≡ tree_kind_at s t.0 → IfOk r (IsChoiceOfKind s l t kind n x)
+    → IfOk r (IsDueChoice s l t n x)
+kind_plan s l n x t kind r is planned =
+    subst (λ (k : Option TreeKind). IfOk r (IsChoiceOfKind s l t k n x)) is planned
+
+-- one that is due
+pub tree_plan : (s : ScriptData) (l : Letter) (n : NodeCore) (x : Scratch) (t : TreeNo) (r : Result CoreChoice NoMemory)
     → true ≡ (is_due s l.to.0 (data_of n.parts) l.from.0 l.body && is_unheld l.body (held_answers n.parts.homes))
-    → IfOk r (IsTreePlan s l n t l.body (makes_by s (data_of n.parts) l.body kind) kind)
-    → IfOk r (IsTreePlan s l n t l.body (tree_apt s l.to.0 l.from.0 (core_of n) t l.body) (tree_kind_at s t.0))
-tree_plan s l n t kind r is free planned =
-    subst (λ (x : Bool). IfOk r (IsTreePlan s l n t l.body x (tree_kind_at s t.0)))
+    → IfOk r (IsDueChoice s l t n x) → IfOk r (IsChoiceOfTree s l t n x)
+tree_plan s l n x t r free planned =
+    subst (λ (b : Bool). IfOk r (IsTreeChoice s l n x t l.body b (tree_kind_at s t.0)))
     (is_free (is_due s l.to.0 (data_of n.parts) l.from.0 l.body) (is_unheld l.body (held_answers n.parts.homes))
-    (makes_by s (data_of n.parts) l.body (tree_kind_at s t.0)) free)
-    (subst (λ (x : Option TreeKind). IfOk r (IsTreePlan s l n t l.body (makes_by s (data_of n.parts) l.body x) x)) is planned)
+    (makes_by s (data_of n.parts) l.body (tree_kind_at s t.0)) free) planned
 
-pub root_plan : (s : ScriptData) (l : Letter) (n : NodeCore) (t : TreeNo) (r : Result CorePlan NoMemory) → l.body ≡ Root t
-    → IfOk r (IsTreePlan s l n t l.body (tree_apt s l.to.0 l.from.0 (core_of n) t l.body) (tree_kind_at s t.0))
-    → IfOk r (IsOwnPlan s l n)
-root_plan s l n t r is planned =
-    plan_result s l n (Root t) (tree_apt s l.to.0 l.from.0 (core_of n) t (Root t)) r is
+pub root_plan : (s : ScriptData) (l : Letter) (n : NodeCore) (x : Scratch) (t : TreeNo) (r : Result CoreChoice NoMemory)
+    → l.body ≡ Root t → IfOk r (IsChoiceOfTree s l t n x)
+    → IfOk r (λ (c : CoreChoice). IsOwnPlan s l n (choice_meant c x))
+root_plan s l n x t r is planned =
+    plan_result s l n x (Root t) (tree_apt s l.to.0 l.from.0 (core_of n) t (Root t)) r is
     (root_apt s l.to.0 l.from.0 (core_of n) t)
-    (subst (λ (b : Body). IfOk r (IsTreePlan s l n t b (tree_apt s l.to.0 l.from.0 (core_of n) t b) (tree_kind_at s t.0)))
-    is planned)
+    (subst (λ (b : Body). IfOk r
+    (IsTreeChoice s l n x t b (tree_apt s l.to.0 l.from.0 (core_of n) t b) (tree_kind_at s t.0))) is planned)
 
-pub sub_plan : (s : ScriptData) (l : Letter) (n : NodeCore) (t : TreeNo) (k : SubNo) (v : Version)
-    (r : Result CorePlan NoMemory) → l.body ≡ SubLetter t k v
-    → IfOk r (IsTreePlan s l n t l.body (tree_apt s l.to.0 l.from.0 (core_of n) t l.body) (tree_kind_at s t.0))
-    → IfOk r (IsOwnPlan s l n)
-sub_plan s l n t k v r is planned =
-    plan_result s l n (SubLetter t k v) (tree_apt s l.to.0 l.from.0 (core_of n) t (SubLetter t k v)) r is
+pub sub_plan : (s : ScriptData) (l : Letter) (n : NodeCore) (x : Scratch) (t : TreeNo) (k : SubNo) (v : Version)
+    (r : Result CoreChoice NoMemory) → l.body ≡ SubLetter t k v → IfOk r (IsChoiceOfTree s l t n x)
+    → IfOk r (λ (c : CoreChoice). IsOwnPlan s l n (choice_meant c x))
+sub_plan s l n x t k v r is planned =
+    plan_result s l n x (SubLetter t k v) (tree_apt s l.to.0 l.from.0 (core_of n) t (SubLetter t k v)) r is
     (sub_apt s l.to.0 l.from.0 (core_of n) t k v)
-    (subst (λ (b : Body). IfOk r (IsTreePlan s l n t b (tree_apt s l.to.0 l.from.0 (core_of n) t b) (tree_kind_at s t.0)))
-    is planned)
+    (subst (λ (b : Body). IfOk r
+    (IsTreeChoice s l n x t b (tree_apt s l.to.0 l.from.0 (core_of n) t b) (tree_kind_at s t.0))) is planned)
 
 -- a plan of a letter that the script's coordinator has
-pub own_plan : (s : ScriptData) (l : Letter) (n : NodeCore) (r : Result CorePlan NoMemory)
-    → suits_coordinator s l.body ≡ true → IfOk r (IsOwnPlan s l n) → IfOk r (IsPlanOf s l n)
-own_plan s l n r own planned =
-    subst (λ (x : Bool). IfOk r (λ (plan : CorePlan). IsPlanWhere x s l n plan)) (own_apt s l.to.0 (core_of n) l own) planned
+pub own_plan : (s : ScriptData) (l : Letter) (n : NodeCore) (x : Scratch) (r : Result CoreChoice NoMemory)
+    → suits_coordinator s l.body ≡ true → IfOk r (λ (c : CoreChoice). IsOwnPlan s l n (choice_meant c x))
+    → IfOk r (λ (c : CoreChoice). IsPlanOf s l n (choice_meant c x))
+own_plan s l n x r own planned =
+    subst (λ (b : Bool). IfOk r (λ (c : CoreChoice). IsPlanWhere b s l n (choice_meant c x)))
+    (own_apt s l.to.0 (core_of n) l own) planned

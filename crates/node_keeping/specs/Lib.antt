@@ -6,3 +6,4 @@ pub mod inside
 pub mod Plans
 pub mod Apt
 pub mod Meeting
+pub mod Choices

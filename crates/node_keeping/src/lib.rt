@@ -1,7 +1,7 @@
 //! What a node with strict trees can't do at once: which letters are apt at a core, and which of them it has to keep
 //! until it can do them; what a plan is: nothing, it keeps the letter, or it does a step; the letters that it keeps,
 //! which of them a Wake calls, and which are woken; a node of a core and these letters, and the one call that changes
-//! both in a step that is prepared.
+//! both in a step that is planned.
 #![tactic(auto)]
 
 mod arrivals;
@@ -23,6 +23,6 @@ pub use due::{
 };
 pub use kept::KeptLetters;
 pub use meeting::{CoreKept, meets, parked, root_waiting, waits_for_show};
-pub use node_plan::{KeepPlan, KeptPlan, NodePlan, flatten_node};
-pub use plans::CorePlan;
+pub use node_plan::{KeepPlan, KeptPlan, NodePlan};
+pub use plans::{CoreChoice, CorePlan};
 pub use state::KeepingParts;

@@ -1,22 +1,23 @@
 // Which letters are kept, and how.
-ghost use Rattle.std.specs.Prelude.{◌≡◌, ◌++◌, ◌∷◌, [], IfOk};
+ghost use Rattle.std.specs.Prelude.{◌≡◌, ◌++◌, ◌∷◌, [], IfOk, OnOk};
 ghost use Rattle.world_model.specs.Strict.{is_born_now, meets};
 ghost use Rattle.world_model.specs.Asked.{asked_ops};
 ghost use Rattle.nc_locks.specs.Locks.{met_in};
 ghost use Rattle.tree_step.specs.Node.{data_of};
 ghost use Rattle.tree_step.specs.Core.{core_of};
+ghost use Rattle.node_keeping.specs.Choices.{kept_by_plan};
 ghost use Rattle.node_keeping.specs.Meeting.{asked_sub, op_marks, parked_kept, raises_to, root_kept, turned_by, waits_for_show};
 
+use crate::node_plan::KeepPlan;
 use letter_types::{Act, Acts, Body, KeepReason, Letter};
 use nc_locks::{Locks, Met, Mode};
 use node_versions::Turns;
-use std::alloc::Global;
 use tree_step::{NodeCore, asked_ops, asked_version};
 use tv_base::{NoMemory, SubNo, TreeNo, Version};
 use tx_trees::{Script, SubOp};
 
-/// A letter that is kept: the subtransaction that it asks for, why it is kept, the update version that the node raises
-/// before, if it must, and the acts.
+/// What a plan to keep a letter and the acts in a scratch mean: the subtransaction that the letter asks for, why it is
+/// kept, the update version that the node raises before, if it must, and the acts.
 #[derive(Drop)]
 pub struct CoreKept {
     pub tree: TreeNo,
@@ -68,37 +69,39 @@ fn raises_to(turns: &Turns, version: Version) -> Option<Version>
     None
 }
 
-/// The act of a raise, if there is one.
-fn turned_by(alloc: Global, raises: Option<Version>) -> Result<Acts, NoMemory>
-    ensures { IfOk result (λ acts. acts ≡ turned_by raises) }
+/// Adds the act of a raise, if there is one.
+fn push_turned(acts: &mut Acts, raises: Option<Version>) -> Result<(), NoMemory>
+    requires { acts.old ≡ [] }
+    ensures { OnOk result (acts.new ≡ turned_by raises) }
 {
-    let mut acts = Acts::new(alloc);
     let Some(version) = raises else {
-        return Ok(acts);
+        return Ok(());
     };
     acts.push(Act::Turned { version })?;
-    Ok(acts)
+    Ok(())
 }
 
-/// The acts of a subtransaction that is parked.
-fn parked_acts(alloc: Global, raises: Option<Version>, act: Act) -> Result<Acts, NoMemory>
-    ensures { IfOk result (λ acts. acts ≡ turned_by raises ++ act ∷ []) }
+/// Adds the acts of a subtransaction that is parked.
+fn push_parked(acts: &mut Acts, raises: Option<Version>, act: Act) -> Result<(), NoMemory>
+    requires { acts.old ≡ [] }
+    ensures { OnOk result (acts.new ≡ turned_by raises ++ act ∷ []) }
 {
-    let mut acts = turned_by(alloc, raises)?;
+    push_turned(acts, raises)?;
     acts.push(act)?;
-    Ok(acts)
+    Ok(())
 }
 
-/// A subtransaction of an update tree that meets a lock is parked for its holder. It raises the update version before,
-/// if it must.
+/// Plans that a subtransaction of an update tree that meets a lock is parked for its holder. The node raises its update
+/// version before, if it must.
 pub fn parked(
-    alloc: Global,
     turns: &Turns,
     letter: &Letter,
     tree: TreeNo,
     met: Met,
-) -> Result<CoreKept, NoMemory>
-    ensures { IfOk result (λ kept. kept ≡ parked_kept tree letter.now.body turns.now met) }
+    acts: &mut Acts,
+) -> Result<KeepPlan, NoMemory>
+    requires { acts.old ≡ [] }
+    ensures { IfOk result (λ keep. kept_by_plan keep acts.new ≡ parked_kept tree letter.now.body turns.now met) }
 {
     let sub = asked_sub(letter);
     let raises = raises_to(turns, asked_version(letter, turns.update));
@@ -108,13 +111,12 @@ pub fn parked(
         item: met.item,
         holder: met.holder,
     };
-    let acts = parked_acts(alloc, raises, act)?;
-    Ok(CoreKept {
+    push_parked(acts, raises, act)?;
+    Ok(KeepPlan {
         tree,
         sub,
         why: KeepReason::ForHolder(met.holder),
         raises,
-        acts,
     })
 }
 
@@ -136,21 +138,20 @@ pub fn waits_for_show(core: &NodeCore, letter: &Letter) -> bool
     }
 }
 
-/// The root of a strict tree that isn't born yet waits until the node shows a version.
-pub fn root_waiting(alloc: Global, turns: &Turns, tree: TreeNo) -> Result<CoreKept, NoMemory>
-    ensures { IfOk result (λ kept. kept ≡ root_kept tree turns.now) }
+/// Plans that the root of a strict tree that isn't born yet waits until the node shows a version.
+pub fn root_waiting(turns: &Turns, tree: TreeNo, acts: &mut Acts) -> Result<KeepPlan, NoMemory>
+    requires { acts.old ≡ [] }
+    ensures { IfOk result (λ keep. kept_by_plan keep acts.new ≡ root_kept tree turns.now) }
 {
-    let mut acts = Acts::new(alloc);
     acts.push(Act::Waits {
         tree,
         update: turns.update,
         read: turns.read,
     })?;
-    Ok(CoreKept {
+    Ok(KeepPlan {
         tree,
         sub: SubNo(0),
         why: KeepReason::ForShow,
         raises: None,
-        acts,
     })
 }

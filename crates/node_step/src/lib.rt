@@ -1,9 +1,8 @@
-//! What a node does with the letters of either coordinator, prepared.
+//! What a node does with the letters of either coordinator, planned.
 #![tactic(auto)]
 
 mod orders;
 
 pub use orders::{
-    plain_answer, prepare_asked, prepare_done, prepare_obeyed, prepare_order, prepare_told,
-    was_obeyed,
+    plain_answer, plan_asked_row, plan_done_row, plan_obeyed, plan_order, plan_told, was_obeyed,
 };

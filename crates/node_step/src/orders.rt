@@ -1,50 +1,44 @@
 // What a node does with the coordinator's letters.
-ghost use Rattle.std.specs.Prelude.{◌≡◌, nat_lt, IfOk, IsTrue};
+ghost use Rattle.std.specs.Prelude.{◌≡◌, [], nat_lt, IfOk, IsTrue, OnOk};
 ghost use Rattle.world_model.specs.Advancing.{asked_row, done_row, to_coordinator};
 ghost use Rattle.world_model.specs.Done.{turned_if};
 ghost use Rattle.world_model.specs.Epochs.{was_obeyed};
 ghost use Rattle.tree_step.specs.Changes.{IsNodeStepOf};
 ghost use Rattle.tree_step.specs.Due.{can_obey};
+ghost use Rattle.tree_step.specs.Meant.{parts_meant};
 ghost use Rattle.tree_step.specs.Node.{data_of, CanStep};
 ghost use Rattle.node_step.specs.Orders.{obeyed_row, ordered_row, plain_answer, told_row};
-ghost use Rattle.node_step.specs.inside.Advancing.{acts_if, order_acts, order_change};
+ghost use Rattle.node_step.specs.inside.Advancing.{acts_if, order_acts, order_doing};
 
-use letter_types::{Act, Acts, Body, StepOut, What, one_letter};
+use letter_types::{Act, Acts, Body, Letters, Outgoing, What};
 use node_versions::Turns;
 use std::alloc::Global;
-use tree_step::{Change, NodeParts, Prepared};
+use tree_step::{Doing, NodeParts, Scratch};
 use tv_base::{ActorNo, NoMemory, Version};
 use tx_trees::Script;
 
-/// The act, if there is one.
-fn acts_if(alloc: Global, act: Option<Act>) -> Result<Acts, NoMemory>
-    ensures { IfOk result (λ acts. acts ≡ acts_if act) }
+/// Adds an answer of this body to the coordinator.
+fn push_answer(sent: &mut Letters, script: &Script, body: Body) -> Result<(), NoMemory>
+    requires { sent.old ≡ [] }
+    ensures { OnOk result (sent.new ≡ to_coordinator script.now body) }
 {
-    let mut acts = Acts::new(alloc);
-    let Some(act) = act else {
-        return Ok(acts);
-    };
-    acts.push(act)?;
-    Ok(acts)
+    sent.push(Outgoing {
+        to: ActorNo(script.nodes()),
+        body,
+    })?;
+    Ok(())
 }
 
-/// A change with an answer of this body to the coordinator, and the act, if there is one.
-fn answering(
-    alloc: Global,
-    script: &Script,
-    change: Change,
-    body: Body,
-    act: Option<Act>,
-) -> Result<Prepared, NoMemory>
-    ensures change { IfOk result (λ p. p.change ≡ change) }
-    ensures sent { IfOk result (λ p. p.out.sent ≡ to_coordinator script.now body) }
-    ensures acts { IfOk result (λ p. p.out.acts ≡ acts_if act) }
+/// Adds the act, if there is one.
+fn push_act(acts: &mut Acts, act: Option<Act>) -> Result<(), NoMemory>
+    requires { acts.old ≡ [] }
+    ensures { OnOk result (acts.new ≡ acts_if act) }
 {
-    let to = ActorNo(script.nodes());
-    let sent = one_letter(alloc, to, body)?;
-    let acts = acts_if(alloc, act)?;
-    let out = StepOut { sent, acts };
-    Ok(Prepared { change, out })
+    let Some(act) = act else {
+        return Ok(());
+    };
+    acts.push(act)?;
+    Ok(())
 }
 
 /// The act of a node whose update version is raised, where it is less.
@@ -69,13 +63,13 @@ fn order_act(turns: &Turns, what: What, version: Version) -> Option<Act>
 }
 
 /// What a node does by an order.
-fn order_change(what: What, version: Version) -> Change
-    ensures { result ≡ order_change what version }
+fn order_doing(what: What, version: Version) -> Doing
+    ensures { result ≡ order_doing what version }
 {
     match what {
-        What::Turn => Change::Turn(version),
-        What::Show => Change::Show(version),
-        What::Sweep => Change::Sweep(version),
+        What::Turn => Doing::Turn(version),
+        What::Show => Doing::Show(version),
+        What::Sweep => Doing::Sweep(version),
     }
 }
 
@@ -90,40 +84,51 @@ pub fn plain_answer(what: What, version: Version) -> Body
     }
 }
 
-/// Prepares that a node does what it is ordered, and answers this: the update version is raised where it is less; or a
+/// Plans that a node does what it is ordered, and answers this: the update version is raised where it is less; or a
 /// version is shown to reads; or every item is collected to a version, which is the low version then, and what was
 /// counted of older ones goes.
-pub fn prepare_order(
-    alloc: Global,
+pub fn plan_order(
     node: &NodeParts,
     script: &Script,
     what: What,
     version: Version,
     answer: Body,
-) -> Result<Prepared, NoMemory>
+    scratch: &mut Scratch,
+) -> Result<Doing, NoMemory>
+    // What the caller knows.
     requires ready { CanStep script.now node.now }
     requires can { IsTrue (can_obey what version node.now.turns) }
-    ensures { IfOk result (IsNodeStepOf (ordered_row script.now what version answer (data_of node.now)) node.now) }
+    requires none_sent { scratch.old.sent ≡ [] }
+    requires no_acts { scratch.old.acts ≡ [] }
+    // What is planned.
+    ensures step { IfOk result (λ doing. IsNodeStepOf
+        (ordered_row script.now what version answer (data_of node.now)) node.now (parts_meant doing scratch.new)) }
+    ensures rest { OnOk result (scratch.new ≡ record scratch.old { sent = scratch.new.sent; acts = scratch.new.acts }) }
 {
-    let act = order_act(&node.turns, what, version);
-    let change = order_change(what, version);
-    let prepared = answering(alloc, script, change, answer, act)?;
-    Ok(prepared)
+    push_answer(&mut scratch.sent, script, answer)?;
+    push_act(&mut scratch.acts, order_act(&node.turns, what, version))?;
+    Ok(order_doing(what, version))
 }
 
-/// Prepares that a node stays as it is, and tells the coordinator this.
-pub fn prepare_told(
-    alloc: Global,
+/// Plans that a node stays as it is, and tells the coordinator this.
+pub fn plan_told(
     node: &NodeParts,
     script: &Script,
     answer: Body,
-) -> Result<Prepared, NoMemory>
-    requires { CanStep script.now node.now }
-    ensures { IfOk result (IsNodeStepOf (told_row script.now answer (data_of node.now)) node.now) }
+    scratch: &mut Scratch,
+) -> Result<Doing, NoMemory>
+    // What the caller knows.
+    requires ready { CanStep script.now node.now }
+    requires none_sent { scratch.old.sent ≡ [] }
+    requires no_acts { scratch.old.acts ≡ [] }
+    // What is planned.
+    ensures step { IfOk result (λ doing. IsNodeStepOf (told_row script.now answer (data_of node.now)) node.now
+        (parts_meant doing scratch.new)) }
+    ensures rest { OnOk result (scratch.new ≡ record scratch.old { sent = scratch.new.sent; acts = scratch.new.acts }) }
 {
     let _ = node;
-    let prepared = answering(alloc, script, Change::Still, answer, None)?;
-    Ok(prepared)
+    push_answer(&mut scratch.sent, script, answer)?;
+    Ok(Doing::Still)
 }
 
 /// Whether an order was obeyed before: the version that it raises isn't less.
@@ -137,19 +142,25 @@ pub fn was_obeyed(node: &NodeParts, what: What, version: Version) -> bool
     }
 }
 
-/// Prepares that a node obeys an order of a coordinator that forgets, of this epoch: it does what it is ordered, unless it
+/// Plans that a node obeys an order of a coordinator that forgets, of this epoch: it does what it is ordered, unless it
 /// did that before, and answers either way.
-pub fn prepare_obeyed(
-    alloc: Global,
+pub fn plan_obeyed(
     node: &NodeParts,
     script: &Script,
     epoch: u64,
     what: What,
     version: Version,
-) -> Result<Prepared, NoMemory>
+    scratch: &mut Scratch,
+) -> Result<Doing, NoMemory>
+    // What the caller knows.
     requires ready { CanStep script.now node.now }
     requires can { IsTrue (can_obey what version node.now.turns) }
-    ensures { IfOk result (IsNodeStepOf (obeyed_row script.now epoch what version (data_of node.now)) node.now) }
+    requires none_sent { scratch.old.sent ≡ [] }
+    requires no_acts { scratch.old.acts ≡ [] }
+    // What is planned.
+    ensures step { IfOk result (λ doing. IsNodeStepOf
+        (obeyed_row script.now epoch what version (data_of node.now)) node.now (parts_meant doing scratch.new)) }
+    ensures rest { OnOk result (scratch.new ≡ record scratch.old { sent = scratch.new.sent; acts = scratch.new.acts }) }
 {
     let answer = Body::Obeyed {
         epoch,
@@ -157,21 +168,28 @@ pub fn prepare_obeyed(
         version,
     };
     if was_obeyed(node, what, version) {
-        return prepare_told(alloc, node, script, answer);
+        return plan_told(node, script, answer, scratch);
     }
-    prepare_order(alloc, node, script, what, version, answer)
+    plan_order(node, script, what, version, answer, scratch)
 }
 
-/// Prepares that a node tells its completions of a version by sender, in answer to a round.
-pub fn prepare_done(
+/// Plans that a node tells its completions of a version by sender, in answer to a round.
+pub fn plan_done_row(
     alloc: Global,
     node: &NodeParts,
     script: &Script,
     version: Version,
     round: u64,
-) -> Result<Prepared, NoMemory>
-    requires { CanStep script.now node.now }
-    ensures { IfOk result (IsNodeStepOf (done_row script.now version round (data_of node.now)) node.now) }
+    scratch: &mut Scratch,
+) -> Result<Doing, NoMemory>
+    // What the caller knows.
+    requires ready { CanStep script.now node.now }
+    requires none_sent { scratch.old.sent ≡ [] }
+    requires no_acts { scratch.old.acts ≡ [] }
+    // What is planned.
+    ensures step { IfOk result (λ doing. IsNodeStepOf (done_row script.now version round (data_of node.now)) node.now
+        (parts_meant doing scratch.new)) }
+    ensures rest { OnOk result (scratch.new ≡ record scratch.old { sent = scratch.new.sent; acts = scratch.new.acts }) }
 {
     let row = node.counters.done_row(alloc, version)?;
     let body = Body::DoneRow {
@@ -179,20 +197,27 @@ pub fn prepare_done(
         round,
         row,
     };
-    let prepared = answering(alloc, script, Change::Still, body, None)?;
-    Ok(prepared)
+    push_answer(&mut scratch.sent, script, body)?;
+    Ok(Doing::Still)
 }
 
-/// Prepares that a node tells its requests of a version by addressee, in answer to a round.
-pub fn prepare_asked(
+/// Plans that a node tells its requests of a version by addressee, in answer to a round.
+pub fn plan_asked_row(
     alloc: Global,
     node: &NodeParts,
     script: &Script,
     version: Version,
     round: u64,
-) -> Result<Prepared, NoMemory>
-    requires { CanStep script.now node.now }
-    ensures { IfOk result (IsNodeStepOf (asked_row script.now version round (data_of node.now)) node.now) }
+    scratch: &mut Scratch,
+) -> Result<Doing, NoMemory>
+    // What the caller knows.
+    requires ready { CanStep script.now node.now }
+    requires none_sent { scratch.old.sent ≡ [] }
+    requires no_acts { scratch.old.acts ≡ [] }
+    // What is planned.
+    ensures step { IfOk result (λ doing. IsNodeStepOf (asked_row script.now version round (data_of node.now)) node.now
+        (parts_meant doing scratch.new)) }
+    ensures rest { OnOk result (scratch.new ≡ record scratch.old { sent = scratch.new.sent; acts = scratch.new.acts }) }
 {
     let row = node.counters.asked_row(alloc, version)?;
     let body = Body::AskedRow {
@@ -200,6 +225,6 @@ pub fn prepare_asked(
         round,
         row,
     };
-    let prepared = answering(alloc, script, Change::Still, body, None)?;
-    Ok(prepared)
+    push_answer(&mut scratch.sent, script, body)?;
+    Ok(Doing::Still)
 }

@@ -2,3 +2,4 @@ pub mod Voting
 pub mod Apart
 pub mod Decided
 pub mod Deciding
+pub mod Planned

@@ -1,4 +1,4 @@
--- A vote and a notice, prepared, are their rows, and the tree may be decided.
+-- A vote and a notice, as they are planned, are their rows, and the tree may be decided.
 use Rattle.std.proofs.Common.{◌≡◌, ℕ, ◌<◌, ◌==◌, Bool, true, false, List, [], ◌∷◌, length, refl, ap, sym, subst, ◌∙◌, arith, Option, Some, None}
 use Rattle.std.specs.Prelude.{IsSome, nat_lt, not, ◌||◌, slice_get, if◌then◌else◌}
 use Rattle.std.proofs.lemmas.Bool.{and_parts}
@@ -161,7 +161,7 @@ voted_vote t vote ops body c = λ i. record c {
   refusals = noes_voted t vote ops body c.refusals i;
 }
 
--- a vote that was prepared, by its parts
+-- a vote that was planned, by its parts
 pub vote_row : (s : ScriptData) (p from : ℕ) (t : TreeNo) (body : Body) (n : NodeCore) (part : TreePrepared)
     (v : Version) (raises : Bool) (staged : Table) (notice : Notice) (vote : Vote) (ops : List SubOp)
     (change : VoteChange)

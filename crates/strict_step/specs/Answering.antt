@@ -1,16 +1,16 @@
 -- When a step of a tree's letter may be answered, or decided.
 use Rattle.std.specs.Prelude.{◌≡◌, ◌<◌, ⊤, if◌then◌else◌, List, [], length, IsTrue, Option, Some, None}
-use Rattle.tv_base.specs.declared.numbers.NodeNo.{NodeNo}
 use Rattle.tv_base.specs.declared.numbers.TreeNo.{TreeNo}
 use Rattle.item_versions.specs.Window.{in_window}
 use Rattle.letter_types.specs.declared.bodies.Body.TheVariants.{Release}
+use Rattle.letter_types.specs.declared.entries.Letter.{Letter}
 use Rattle.letter_types.specs.declared.entries.Outgoing.{Outgoing}
 use Rattle.tree_home.specs.HeldAnswers.{held_answers, held_in}
 use Rattle.tree_home.specs.Homes.{home_in}
 use Rattle.tree_home.specs.declared.homes.Answered.{Answered}
 use Rattle.tx_trees.specs.ScriptData.{ScriptData, subs_at, visited_by}
 use Rattle.world_model.specs.Node.{Node}
-use Rattle.world_model.specs.Strict.{answered, decide_core, decided, marks, to_each}
+use Rattle.world_model.specs.Strict.{acked_core, answered, decide_core, decided, marks, to_each}
 use Rattle.nc_commit.specs.declared.decisions.Decision.{Decision}
 use Rattle.tree_step.specs.Changes.{after_change, part_row}
 use Rattle.tree_step.specs.Node.{IsOf, data_of}
@@ -20,6 +20,7 @@ use Rattle.tree_step.specs.CoreChanges.{IsCoreStepOf, with_votes}
 use Rattle.tree_step.specs.declared.core_change.CorePrepared.{CorePrepared}
 use Rattle.tree_step.specs.declared.core_change.VoteChange.{VoteChange}
 use Rattle.tree_step.specs.declared.node_core.NodeCore.{NodeCore}
+use Rattle.strict_step.specs.declared.decisions.Acknowledgement.{Acknowledgement}
 
 -- the node that commuting trees see, after the step
 abbrev pub node_after : TreePrepared → NodeCore → Node
@@ -55,6 +56,10 @@ abbrev pub IsDecidedStep : ScriptData → VoteChange → TreePrepared → NodeCo
 IsDecidedStep s votes p n step =
     IsCoreStepOf (decided s (with_votes votes (core_of n)) (part_row p (data_of n.parts)) p.answered) n step
 
--- a decision at node p
-abbrev pub IsDecideStep : ScriptData → NodeNo → NodeNo → Decision → NodeCore → CorePrepared → Type 0
-IsDecideStep s p from d n step = IsCoreStepOf (decide_core s p.0 from.0 d.tree d.version d.commit (core_of n)) n step
+-- a decision that a letter brings
+abbrev pub IsDecideStep : ScriptData → Letter → Decision → NodeCore → CorePrepared → Type 0
+IsDecideStep s l d n step = IsCoreStepOf (decide_core s l.to.0 l.from.0 d.tree d.version d.commit (core_of n)) n step
+
+-- an acknowledgement at a strict tree's home
+abbrev pub IsAckedStep : ScriptData → Acknowledgement → NodeCore → CorePrepared → Type 0
+IsAckedStep s a n step = IsCoreStepOf (acked_core s a.from.0 a.tree a.version (core_of n)) n step

@@ -1,31 +1,27 @@
 // A subtransaction of a strict tree votes, and a vote comes to its tree's home.
-ghost use Rattle.std.specs.Prelude.{◌≡◌, ◌<◌, length, IfOk, IsTrue};
+ghost use Rattle.std.specs.Prelude.{◌≡◌, ◌<◌, length, [], IfOk, IsTrue, OnOk};
 ghost use Rattle.item_versions.specs.Window.{in_window};
-ghost use Rattle.pair_counters.specs.Numbers.{AllBelow, MOST_COUNT};
-ghost use Rattle.pair_counters.specs.Rows.{counts_of};
 ghost use Rattle.tree_home.specs.Homes.{misses};
 ghost use Rattle.tree_home.specs.Maps.{by_tree};
 ghost use Rattle.tx_trees.specs.ScriptData.{subs_at};
 ghost use Rattle.world_model.specs.Core.{lesser};
-ghost use Rattle.world_model.specs.Done.{note_part};
 ghost use Rattle.world_model.specs.Notices.{values_of};
 ghost use Rattle.world_model.specs.Strict.{notice_by};
-ghost use Rattle.tree_step.specs.Node.{IsInWindow};
+ghost use Rattle.tree_step.specs.AtNode.{answers_near, IsDueAt, IsNoteStep, IsUnheldAt, IsVoteStep};
 ghost use Rattle.tree_step.specs.Core.{IsCoreReady};
+ghost use Rattle.tree_step.specs.Meant.{core_meant, IsEmpty, votes_meant};
 ghost use Rattle.strict_step.specs.inside.Voting.{change_by, no_by, no_in_notice, noted_no, refusal_at};
-ghost use Rattle.tree_step.specs.AtNode.{answers_near, IsDueAt, IsNotedPart, IsNoteStep, IsUnheldAt, IsVoteStep};
 
-use crate::answers::{answered_step, decided_step};
+use crate::answers::{plan_answered, plan_decided};
 use commute_ops::Values;
-use item_versions::Staged;
-use letter_types::{Body, Boxed, Cause, Letter, Notice, Vote};
-use nc_commit::{vote_on, wanted_by};
+use letter_types::{Body, Cause, Letter, Notice, Vote};
+use nc_commit::{push_wanted, vote_on};
 use std::alloc::Global;
 use tree_step::{
-    CorePrepared, Effect, InVersion, NodeCore, NodeParts, Refusals, Request, TreePrepared,
-    VoteChange, asked_ops, asked_version, is_above, is_strict, prepare_notice, prepare_tree,
+    InVersion, NodeCore, Plan, Refusals, Request, Scratch, SubTurn, VotePlan, asked_ops,
+    asked_version, is_above, is_strict, plan_notice, plan_tree,
 };
-use tv_base::{NoMemory, SubNo, TreeNo, Version};
+use tv_base::{NoMemory, SubNo, TreeNo};
 use tx_trees::{Script, SubOp};
 use world_model::NegativeVote;
 
@@ -40,79 +36,97 @@ fn lesser(old: Option<NegativeVote>, new: NegativeVote) -> NegativeVote
 }
 
 /// A no comes to the tree's home: the tree has it, unless it has one of a lesser number.
-fn note_no(refusals: &Refusals, tree: TreeNo, sub: SubNo, cause: Cause) -> VoteChange
-    ensures { result ≡ noted_no tree sub cause (by_tree refusals.now) }
+fn note_no(
+    refusals: &Refusals,
+    tree: TreeNo,
+    sub: SubNo,
+    cause: Cause,
+    scratch: &mut Scratch,
+) -> VotePlan
+    ensures votes { votes_meant result scratch.new ≡ noted_no tree sub cause (by_tree refusals.now) }
+    ensures rest { scratch.new ≡ record scratch.old { refusal = scratch.new.refusal } }
 {
     let refusal = lesser(refusals.of(tree), NegativeVote { sub, cause });
-    VoteChange::Note { tree, refusal }
+    scratch.refusal = Some(refusal);
+    VotePlan::Note(tree)
 }
 
 /// What becomes of the noes at a notice.
-fn refusal_of(refusals: &Refusals, tree: TreeNo, sub: SubNo, notice: &Notice) -> VoteChange
-    ensures { result ≡ no_in_notice tree sub notice.now (by_tree refusals.now) }
-{
-    match notice {
-        Notice::No(cause) => note_no(refusals, tree, sub, *cause.get()),
-        _ => VoteChange::Stay,
-    }
-}
-
-/// A notice is taken down at its tree's home, before the tree is answered.
-fn note_part(
-    alloc: Global,
-    parts: &NodeParts,
-    request: Request,
+fn refusal_of(
+    refusals: &Refusals,
+    tree: TreeNo,
+    sub: SubNo,
     notice: &Notice,
-) -> Result<TreePrepared, NoMemory>
-    requires from { request.from.0 < (counts_of parts.now.counters).nodes }
-    requires small { AllBelow MOST_COUNT (counts_of parts.now.counters).numbers }
-    requires window { IsInWindow parts.now }
-    requires near { IsTrue (in_window parts.now.turns.low.0 request.version.0) }
-    ensures { IfOk result (IsNotedPart request (values_of notice.now) parts.now) }
+    scratch: &mut Scratch,
+) -> VotePlan
+    ensures votes { votes_meant result scratch.new ≡ no_in_notice tree sub notice.now (by_tree refusals.now) }
+    ensures rest { scratch.new ≡ record scratch.old { refusal = scratch.new.refusal } }
 {
     match notice {
-        Notice::Did(values) => prepare_notice(alloc, parts, request, values),
-        Notice::Yes(values) => prepare_notice(alloc, parts, request, values),
-        Notice::No(_) => prepare_notice(alloc, parts, request, &Values::new(alloc)),
+        Notice::No(cause) => note_no(refusals, tree, sub, *cause.get(), scratch),
+        _ => VotePlan::Stay,
     }
 }
 
 /// What becomes of the noes at a notice: nothing where it isn't missing at its home.
-fn refused_there(core: &NodeCore, request: Request, notice: &Notice) -> VoteChange
-    ensures { result ≡ refusal_at request notice.now core.now }
+fn refused_there(
+    core: &NodeCore,
+    request: Request,
+    notice: &Notice,
+    scratch: &mut Scratch,
+) -> VotePlan
+    ensures votes { votes_meant result scratch.new ≡ refusal_at request notice.now core.now }
+    ensures rest { scratch.new ≡ record scratch.old { refusal = scratch.new.refusal } }
 {
     let Request { tree, sub, .. } = request;
     if !core.parts.homes.misses(tree, sub) {
-        return VoteChange::Stay;
+        return VotePlan::Stay;
     }
-    refusal_of(&core.refusals, tree, sub, notice)
+    refusal_of(&core.refusals, tree, sub, notice, scratch)
 }
 
-/// Prepares that a tree's home takes a notice down and counts its completion. Where none is missing any more, an update
-/// or a read tree is answered, and a strict tree is decided.
-pub fn prepare_note(
+/// The values that a notice brings: these, which are none, where it is a no.
+fn values_of<'a>(notice: &'a Notice, none: &'a Values) -> &'a Values
+    requires { none.now ≡ [] }
+    ensures { result.now ≡ values_of notice.now }
+{
+    match notice {
+        Notice::Did(values) => values,
+        Notice::Yes(values) => values,
+        Notice::No(_) => none,
+    }
+}
+
+/// Plans that a tree's home takes a notice down and counts its completion. Where none is missing any more, an update or
+/// a read tree is answered, and a strict tree is decided.
+pub fn plan_note(
     alloc: Global,
     core: &NodeCore,
     script: &Script,
     request: Request,
     notice: &Notice,
-) -> Result<Boxed<CorePrepared>, NoMemory>
+    scratch: &mut Scratch,
+) -> Result<Plan, NoMemory>
     // What the caller knows.
     requires ready { IsCoreReady script.now request.from.0 core.now }
     requires there { 0 < length (subs_at script.now request.tree.0) }
     requires near { IsTrue (in_window core.now.parts.turns.low.0 request.version.0) }
     requires decides { IsTrue (answers_near script.now request (values_of notice.now) core.now.parts) }
-    // What is made.
-    ensures { IfOk result (IsNoteStep script.now request notice.now core.now) }
+    requires empty { IsEmpty scratch.old }
+    // What is planned.
+    ensures { IfOk result (λ plan. IsNoteStep script.now request notice.now core.now (core_meant plan scratch.new)) }
 {
-    let part = note_part(alloc, &core.parts, request, notice)?;
+    let none = Values::new(alloc);
+    let values = values_of(notice, &none);
     if !is_strict(script, request.tree) {
-        let prepared = answered_step(alloc, core, script, part, VoteChange::Stay)?;
-        return Ok(prepared);
+        let part = plan_notice(alloc, &core.parts, request, values, scratch)?;
+        let plan = plan_answered(core, script, part, VotePlan::Stay, scratch)?;
+        return Ok(plan);
     }
-    let votes = refused_there(core, request, notice);
-    let prepared = decided_step(alloc, core, script, part, votes)?;
-    Ok(prepared)
+    let votes = refused_there(core, request, notice, scratch);
+    let part = plan_notice(alloc, &core.parts, request, values, scratch)?;
+    let plan = plan_decided(core, script, part, votes, scratch)?;
+    Ok(plan)
 }
 
 /// What a vote tells the tree's home.
@@ -126,63 +140,68 @@ fn notice_by(vote: Vote) -> Notice
 }
 
 /// What becomes of the noes at a no: that of a root is at its home.
-fn no_by(refusals: &Refusals, cause: Cause, body: &Body) -> VoteChange
-    ensures { result ≡ no_by cause body.now (by_tree refusals.now) }
+fn no_by(refusals: &Refusals, cause: Cause, body: &Body, scratch: &mut Scratch) -> VotePlan
+    ensures votes { votes_meant result scratch.new ≡ no_by cause body.now (by_tree refusals.now) }
+    ensures rest { scratch.new ≡ record scratch.old { refusal = scratch.new.refusal } }
 {
     match body {
-        Body::Root { tree } => note_no(refusals, *tree, SubNo(0), cause),
-        _ => VoteChange::Stay,
+        Body::Root { tree } => note_no(refusals, *tree, SubNo(0), cause, scratch),
+        _ => VotePlan::Stay,
     }
 }
 
 /// What a vote changes: a yes takes the locks that the operations want.
 fn change_by(
-    alloc: Global,
     refusals: &Refusals,
     tree: TreeNo,
     vote: &Vote,
     ops: &[SubOp],
     body: &Body,
-) -> Result<VoteChange, NoMemory>
-    ensures { IfOk result (λ change. change ≡ change_by tree vote.now ops.now body.now (by_tree refusals.now)) }
+    scratch: &mut Scratch,
+) -> Result<VotePlan, NoMemory>
+    requires { scratch.old.wanted ≡ [] }
+    ensures votes { IfOk result (λ votes. votes_meant votes scratch.new
+        ≡ change_by tree vote.now ops.now body.now (by_tree refusals.now)) }
+    ensures rest { OnOk result (scratch.new
+        ≡ record scratch.old { wanted = scratch.new.wanted; refusal = scratch.new.refusal }) }
 {
     match vote {
         Vote::Yes(_) => {
-            let wanted = wanted_by(alloc, ops)?;
-            Ok(VoteChange::Take { tree, wanted })
+            push_wanted(&mut scratch.wanted, ops)?;
+            Ok(VotePlan::Take(tree))
         }
-        Vote::No(cause) => Ok(no_by(refusals, *cause.get(), body)),
+        Vote::No(cause) => Ok(no_by(refusals, *cause.get(), body, scratch)),
     }
 }
 
-/// Prepares that a subtransaction of a strict tree votes: a yes takes its locks, and its home is told. A root is at its
+/// Plans that a subtransaction of a strict tree votes: a yes takes its locks, and its home is told. A root is at its
 /// home, so a tree without another subtransaction is decided.
-pub fn prepare_vote(
+pub fn plan_vote(
     alloc: Global,
     core: &NodeCore,
     letter: &Letter,
     script: &Script,
     tree: TreeNo,
-) -> Result<Boxed<CorePrepared>, NoMemory>
+    scratch: &mut Scratch,
+) -> Result<Plan, NoMemory>
     // What the caller knows.
     requires ready { IsCoreReady script.now letter.now.to.0 core.now }
     requires due { IsDueAt script.now letter.now core.now.parts }
     requires unheld { IsUnheldAt letter.now core.now.parts }
-    // What is made.
-    ensures { IfOk result (IsVoteStep script.now letter.now tree core.now) }
+    requires empty { IsEmpty scratch.old }
+    // What is planned.
+    ensures { IfOk result (λ plan. IsVoteStep script.now letter.now tree core.now (core_meant plan scratch.new)) }
 {
     let version = asked_version(letter, core.parts.turns.update);
     let ops = asked_ops(letter, script);
     let vote = vote_on(alloc, &core.locks, &core.parts.items, tree, version, ops)?;
-    let votes = change_by(alloc, &core.refusals, tree, &vote, ops, &letter.body)?;
-    let notice = notice_by(vote);
-    let effect = Effect {
-        staged: Staged::new(alloc),
-        notice,
-    };
+    let votes = change_by(&core.refusals, tree, &vote, ops, &letter.body, scratch)?;
     let raises = is_above(&core.parts.turns, version);
-    let within = InVersion { version, raises };
-    let part = prepare_tree(alloc, &core.parts, letter, script, within, effect)?;
-    let prepared = decided_step(alloc, core, script, part, votes)?;
-    Ok(prepared)
+    let turn = SubTurn {
+        within: InVersion { version, raises },
+        notice: notice_by(vote),
+    };
+    let part = plan_tree(alloc, &core.parts, letter, script, turn, scratch)?;
+    let plan = plan_decided(core, script, part, votes, scratch)?;
+    Ok(plan)
 }

@@ -13,3 +13,4 @@ pub mod Stepped
 pub mod Undone
 pub mod HeldAside
 pub mod PlanOpened
+pub mod SameDoing

@@ -89,7 +89,7 @@ home_in_parts (Note t k values) o hs mid is begin = cc
 home_in_parts (Forget t) o hs mid is begin = cc
 
 -- so does the node
-made_by : (c : Change) (o : Opening) (n : NodeParts) (h : HomesData) (out : StepOut) → opening_in c ≡ Some o
+pub made_by : (c : Change) (o : Opening) (n : NodeParts) (h : HomesData) (out : StepOut) → opening_in c ≡ Some o
     → open_trees h ≡ begun o.tree o.subs o.version (open_trees n.homes)
     → made (after_change (changed_once_open c) out.sent (data_of (with_homes h n))) out
     ≡ made (after_change c out.sent (data_of n)) out

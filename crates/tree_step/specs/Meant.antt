@@ -1,18 +1,17 @@
 -- What a plan and a scratch mean: a step that was prepared.
 use Rattle.std.specs.Prelude.{◌≡◌, List, [], Ok, Option, Some, None}
+use Rattle.tv_base.specs.declared.numbers.SubNo.{SubNo}
 use Rattle.tv_base.specs.declared.numbers.TreeNo.{TreeNo}
 use Rattle.tv_base.specs.declared.numbers.Version.{Version}
 use Rattle.letter_types.specs.declared.entries.StepOut.{StepOut}
-use Rattle.letter_types.specs.Steps.{Out}
 use Rattle.tree_home.specs.Homes.{Gets}
-use Rattle.tree_home.specs.declared.homes.Answered.{Answered}
 use Rattle.nc_locks.specs.declared.modes.Lock.{Lock}
 use Rattle.tree_home.specs.Maps.{by_tree}
-use Rattle.world_model.specs.Core.{Core, Refusals}
+use Rattle.world_model.specs.Core.{Refusals}
 use Rattle.world_model.specs.declared.refusal.NegativeVote.{NegativeVote}
 use Rattle.tree_step.specs.Changes.{IsDone, prepared_row}
 use Rattle.tree_step.specs.Core.{core_of}
-use Rattle.tree_step.specs.CoreChanges.{IsCoreDone, IsCoreStepOf, core_prepared_row, locks_with, refusals_with}
+use Rattle.tree_step.specs.CoreChanges.{IsCoreDone, core_prepared_row, locks_with, refusals_with}
 use Rattle.tree_step.specs.Node.{data_of}
 use Rattle.tree_step.specs.declared.node.NodeParts.{NodeParts}
 use Rattle.tree_step.specs.declared.change.HomeChange.{HomeChange}
@@ -37,18 +36,19 @@ use Rattle.tree_step.specs.declared.plan.HoldPlan.{HoldPlan}
 use Rattle.tree_step.specs.declared.plan.HoldPlan.TheVariants as hold_plans
 use Rattle.tree_step.specs.declared.plan.VotePlan.{VotePlan}
 use Rattle.tree_step.specs.declared.plan.VotePlan.TheVariants as vote_plans
+use Rattle.tree_step.specs.declared.plan.PartPlan.{PartPlan}
 use Rattle.tree_step.specs.declared.plan.Plan.{Plan}
 use Rattle.tree_step.specs.declared.plan.Scratch.{Scratch}
 
--- what the home does
-abbrev pub home_planned : TreePlan → Gets → HomePlan → HomeChange
-home_planned p values home_plans.Stay = homes.Stay
-home_planned p values (home_plans.Open n v) = homes.Open p.tree n v values
-home_planned p values home_plans.Note = homes.Note p.tree p.sub values
-home_planned p values home_plans.Forget = homes.Forget p.tree
+-- what the home of tree t does, for its subtransaction k
+abbrev pub home_at : TreeNo → SubNo → Gets → HomePlan → HomeChange
+home_at t k values home_plans.Stay = homes.Stay
+home_at t k values (home_plans.Open n v) = homes.Open t n v values
+home_at t k values home_plans.Note = homes.Note t k values
+home_at t k values home_plans.Forget = homes.Forget t
 
 abbrev pub home_meant : TreePlan → Gets → HomeChange
-home_meant p values = home_planned p values p.home
+home_meant p values = home_at p.tree p.sub values p.home
 
 -- what a node does for a subtransaction or a notice
 abbrev pub tree_meant : TreePlan → Scratch → TreeChange
@@ -75,8 +75,8 @@ abbrev pub parts_meant : Doing → Scratch → Prepared
 parts_meant d x = record { change = doing_meant d x; out = out_in x }
 
 -- before the tree is answered
-abbrev pub part_meant : TreePlan → Scratch → Option Answered → TreePrepared
-part_meant p x a = record { prepared = parts_meant (doings.Tree p) x; answered = a }
+abbrev pub part_meant : PartPlan → Scratch → TreePrepared
+part_meant p x = record { prepared = parts_meant p.doing x; answered = p.answered }
 
 -- what becomes of locks or noes
 abbrev pub noted_by : TreeNo → Option NegativeVote → VoteChange

@@ -1,16 +1,19 @@
 // What a letter asks of a node.
-ghost use Rattle.std.specs.Prelude.{◌≡◌, IfOk, IsTrue};
+ghost use Rattle.std.specs.Prelude.{◌≡◌, [], IfOk, IsTrue, OnOk};
 ghost use Rattle.item_versions.specs.Table.{pending};
 ghost use Rattle.item_versions.specs.Window.{in_window, IsWindowedTable};
 ghost use Rattle.world_model.specs.Asked.{asked_ops, asked_version};
+ghost use Rattle.tree_step.specs.Meant.{part_meant};
 ghost use Rattle.tree_step.specs.Node.{IsReady};
 ghost use Rattle.tree_step.specs.AtNode.{IsDueAt, IsTreePartAt};
 
 use crate::change::{Prepared, TreePrepared};
 use crate::lookups::ops_of;
 use crate::node::{Effect, NodeParts};
+use crate::plan::{Doing, PartPlan, Scratch};
 use crate::steps::{prepare_root, prepare_sub};
-use letter_types::{Body, Letter};
+use crate::subs::{plan_root, plan_sub};
+use letter_types::{Body, Letter, Notice};
 use std::alloc::Global;
 use tv_base::{NoMemory, NodeNo, SubNo, TreeNo, Version};
 use tx_trees::{Script, SubOp};
@@ -56,6 +59,13 @@ pub struct InVersion {
     pub raises: bool,
 }
 
+/// The turn of a subtransaction: in which version it is done, and what its tree's home is told.
+#[derive(Drop)]
+pub struct SubTurn {
+    pub within: InVersion,
+    pub notice: Notice,
+}
+
 /// Prepares the subtransaction that a letter asks for, in this version and with this effect, before the tree is
 /// answered.
 pub fn prepare_tree(
@@ -93,6 +103,61 @@ pub fn prepare_tree(
         }
         _ => Ok(TreePrepared {
             prepared: Prepared::still(alloc),
+            answered: None,
+        }),
+    }
+}
+
+/// Plans the subtransaction that a letter asks for, and that makes what is staged in the scratch, before the tree is
+/// answered.
+pub fn plan_tree(
+    alloc: Global,
+    node: &NodeParts,
+    letter: &Letter,
+    script: &Script,
+    turn: SubTurn,
+    scratch: &mut Scratch,
+) -> Result<PartPlan, NoMemory>
+    // What the caller knows.
+    requires ready { IsReady script.now letter.now.to.0 node.now }
+    requires due { IsDueAt script.now letter.now node.now }
+    requires near { IsTrue (in_window node.now.turns.low.0 turn.within.version.0) }
+    requires fits { IsWindowedTable node.now.turns.low.0 (pending scratch.old.staged node.now.items) }
+    requires no_values { scratch.old.values ≡ [] }
+    requires none_sent { scratch.old.sent ≡ [] }
+    requires no_acts { scratch.old.acts ≡ [] }
+    // What is planned.
+    ensures part { IfOk result (λ part. IsTreePartAt script.now letter.now turn.within
+        (record { staged = scratch.old.staged; notice = turn.notice }) node.now (part_meant part scratch.new)) }
+    ensures rest { OnOk result (scratch.new ≡ record scratch.old {
+      staged = scratch.new.staged;
+      values = scratch.new.values;
+      sent = scratch.new.sent;
+      acts = scratch.new.acts;
+    }) }
+{
+    let version = turn.within.version;
+    match &letter.body {
+        Body::Root { tree } => {
+            let request = Request {
+                tree: *tree,
+                sub: SubNo(0),
+                version,
+                from: NodeNo(letter.to.0),
+            };
+            plan_root(alloc, node, script, request, turn.notice, scratch)
+        }
+        Body::Sub { tree, sub, .. } => {
+            let request = Request {
+                tree: *tree,
+                sub: *sub,
+                version,
+                from: NodeNo(letter.from.0),
+            };
+            plan_sub(alloc, node, script, request, turn, scratch)
+        }
+        _ => Ok(PartPlan {
+            doing: Doing::Still,
             answered: None,
         }),
     }

@@ -8,7 +8,7 @@ ghost use Rattle.tree_step.specs.declared.change.Change.TheVariants.{Tree};
 ghost use Rattle.tree_step.specs.declared.core_change.HoldChange.TheVariants.{Stay, Ack};
 ghost use Rattle.tree_step.specs.CoreChanges.{MayDoCore, epoch_with, numbers_of_nodes};
 ghost use Rattle.tree_step.specs.Meant.{core_meant, doing_meant, held_by, home_meant, IsDoingDone, IsStepDone, locks_meant, meant_with, out_in, refusals_meant, tree_meant};
-ghost use Rattle.tree_step.specs.inside.PlanOpening.{opening_by, plan_once_open};
+ghost use Rattle.tree_step.specs.inside.PlanOpening.{doing_once_open, opening_by, plan_once_open};
 ghost use Rattle.tree_step.specs.AtNode.{asked_counts};
 
 use crate::change::raise_if;
@@ -264,22 +264,30 @@ fn opening_by(doing: Doing) -> Option<Opening>
 
 /// What is left to do once the tree is open: its root's notice is taken down.
 #[inline(always)]
+fn doing_once_open(doing: Doing) -> Doing
+    ensures { result ≡ doing_once_open doing }
+{
+    match doing {
+        Doing::Tree(plan) => match plan.home {
+            HomePlan::Open { .. } => Doing::Tree(TreePlan {
+                sub: SubNo(0),
+                home: HomePlan::Note,
+                ..plan
+            }),
+            _ => doing,
+        },
+        _ => doing,
+    }
+}
+
+/// The same of a node's plan.
+#[inline(always)]
 fn once_open(plan: Plan) -> Plan
     ensures { result ≡ plan_once_open plan }
 {
-    match plan.doing {
-        Doing::Tree(tree) => match tree.home {
-            HomePlan::Open { .. } => Plan {
-                doing: Doing::Tree(TreePlan {
-                    sub: SubNo(0),
-                    home: HomePlan::Note,
-                    ..tree
-                }),
-                ..plan
-            },
-            _ => plan,
-        },
-        _ => plan,
+    Plan {
+        doing: doing_once_open(plan.doing),
+        ..plan
     }
 }
 
@@ -332,4 +340,31 @@ pub fn do_plan(
         None => do_holds(alloc, core, plan, scratch),
         Some(opening) => do_open(alloc, core, opening, plan, scratch),
     }
+}
+
+/// The parts do what is planned; what goes out stays in the scratch. To open a tree alone may need memory: where none is
+/// found the parts are as they were.
+pub(crate) fn do_whole(
+    alloc: Global,
+    parts: &mut NodeParts,
+    doing: Doing,
+    scratch: &mut Scratch,
+) -> Result<(), NoMemory>
+    requires { MayDo (doing_meant doing scratch.old) scratch.old.sent parts.old }
+    ensures done { OnOk result (IsDoingDone doing scratch.old parts.old parts.new) }
+    ensures err { OnErr result (parts.new ≡ parts.old) }
+    ensures out { out_in scratch.new ≡ out_in scratch.old }
+{
+    let Some(opening) = opening_by(doing) else {
+        do_parts(alloc, parts, doing, scratch);
+        return Ok(());
+    };
+    let Opening {
+        tree,
+        subs,
+        version,
+    } = opening;
+    parts.homes.begin(tree, subs, version)?;
+    do_parts(alloc, parts, doing_once_open(doing), scratch);
+    Ok(())
 }

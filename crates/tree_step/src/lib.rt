@@ -17,11 +17,13 @@ mod node;
 mod node_core;
 mod notices;
 mod plan;
+mod public;
 mod refusals;
 mod replies;
 mod steps;
+mod subs;
 
-pub use asked::{InVersion, Request, asked_ops, asked_version, prepare_tree};
+pub use asked::{InVersion, Request, SubTurn, asked_ops, asked_version, plan_tree, prepare_tree};
 pub use change::{Change, HomeChange, Prepared, TreeChange, TreePrepared, done, done_twice};
 pub use core_change::{CorePrepared, HoldChange, Visited, VoteChange};
 pub use counting::Counting;
@@ -31,9 +33,11 @@ pub use flattening::flatten;
 pub use lookups::{is_strict, kind_of};
 pub use node::{Effect, NodeParts};
 pub use node_core::NodeCore;
-pub use notices::prepare_notice;
+pub use notices::{plan_notice, prepare_notice};
 pub use plan::{
-    Doing, HoldPlan, HomePlan, Plan, Scratch, TreePlan, VotePlan, new_scratch, take_out, wipe,
+    Doing, HoldPlan, HomePlan, PartPlan, Plan, Scratch, TreePlan, VotePlan, new_scratch, take_out,
+    wipe,
 };
+pub use public::do_part;
 pub use refusals::Refusals;
 pub use replies::{push_reply, reply};

@@ -1,11 +1,12 @@
 // A notice at its tree's home.
-ghost use Rattle.std.specs.Prelude.{◌≡◌, ◌<◌, [], false, IfOk, IsTrue};
+ghost use Rattle.std.specs.Prelude.{◌≡◌, ◌<◌, [], false, IfOk, IsTrue, OnOk};
 ghost use Rattle.item_versions.specs.Window.{in_window};
 ghost use Rattle.pair_counters.specs.Numbers.{AllBelow, MOST_COUNT};
 ghost use Rattle.pair_counters.specs.Rows.{counts_of};
 ghost use Rattle.tree_home.specs.Homes.{open_trees};
 ghost use Rattle.tree_step.specs.Changes.{home_after, MayHome};
 ghost use Rattle.world_model.specs.Notices.{answer_noted, homes_noted};
+ghost use Rattle.tree_step.specs.Meant.{home_at, part_meant};
 ghost use Rattle.tree_step.specs.Node.{IsInWindow};
 ghost use Rattle.tree_step.specs.inside.Noting.{noting};
 ghost use Rattle.tree_step.specs.AtNode.{IsNotedPart};
@@ -14,6 +15,7 @@ use crate::asked::Request;
 use crate::change::{Change, HomeChange, Prepared, TreeChange, TreePrepared};
 use crate::counting::Counting;
 use crate::node::NodeParts;
+use crate::plan::{Doing, HomePlan, PartPlan, Scratch, TreePlan};
 use commute_ops::{Values, copy_values};
 use item_versions::Staged;
 use letter_types::StepOut;
@@ -91,4 +93,83 @@ pub fn prepare_notice(
     let Request { tree, sub, .. } = request;
     let (home, answered) = notice_home(alloc, &node.homes, tree, sub, values)?;
     Ok(noting(alloc, request, home, answered))
+}
+
+/// What the home does for a notice of these values, of which a copy is noted if it is taken down, and what the tree is
+/// answered then.
+#[tactic(auto, using(crate::proofs::Noticed::noticed))]
+fn home_for(
+    alloc: Global,
+    homes: &Homes,
+    request: Request,
+    values: &Values,
+    noted: &mut Values,
+) -> Result<(HomePlan, Option<Answered>), NoMemory>
+    ensures after { IfOk result (λ r. home_after (home_at request.tree request.sub noted.new r.0) (open_trees homes.now)
+        ≡ homes_noted request.tree request.sub values.now (open_trees homes.now)) }
+    ensures answered { IfOk result (λ r. r.1
+        ≡ answer_noted request.tree request.sub values.now (open_trees homes.now)) }
+    ensures may { IfOk result (λ r. MayHome (home_at request.tree request.sub noted.new r.0) (open_trees homes.now)) }
+{
+    match homes.would_answer(request.tree, request.sub, values)? {
+        Prospect::NotMissing => Ok((HomePlan::Stay, None)),
+        Prospect::Noted => {
+            *noted = copy_values(alloc, values)?;
+            Ok((HomePlan::Note, None))
+        }
+        Prospect::Answered(answer) => Ok((HomePlan::Forget, Some(answer))),
+    }
+}
+
+/// Plans that a tree's home takes a notice of these values down and counts its completion, before the tree is answered,
+/// which it is where no notice is missing any more. A notice that isn't missing is counted and changes nothing else.
+pub fn plan_notice(
+    alloc: Global,
+    node: &NodeParts,
+    request: Request,
+    values: &Values,
+    scratch: &mut Scratch,
+) -> Result<PartPlan, NoMemory>
+    // What the caller knows.
+    requires from { request.from.0 < (counts_of node.now.counters).nodes }
+    requires small { AllBelow MOST_COUNT (counts_of node.now.counters).numbers }
+    requires window { IsInWindow node.now }
+    requires near { IsTrue (in_window node.now.turns.low.0 request.version.0) }
+    requires none_staged { scratch.old.staged ≡ [] }
+    requires no_values { scratch.old.values ≡ [] }
+    requires none_sent { scratch.old.sent ≡ [] }
+    requires no_acts { scratch.old.acts ≡ [] }
+    // What is planned.
+    ensures part { IfOk result (λ part. IsNotedPart request values.now node.now (part_meant part scratch.new)) }
+    ensures rest { OnOk result (scratch.new ≡ record scratch.old {
+      staged = scratch.new.staged;
+      values = scratch.new.values;
+      sent = scratch.new.sent;
+      acts = scratch.new.acts;
+    }) }
+{
+    let (home, answered) = home_for(alloc, &node.homes, request, values, &mut scratch.values)?;
+    let Request {
+        tree,
+        sub,
+        version,
+        from,
+    } = request;
+    let counting = Counting {
+        version,
+        root: false,
+        from,
+        asked: 0,
+    };
+    let plan = TreePlan {
+        tree,
+        sub,
+        raises: false,
+        counting,
+        home,
+    };
+    Ok(PartPlan {
+        doing: Doing::Tree(plan),
+        answered,
+    })
 }

@@ -10,6 +10,7 @@ use letter_types::{Acts, Body, Boxed, Letter, Letters, StepOut};
 use nc_locks::WantedLocks;
 use std::alloc::Global;
 use std::mem;
+use tree_home::Answered;
 use tv_base::{SubNo, TreeNo, Version};
 use world_model::NegativeVote;
 
@@ -50,6 +51,14 @@ pub enum Doing {
     Show(Version),
     /// Every item is collected to a version, which is the low version then.
     Sweep(Version),
+}
+
+/// What a node's parts do for a tree's letter, before the tree is answered; and its answer where its home misses no
+/// notice any more.
+#[derive(Drop)]
+pub struct PartPlan {
+    pub doing: Doing,
+    pub answered: Option<Answered>,
 }
 
 /// What becomes of locks, or of the noes.

@@ -1,8 +1,10 @@
 //! A node's step for a subtransaction of an update tree.
 #![tactic(auto)]
 
-mod faces;
+mod plan;
+mod public;
 mod steps;
 
-pub use faces::run_update;
-pub use steps::{can_update, update_part};
+pub use plan::{can_update, plan_update};
+pub use public::run_update;
+pub use steps::update_part;

@@ -1,9 +1,8 @@
 ghost use Rattle.std.specs.Prelude.{◌≡◌, is_some, IfOk, IfSome, IsTrue};
 ghost use Rattle.item_versions.specs.Table.{pending};
 ghost use Rattle.item_versions.specs.Window.{in_window, IsWindowedTable};
-ghost use Rattle.tree_step.specs.Changes.{IsNodeStepOf};
 ghost use Rattle.tree_step.specs.Node.{data_of, effect_on, IsReady};
-ghost use Rattle.update_step.specs.Rows.{can_touch, can_update, IsUpdatePart, touching, update_at, update_part};
+ghost use Rattle.update_step.specs.Rows.{can_touch, can_update, IsUpdatePart, touching};
 ghost use Rattle.tree_step.specs.AtNode.{IsDueAt};
 
 use commute_ops::Values;
@@ -11,8 +10,7 @@ use item_versions::Staged;
 use letter_types::{Letter, Notice};
 use std::alloc::Global;
 use tree_step::{
-    Effect, InVersion, NodeParts, Prepared, TreePrepared, asked_ops, asked_version, is_above,
-    prepare_tree, reply,
+    Effect, InVersion, NodeParts, TreePrepared, asked_ops, asked_version, is_above, prepare_tree,
 };
 use tv_base::{NoMemory, Version};
 use tx_trees::{Deed, Script, SubOp};
@@ -50,22 +48,6 @@ fn touch_all(
     }))
 }
 
-/// Whether the operations that a letter asks for may be made.
-pub fn can_update(
-    alloc: Global,
-    node: &NodeParts,
-    letter: &Letter,
-    script: &Script,
-) -> Result<bool, NoMemory>
-    requires ready { IsReady script.now letter.now.to.0 node.now }
-    requires due { IsDueAt script.now letter.now node.now }
-    ensures { IfOk result (λ can. can ≡ can_update script.now (data_of node.now) letter.now.body) }
-{
-    let asked = asked_version(letter, node.turns.update);
-    let effect = touch_all(alloc, node, asked, asked_ops(letter, script))?;
-    Ok(effect.is_some())
-}
-
 /// Prepares what a node does with a letter that asks it for a subtransaction of an update tree (docs/ALGORITHM.md,
 /// "Nodes"), before the tree is answered. None exactly where the operations may not be made.
 pub fn update_part(
@@ -87,23 +69,4 @@ pub fn update_part(
     let within = InVersion { version, raises };
     let part = prepare_tree(alloc, node, letter, script, within, effect)?;
     Ok(Some(part))
-}
-
-/// The same, where the client is answered if the tree is. A letter whose operations may not be made changes and sends
-/// nothing.
-pub(crate) fn prepare_update(
-    alloc: Global,
-    node: &NodeParts,
-    letter: &Letter,
-    script: &Script,
-) -> Result<Prepared, NoMemory>
-    requires ready { IsReady script.now letter.now.to.0 node.now }
-    requires due { IsDueAt script.now letter.now node.now }
-    ensures { IfOk result (IsNodeStepOf (update_at script.now letter.now node.now) node.now) }
-{
-    let Some(part) = update_part(alloc, node, letter, script)? else {
-        return Ok(Prepared::still(alloc));
-    };
-    let prepared = reply(script, part)?;
-    Ok(prepared)
 }

@@ -1,5 +1,5 @@
 -- Letters that a step sends behind its own change nothing of what it counts.
-use Rattle.std.proofs.Common.{◌≡◌, ◌<◌, ◌≤◌, List, ◌++◌, length, take, refl, ap, sym, subst, arith}
+use Rattle.std.proofs.Common.{◌≡◌, ◌<◌, ◌≤◌, List, ◌++◌, length, take, refl, ap, sym, subst, arith, Some}
 use Rattle.std.specs.Prelude.{All, if◌then◌else◌}
 use Rattle.std.proofs.lemmas.List.{length-append, take-append-le}
 use Rattle.item_versions.specs.Table.{pending}
@@ -22,6 +22,15 @@ use Rattle.tree_step.specs.CoreChanges.{MayAsk, MayDoCore, after_core_change, as
 use Rattle.tree_step.specs.Core.{IsApart, core_of}
 use Rattle.tree_step.specs.declared.core_change.CorePrepared.{CorePrepared}
 use Rattle.tree_step.specs.declared.node_core.NodeCore.{NodeCore}
+use Rattle.tree_step.specs.declared.plan.Doing.{Doing}
+use Rattle.tree_step.specs.declared.plan.Doing.TheVariants as doings
+use Rattle.tree_step.specs.declared.plan.HoldPlan.{HoldPlan}
+use Rattle.tree_step.specs.declared.plan.HoldPlan.TheVariants as hold_plans
+use Rattle.tree_step.specs.declared.plan.Plan.{Plan}
+use Rattle.tree_step.specs.declared.plan.Scratch.{Scratch}
+use Rattle.tree_step.specs.declared.plan.VotePlan.{VotePlan}
+use Rattle.tree_step.specs.declared.plan.VotePlan.TheVariants as vote_plans
+use Rattle.tree_step.specs.Meant.{core_meant, doing_meant, holds_meant, votes_meant}
 use Rattle.node_keeping.specs.declared.change.KeepingPrepared.TheVariants.{Does}
 use Rattle.node_keeping.specs.declared.change.KeptChange.TheVariants.{Call}
 use Rattle.node_keeping.specs.declared.state.KeepingParts.{KeepingParts}
@@ -106,6 +115,44 @@ may_more p more n may = record {
   asks = subst (λ (st : Node). MayAsk p.holds (counts_of n.parts.counters).nodes st)
       (sym (after_more p.prepared.change p.prepared.out.sent more n.parts may.parts.fits)) may.asks;
   apart = subst (λ (c : Core). IsApart c) (sym (core_more p more n may)) may.apart;
+}
+
+-- a plan means that step where they are put behind the letters in the scratch, and what wakes them beside
+abbrev pub with_wakes : List Outgoing → Body → Scratch → Scratch
+with_wakes more b x = record x { sent = x.sent ++ more; calls = Some b }
+
+doing_behind : (d : Doing) (more : List Outgoing) (b : Body) (x : Scratch)
+    → doing_meant d (with_wakes more b x) ≡ doing_meant d x
+doing_behind doings.Still more b x = refl
+doing_behind (doings.Tree p) more b x = refl
+doing_behind (doings.Turn v) more b x = refl
+doing_behind (doings.Show v) more b x = refl
+doing_behind (doings.Sweep v) more b x = refl
+
+votes_behind : (v : VotePlan) (more : List Outgoing) (b : Body) (x : Scratch)
+    → votes_meant v (with_wakes more b x) ≡ votes_meant v x
+votes_behind vote_plans.Stay more b x = refl
+votes_behind (vote_plans.Take t) more b x = refl
+votes_behind (vote_plans.Free t) more b x = refl
+votes_behind (vote_plans.Note t) more b x = refl
+votes_behind (vote_plans.Drop t) more b x = refl
+
+holds_behind : (h : HoldPlan) (more : List Outgoing) (b : Body) (x : Scratch)
+    → holds_meant h (with_wakes more b x) ≡ holds_meant h x
+holds_behind hold_plans.Stay more b x = refl
+holds_behind (hold_plans.Hold t v) more b x = refl
+holds_behind (hold_plans.Ack t) more b x = refl
+
+pub meant_behind : (p : Plan) (more : List Outgoing) (b : Body) (x : Scratch)
+    → core_meant p (with_wakes more b x) ≡ sent_behind more (core_meant p x)
+meant_behind p more b x = λ i. record {
+  prepared = record {
+    change = doing_behind p.doing more b x i;
+    out = record { sent = x.sent ++ more; acts = x.acts };
+  };
+  votes = votes_behind p.votes more b x i;
+  holds = holds_behind p.holds more b x i;
+  epoch = p.epoch;
 }
 
 -- a letter is done that wakes these: each is called, and its Wake goes behind what the core sends

@@ -74,6 +74,10 @@ is_wake (Wake t k) = true
 is_wake (Root t) = false
 is_wake _ = false
 
+pub not_wake : (b : Body) → ((t : TreeNo) (k : SubNo) → b ≡ Wake t k → ⊥) → is_wake b ≡ false
+not_wake (Wake t k) other = absurd (other t k refl)
+not_wake _ other = refl
+
 itself_by : (kept : List KeptLetter) (l r : Letter) (b : Body) → is_wake b ≡ false → brought kept l b ≡ Some r → l ≡ r
 itself_by kept l r (Wake t k) off is = let no : true ≡ false = off in cc
 itself_by kept l r _ off is = let same : Some l ≡ Some r = is in cc
@@ -100,6 +104,10 @@ abbrev pub is_order : Body → Bool
 is_order (Order e what v) = true
 is_order (Root t) = false
 is_order _ = false
+
+pub not_order : (b : Body) → ((e : ℕ) (what : What) (v : Version) → b ≡ Order e what v → ⊥) → is_order b ≡ false
+not_order (Order e what v) other = absurd (other e what v refl)
+not_order _ other = refl
 
 order_wakes : (e : ℕ) (what : What) (v : Version) (c : Core)
     → wakes_by (waking_order e what v c) ≡ woken_by c (Order e what v)

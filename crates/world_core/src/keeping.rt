@@ -1,26 +1,27 @@
-// What a node does with a letter, prepared.
-ghost use Rattle.std.specs.Prelude.{◌≡◌, ◌++◌, IfOk, OnOk};
+// What a node does with a letter, planned.
+ghost use Rattle.std.specs.Prelude.{◌≡◌, ◌++◌, [], IfOk, None, OnOk, Some};
 ghost use Rattle.letter_types.specs.Steps.{still};
 ghost use Rattle.world_model.specs.Keeping.{AsksFor};
 ghost use Rattle.tree_step.specs.CoreChanges.{MayDoCore};
 ghost use Rattle.tree_step.specs.Core.{core_of};
 ghost use Rattle.tree_step.specs.Raising.{RaisesNear};
-ghost use Rattle.node_keeping.specs.Changes.{IsKeepingStepOf, IsSettled};
+ghost use Rattle.node_keeping.specs.Changes.{IsSettled};
+ghost use Rattle.node_keeping.specs.Choices.{kept_by_plan};
+ghost use Rattle.node_keeping.specs.Meant.{IsPlanned, keep_meant};
 ghost use Rattle.node_keeping.specs.State.{IsKeepingReady, keeping_of};
-ghost use Rattle.tree_step.specs.Meant.{IsEmpty};
+ghost use Rattle.tree_step.specs.Meant.{IsEmpty, core_meant};
 ghost use Rattle.world_model.specs.Epochs.{plain_order};
-ghost use Rattle.world_core.specs.inside.Bringing.{IsBroughtBy, IsDoneStep, IsKeptStep, IsLetterStep, IsWakingStep, keep_by, sent_behind, waking_order};
+ghost use Rattle.world_core.specs.inside.Bringing.{IsBroughtBy, IsDonePlan, IsKeptPlan, IsWakingPlan, keep_as, waking_order};
 ghost use Rattle.world_core.specs.Prepared.{IsLetterPlan};
 
 use crate::orders::is_obeyed_now;
 use crate::plan::plan_core;
-use letter_types::{Body, Boxed, KeepReason, KeptLetter, Letter, Letters, StepOut, What};
-use node_keeping::{
-    CoreKept, CorePlan, Keep, KeepingParts, KeepingPrepared, KeptChange, NodePlan, flatten_node,
-};
+use letter_types::{Acts, Body, Boxed, Letter, Letters, What};
+use node_keeping::{CoreChoice, KeepPlan, KeepingParts, KeptPlan, NodePlan};
 use std::alloc::Global;
-use tree_step::{CorePrepared, NodeCore, Prepared, Scratch};
-use tv_base::{NoMemory, SubNo, TreeNo, Version};
+use std::mem;
+use tree_step::{NodeCore, Plan, Scratch, wipe};
+use tv_base::{NoMemory, Version};
 use tx_trees::Script;
 
 /// A copy of a letter.
@@ -36,59 +37,61 @@ fn copy_letter(alloc: Global, letter: &Letter) -> Result<Letter, NoMemory>
     })
 }
 
-/// How a letter is kept as this subtransaction: again, where a Wake brought it, else as it came.
-fn keep_by(
-    alloc: Global,
-    letter: &Letter,
-    tree: TreeNo,
-    sub: SubNo,
-    why: KeepReason,
-) -> Result<Boxed<Keep>, NoMemory>
-    ensures { IfOk result (λ keep. keep ≡ keep_by letter.now tree sub why letter.now.body) }
+/// Leaves nothing but the acts in a scratch.
+fn leave_acts(alloc: Global, scratch: &mut Scratch)
+    ensures acts { scratch.new.acts ≡ scratch.old.acts }
+    ensures none_sent { scratch.new.sent ≡ [] }
+    ensures no_letter { scratch.new.letter ≡ None }
 {
-    let keep = match &letter.body {
-        Body::Wake { .. } => Keep::Again { tree, sub, why },
-        _ => Keep::New(KeptLetter {
-            letter: copy_letter(alloc, letter)?,
-            tree,
-            sub,
-            why,
-        }),
-    };
-    Ok(Boxed::new(alloc, keep)?)
+    let acts = mem::replace(&mut scratch.acts, Acts::new(alloc));
+    wipe(alloc, scratch);
+    scratch.acts = acts;
 }
 
-/// Prepares that what a letter brought is kept.
-fn prepare_keep(
+/// Puts a copy of a letter that is kept into the scratch, unless it is a Wake: then what it called is kept again.
+fn put_kept(
+    alloc: Global,
+    letter: &Letter,
+    keep: KeepPlan,
+    scratch: &mut Scratch,
+) -> Result<(), NoMemory>
+    requires { scratch.old.letter ≡ None }
+    ensures keep { OnOk result (keep_meant keep scratch.new.letter ≡ keep_as letter.now keep) }
+    ensures rest { OnOk result (scratch.new ≡ record scratch.old { letter = scratch.new.letter }) }
+{
+    let _ = keep;
+    match &letter.body {
+        Body::Wake { .. } => Ok(()),
+        _ => {
+            let copy = copy_letter(alloc, letter)?;
+            scratch.letter = Some(copy);
+            Ok(())
+        }
+    }
+}
+
+/// Plans that what a letter brought is kept, with the acts in the scratch.
+fn plan_keep(
     alloc: Global,
     node: &KeepingParts,
     letter: &Letter,
     brought: &Letter,
-    kept: CoreKept,
-) -> Result<KeepingPrepared, NoMemory>
+    keep: KeepPlan,
+    scratch: &mut Scratch,
+) -> Result<NodePlan, NoMemory>
     // What the caller knows.
     requires settled { IsSettled node.now }
     requires brought { IsBroughtBy letter.now brought.now node.now }
-    requires asks { AsksFor kept.tree kept.sub brought.now.body }
-    requires near { RaisesNear kept.raises node.now.core.parts.turns }
-    // What is made.
-    ensures { IfOk result (IsKeptStep letter.now brought.now kept node.now) }
+    requires asks { AsksFor keep.tree keep.sub brought.now.body }
+    requires near { RaisesNear keep.raises node.now.core.parts.turns }
+    // What is planned.
+    ensures { IfOk result (IsKeptPlan letter.now brought.now (kept_by_plan keep scratch.old.acts) node.now scratch.new) }
 {
     let _ = node;
     let _ = brought;
-    let CoreKept {
-        tree,
-        sub,
-        why,
-        raises,
-        acts,
-    } = kept;
-    let keep = keep_by(alloc, letter, tree, sub, why)?;
-    let out = StepOut {
-        sent: Letters::new(alloc),
-        acts,
-    };
-    Ok(KeepingPrepared::Keeps { keep, raises, out })
+    leave_acts(alloc, scratch);
+    put_kept(alloc, letter, keep, scratch)?;
+    Ok(NodePlan::Keeps(keep))
 }
 
 /// Adds these letters behind the others.
@@ -101,39 +104,6 @@ fn push_all(sent: &mut Letters, more: Letters) -> Result<(), NoMemory>
     Ok(())
 }
 
-/// The same step, which sends these letters behind its own.
-fn send_behind(
-    alloc: Global,
-    prepared: Boxed<CorePrepared>,
-    more: Letters,
-) -> Result<Boxed<CorePrepared>, NoMemory>
-    ensures { IfOk result (λ new. new ≡ sent_behind more prepared) }
-{
-    let CorePrepared {
-        prepared: Prepared { change, out },
-        votes,
-        holds,
-        epoch,
-    } = prepared.into_inner();
-    let StepOut { sent, acts } = out;
-    let mut sent = sent;
-    push_all(&mut sent, more)?;
-    let prepared = Prepared {
-        change,
-        out: StepOut { sent, acts },
-    };
-    let new = Boxed::new(
-        alloc,
-        CorePrepared {
-            prepared,
-            votes,
-            holds,
-            epoch,
-        },
-    )?;
-    Ok(new)
-}
-
 /// A copy of a body, behind a pointer.
 fn copy_body(alloc: Global, body: &Body) -> Result<Boxed<Body>, NoMemory>
     ensures { IfOk result (λ copy. copy ≡ body.now) }
@@ -142,36 +112,52 @@ fn copy_body(alloc: Global, body: &Body) -> Result<Boxed<Body>, NoMemory>
     Ok(Boxed::new(alloc, copy)?)
 }
 
-/// Prepares that a letter is done, and that what it wakes is called: behind its other letters the node sends a Wake for
+/// Puts Wakes behind the letters in the scratch, and a copy of what wakes.
+fn put_wakes(
+    alloc: Global,
+    body: &Body,
+    wakes: Letters,
+    scratch: &mut Scratch,
+) -> Result<(), NoMemory>
+    ensures { OnOk result
+        (scratch.new ≡ record scratch.old { sent = scratch.old.sent ++ wakes; calls = Some body.now }) }
+{
+    let copy = copy_body(alloc, body)?;
+    push_all(&mut scratch.sent, wakes)?;
+    scratch.calls = Some(copy);
+    Ok(())
+}
+
+/// Plans that a letter is done, and that what it wakes is called: behind its other letters the node sends a Wake for
 /// each.
 #[inline(always)]
-fn prepare_waking(
+fn plan_waking(
     alloc: Global,
     node: &KeepingParts,
     body: &Body,
-    prepared: Boxed<CorePrepared>,
-) -> Result<KeepingPrepared, NoMemory>
-    requires { MayDoCore prepared node.now.core }
-    ensures { IfOk result (IsWakingStep body.now prepared node.now) }
+    plan: Plan,
+    scratch: &mut Scratch,
+) -> Result<NodePlan, NoMemory>
+    requires { MayDoCore (core_meant plan scratch.old) node.now.core }
+    ensures { IfOk result (IsWakingPlan body.now (core_meant plan scratch.old) node.now scratch.new) }
 {
     if node.kept.count() == 0 {
-        return Ok(KeepingPrepared::Does {
-            prepared,
-            change: KeptChange::Stay,
+        return Ok(NodePlan::Does {
+            plan,
+            kept: KeptPlan::Stay,
         });
     }
     let wakes = node.kept.wakes(alloc, body)?;
     if wakes.items().is_empty() {
-        return Ok(KeepingPrepared::Does {
-            prepared,
-            change: KeptChange::Stay,
+        return Ok(NodePlan::Does {
+            plan,
+            kept: KeptPlan::Stay,
         });
     }
-    let body = copy_body(alloc, body)?;
-    let prepared = send_behind(alloc, prepared, wakes)?;
-    Ok(KeepingPrepared::Does {
-        prepared,
-        change: KeptChange::Call(body),
+    put_wakes(alloc, body, wakes, scratch)?;
+    Ok(NodePlan::Does {
+        plan,
+        kept: KeptPlan::Call,
     })
 }
 
@@ -201,25 +187,26 @@ fn waking_order(core: &NodeCore, epoch: u64, what: What, version: Version) -> Bo
     }
 }
 
-/// Prepares that what a letter brought is done.
-fn prepare_does(
+/// Plans that what a letter brought is done.
+fn plan_does(
     alloc: Global,
     node: &KeepingParts,
     letter: &Letter,
     brought: &Letter,
-    prepared: Boxed<CorePrepared>,
-) -> Result<KeepingPrepared, NoMemory>
+    plan: Plan,
+    scratch: &mut Scratch,
+) -> Result<NodePlan, NoMemory>
     // What the caller knows.
-    requires may { MayDoCore prepared node.now.core }
+    requires may { MayDoCore (core_meant plan scratch.old) node.now.core }
     requires brought { IsBroughtBy letter.now brought.now node.now }
-    // What is made.
-    ensures { IfOk result (IsDoneStep letter.now brought.now prepared node.now) }
+    // What is planned.
+    ensures { IfOk result (IsDonePlan letter.now brought.now (core_meant plan scratch.old) node.now scratch.new) }
 {
     let _ = brought;
     match &letter.body {
-        Body::Wake { tree, sub } => Ok(KeepingPrepared::Does {
-            prepared,
-            change: KeptChange::LetGo {
+        Body::Wake { tree, sub } => Ok(NodePlan::Does {
+            plan,
+            kept: KeptPlan::LetGo {
                 tree: *tree,
                 sub: *sub,
             },
@@ -230,44 +217,25 @@ fn prepare_does(
             version,
         } => {
             let body = waking_order(&node.core, *epoch, *what, *version);
-            prepare_waking(alloc, node, &body, prepared)
+            plan_waking(alloc, node, &body, plan, scratch)
         }
-        _ => prepare_waking(alloc, node, &letter.body, prepared),
+        _ => plan_waking(alloc, node, &letter.body, plan, scratch),
     }
 }
 
 /// A step that changes and sends nothing.
-fn nothing(alloc: Global, node: &KeepingParts) -> KeepingPrepared
+fn still(alloc: Global, node: &KeepingParts, scratch: &mut Scratch) -> NodePlan
     requires { IsSettled node.now }
-    ensures { IsKeepingStepOf (still (keeping_of node.now)) node.now result }
+    ensures { IsPlanned (still (keeping_of node.now)) node.now result scratch.new }
 {
     let _ = node;
-    KeepingPrepared::Still(StepOut::still(alloc))
+    wipe(alloc, scratch);
+    NodePlan::Still
 }
 
-/// Prepares what a node does with a letter: nothing where what it brings isn't apt, or where it is a Wake that calls
-/// none; else what it brought is kept, or is done.
-fn prepare_letter(
-    alloc: Global,
-    node: &KeepingParts,
-    letter: &Letter,
-    script: &Script,
-) -> Result<KeepingPrepared, NoMemory>
-    requires { IsKeepingReady script.now letter.now.to.0 node.now }
-    ensures { IfOk result (IsLetterStep script.now letter.now node.now) }
-{
-    let Some(brought) = node.kept.brought(letter) else {
-        return Ok(nothing(alloc, node));
-    };
-    match plan_core(alloc, &node.core, brought, script)? {
-        CorePlan::Still => Ok(nothing(alloc, node)),
-        CorePlan::Keeps(kept) => prepare_keep(alloc, node, letter, brought, kept),
-        CorePlan::Does(prepared) => prepare_does(alloc, node, letter, brought, prepared),
-    }
-}
-
-/// Plans what a node does with a letter, its row of the node's table (docs/ALGORITHM.md, "Nodes with strict trees"). It
-/// changes nothing but the scratch, which gets all that takes memory.
+/// Plans what a node does with a letter, its row of the node's table (docs/ALGORITHM.md, "Nodes with strict trees"):
+/// nothing where what it brings isn't apt, or where it is a Wake that calls none; else what it brought is kept, or is done.
+/// It changes nothing but the scratch, which gets all that takes memory.
 pub fn plan_letter(
     alloc: Global,
     node: &KeepingParts,
@@ -279,6 +247,12 @@ pub fn plan_letter(
     requires empty { IsEmpty scratch.old }
     ensures { IfOk result (λ plan. IsLetterPlan script.now letter.now node.now plan scratch.new) }
 {
-    let prepared = prepare_letter(alloc, node, letter, script)?;
-    Ok(flatten_node(prepared, scratch))
+    let Some(brought) = node.kept.brought(letter) else {
+        return Ok(still(alloc, node, scratch));
+    };
+    match plan_core(alloc, &node.core, brought, script, scratch)? {
+        CoreChoice::Still => Ok(still(alloc, node, scratch)),
+        CoreChoice::Keeps(keep) => plan_keep(alloc, node, letter, brought, keep, scratch),
+        CoreChoice::Does(plan) => plan_does(alloc, node, letter, brought, plan, scratch),
+    }
 }

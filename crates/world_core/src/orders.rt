@@ -1,21 +1,23 @@
 // What a core does with the coordinator's letters, and with letters that have no row of their own.
-ghost use Rattle.std.specs.Prelude.{◌≡◌, false, IfOk};
+ghost use Rattle.std.specs.Prelude.{◌≡◌, false, IfOk, None};
 ghost use Rattle.letter_types.specs.declared.bodies.Body.TheVariants.{Ask, AskAsked, AskDone, Numbers, Order};
 ghost use Rattle.world_model.specs.Epochs.{plain_order, is_obeyed_now};
 ghost use Rattle.tree_step.specs.Core.{IsCoreReady, core_of};
+ghost use Rattle.tree_step.specs.Meant.{IsEmpty};
+ghost use Rattle.tree_step.specs.declared.plan.Doing.TheVariants.{Still};
 ghost use Rattle.node_keeping.specs.Apt.{IsOwnPlan, is_own};
+ghost use Rattle.node_keeping.specs.Choices.{choice_meant};
 ghost use Rattle.world_core.specs.inside.Own.{is_of_tree};
-ghost use Rattle.world_core.specs.inside.Stays.{of_parts, still_step};
+ghost use Rattle.world_core.specs.inside.Stays.{plan_of};
 
-use letter_types::{Body, Boxed, Letter, What};
-use node_keeping::CorePlan;
+use letter_types::{Body, Letter, What};
+use node_keeping::CoreChoice;
 use node_step::{
-    plain_answer, prepare_asked, prepare_done, prepare_obeyed, prepare_order, prepare_told,
-    was_obeyed,
+    plain_answer, plan_asked_row, plan_done_row, plan_obeyed, plan_order, plan_told, was_obeyed,
 };
 use node_versions::Turns;
 use std::alloc::Global;
-use tree_step::{CorePrepared, HoldChange, NodeCore, Prepared, VoteChange, can_obey};
+use tree_step::{Doing, HoldPlan, NodeCore, Plan, Scratch, VotePlan, can_obey};
 use tv_base::{NoMemory, Version};
 use tx_trees::Script;
 
@@ -27,82 +29,83 @@ struct EpochOrder {
     version: Version,
 }
 
-/// A step of a node's parts, in which locks, noes and held answers stay, and the node hears of this epoch, if of one.
-fn of_parts(
-    alloc: Global,
-    prepared: Prepared,
-    epoch: Option<u64>,
-) -> Result<Boxed<CorePrepared>, NoMemory>
-    ensures { IfOk result (λ step. step ≡ of_parts prepared epoch) }
-{
-    let prepared = CorePrepared {
-        prepared,
-        votes: VoteChange::Stay,
-        holds: HoldChange::Stay,
-        epoch,
-    };
-    Ok(Boxed::new(alloc, prepared)?)
+/// A version that a round of the coordinator asks for.
+#[derive(Clone, Copy)]
+struct RoundVersion {
+    version: Version,
+    round: u64,
 }
 
-/// A step that changes and sends nothing.
-pub(crate) fn still_step(alloc: Global) -> Result<Boxed<CorePrepared>, NoMemory>
-    ensures { IfOk result (λ step. step ≡ still_step) }
+/// The plan in which a node's parts do this, locks, noes and held answers stay, and the node hears of this epoch, if of
+/// one.
+fn plan_of(doing: Doing, epoch: Option<u64>) -> Plan
+    ensures { result ≡ plan_of doing epoch }
 {
-    let step = of_parts(alloc, Prepared::still(alloc), None)?;
-    Ok(step)
+    Plan {
+        doing,
+        votes: VotePlan::Stay,
+        holds: HoldPlan::Stay,
+        epoch,
+    }
+}
+
+/// The plan in which nothing changes.
+pub(crate) fn still_plan() -> Plan
+    ensures { result ≡ plan_of Still None }
+{
+    plan_of(Doing::Still, None)
 }
 
 /// A letter without a row of its own, which changes and sends nothing.
-fn plan_other(
-    alloc: Global,
-    core: &NodeCore,
-    letter: &Letter,
-    script: &Script,
-) -> Result<CorePlan, NoMemory>
+fn choose_other(core: &NodeCore, letter: &Letter, script: &Script, scratch: &Scratch) -> CoreChoice
     requires ready { IsCoreReady script.now letter.now.to.0 core.now }
     requires other { is_own letter.now.body ≡ false }
-    ensures { IfOk result (IsOwnPlan script.now letter.now core.now) }
+    requires empty { IsEmpty scratch.now }
+    ensures { IsOwnPlan script.now letter.now core.now (choice_meant result scratch.now) }
 {
     let _ = core;
     let _ = letter;
     let _ = script;
-    Ok(CorePlan::Does(still_step(alloc)?))
+    let _ = scratch;
+    CoreChoice::Does(still_plan())
 }
 
 /// An order of a coordinator that remembers: a turn, a version to show, or a sweep.
-fn plan_plain(
-    alloc: Global,
+fn choose_plain(
     core: &NodeCore,
     letter: &Letter,
     script: &Script,
     what: What,
     version: Version,
-) -> Result<CorePlan, NoMemory>
+    scratch: &mut Scratch,
+) -> Result<CoreChoice, NoMemory>
     requires ready { IsCoreReady script.now letter.now.to.0 core.now }
     requires body { letter.now.body ≡ plain_order what version }
-    ensures { IfOk result (IsOwnPlan script.now letter.now core.now) }
+    requires empty { IsEmpty scratch.old }
+    ensures { IfOk result (λ choice. IsOwnPlan script.now letter.now core.now (choice_meant choice scratch.new)) }
 {
     let _ = letter;
     if !can_obey(&core.parts.turns, what, version) {
-        return Ok(CorePlan::Still);
+        return Ok(CoreChoice::Still);
     }
     let answer = plain_answer(what, version);
-    let prepared = prepare_order(alloc, &core.parts, script, what, version, answer)?;
-    Ok(CorePlan::Does(of_parts(alloc, prepared, None)?))
+    let doing = plan_order(&core.parts, script, what, version, answer, scratch)?;
+    Ok(CoreChoice::Does(plan_of(doing, None)))
 }
 
 /// An order of a coordinator that forgets: one of an epoch before the node's is left. Else the node hears of its epoch,
 /// answers, and does what it is ordered, unless it did that before.
-fn plan_order(
-    alloc: Global,
+fn choose_order(
     core: &NodeCore,
     letter: &Letter,
     script: &Script,
     order: EpochOrder,
-) -> Result<CorePlan, NoMemory>
+    scratch: &mut Scratch,
+) -> Result<CoreChoice, NoMemory>
     requires ready { IsCoreReady script.now letter.now.to.0 core.now }
     requires body { letter.now.body ≡ Order order.epoch order.what order.version }
-    ensures { IfOk result (IsOwnPlan script.now letter.now core.now) }
+    requires empty { IsEmpty scratch.old }
+    ensures { IfOk result (λ choice. IsOwnPlan script.now letter.now core.now (choice_meant choice scratch.new)) }
 {
     let _ = letter;
     let EpochOrder {
@@ -111,13 +114,13 @@ fn plan_order(
         version,
     } = order;
     if epoch < core.epoch {
-        return Ok(CorePlan::Does(still_step(alloc)?));
+        return Ok(CoreChoice::Does(still_plan()));
     }
     if !can_obey(&core.parts.turns, what, version) {
-        return Ok(CorePlan::Still);
+        return Ok(CoreChoice::Still);
     }
-    let prepared = prepare_obeyed(alloc, &core.parts, script, epoch, what, version)?;
-    Ok(CorePlan::Does(of_parts(alloc, prepared, Some(epoch))?))
+    let doing = plan_obeyed(&core.parts, script, epoch, what, version, scratch)?;
+    Ok(CoreChoice::Does(plan_of(doing, Some(epoch))))
 }
 
 /// Whether an order of a coordinator that forgets takes effect: it isn't of an epoch before the node's, and wasn't obeyed
@@ -141,77 +144,86 @@ fn numbers(epoch: u64, turns: &Turns) -> Body
 }
 
 /// A coordinator that has forgotten asks for a node's versions: it is told, unless it asks in an epoch before the node's.
-fn plan_ask(
-    alloc: Global,
+fn choose_ask(
     core: &NodeCore,
     letter: &Letter,
     script: &Script,
     epoch: u64,
-) -> Result<CorePlan, NoMemory>
+    scratch: &mut Scratch,
+) -> Result<CoreChoice, NoMemory>
     requires ready { IsCoreReady script.now letter.now.to.0 core.now }
     requires body { letter.now.body ≡ Ask epoch }
-    ensures { IfOk result (IsOwnPlan script.now letter.now core.now) }
+    requires empty { IsEmpty scratch.old }
+    ensures { IfOk result (λ choice. IsOwnPlan script.now letter.now core.now (choice_meant choice scratch.new)) }
 {
     let _ = letter;
     if epoch >= core.epoch {
         let answer = numbers(epoch, &core.parts.turns);
-        let told = prepare_told(alloc, &core.parts, script, answer)?;
-        return Ok(CorePlan::Does(of_parts(alloc, told, Some(epoch))?));
+        let told = plan_told(&core.parts, script, answer, scratch)?;
+        return Ok(CoreChoice::Does(plan_of(told, Some(epoch))));
     }
-    Ok(CorePlan::Does(still_step(alloc)?))
+    Ok(CoreChoice::Does(still_plan()))
 }
 
 /// A node tells its completions of a version.
-fn plan_done_row(
+fn choose_done_row(
     alloc: Global,
     core: &NodeCore,
     letter: &Letter,
     script: &Script,
-    version: Version,
-    round: u64,
-) -> Result<CorePlan, NoMemory>
+    asked: RoundVersion,
+    scratch: &mut Scratch,
+) -> Result<CoreChoice, NoMemory>
     requires ready { IsCoreReady script.now letter.now.to.0 core.now }
-    requires body { letter.now.body ≡ AskDone version round }
-    ensures { IfOk result (IsOwnPlan script.now letter.now core.now) }
+    requires body { letter.now.body ≡ AskDone asked.version asked.round }
+    requires empty { IsEmpty scratch.old }
+    ensures { IfOk result (λ choice. IsOwnPlan script.now letter.now core.now (choice_meant choice scratch.new)) }
 {
     let _ = letter;
-    let prepared = prepare_done(alloc, &core.parts, script, version, round)?;
-    Ok(CorePlan::Does(of_parts(alloc, prepared, None)?))
+    let RoundVersion { version, round } = asked;
+    let doing = plan_done_row(alloc, &core.parts, script, version, round, scratch)?;
+    Ok(CoreChoice::Does(plan_of(doing, None)))
 }
 
 /// A node tells its requests of a version.
-fn plan_asked_row(
+fn choose_asked_row(
     alloc: Global,
     core: &NodeCore,
     letter: &Letter,
     script: &Script,
-    version: Version,
-    round: u64,
-) -> Result<CorePlan, NoMemory>
+    asked: RoundVersion,
+    scratch: &mut Scratch,
+) -> Result<CoreChoice, NoMemory>
     requires ready { IsCoreReady script.now letter.now.to.0 core.now }
-    requires body { letter.now.body ≡ AskAsked version round }
-    ensures { IfOk result (IsOwnPlan script.now letter.now core.now) }
+    requires body { letter.now.body ≡ AskAsked asked.version asked.round }
+    requires empty { IsEmpty scratch.old }
+    ensures { IfOk result (λ choice. IsOwnPlan script.now letter.now core.now (choice_meant choice scratch.new)) }
 {
     let _ = letter;
-    let prepared = prepare_asked(alloc, &core.parts, script, version, round)?;
-    Ok(CorePlan::Does(of_parts(alloc, prepared, None)?))
+    let RoundVersion { version, round } = asked;
+    let doing = plan_asked_row(alloc, &core.parts, script, version, round, scratch)?;
+    Ok(CoreChoice::Does(plan_of(doing, None)))
 }
 
 /// What a core does with a letter of a coordinator that the script has, or with one that has no row of its own.
-pub(crate) fn plan_advancing(
+pub(crate) fn choose_advancing(
     alloc: Global,
     core: &NodeCore,
     letter: &Letter,
     script: &Script,
-) -> Result<CorePlan, NoMemory>
+    scratch: &mut Scratch,
+) -> Result<CoreChoice, NoMemory>
     requires ready { IsCoreReady script.now letter.now.to.0 core.now }
     requires other { is_of_tree letter.now.body ≡ false }
-    ensures { IfOk result (IsOwnPlan script.now letter.now core.now) }
+    requires empty { IsEmpty scratch.old }
+    ensures { IfOk result (λ choice. IsOwnPlan script.now letter.now core.now (choice_meant choice scratch.new)) }
 {
     match &letter.body {
-        Body::Turn { version } => plan_plain(alloc, core, letter, script, What::Turn, *version),
-        Body::Show { version } => plan_plain(alloc, core, letter, script, What::Show, *version),
-        Body::Sweep { version } => plan_plain(alloc, core, letter, script, What::Sweep, *version),
+        Body::Turn { version } => choose_plain(core, letter, script, What::Turn, *version, scratch),
+        Body::Show { version } => choose_plain(core, letter, script, What::Show, *version, scratch),
+        Body::Sweep { version } => {
+            choose_plain(core, letter, script, What::Sweep, *version, scratch)
+        }
         Body::Order {
             epoch,
             what,
@@ -222,15 +234,23 @@ pub(crate) fn plan_advancing(
                 what: *what,
                 version: *version,
             };
-            plan_order(alloc, core, letter, script, order)
+            choose_order(core, letter, script, order, scratch)
         }
-        Body::Ask { epoch } => plan_ask(alloc, core, letter, script, *epoch),
+        Body::Ask { epoch } => choose_ask(core, letter, script, *epoch, scratch),
         Body::AskDone { version, round } => {
-            plan_done_row(alloc, core, letter, script, *version, *round)
+            let asked = RoundVersion {
+                version: *version,
+                round: *round,
+            };
+            choose_done_row(alloc, core, letter, script, asked, scratch)
         }
         Body::AskAsked { version, round } => {
-            plan_asked_row(alloc, core, letter, script, *version, *round)
+            let asked = RoundVersion {
+                version: *version,
+                round: *round,
+            };
+            choose_asked_row(alloc, core, letter, script, asked, scratch)
         }
-        _ => plan_other(alloc, core, letter, script),
+        _ => Ok(choose_other(core, letter, script, scratch)),
     }
 }

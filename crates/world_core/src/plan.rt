@@ -1,5 +1,5 @@
 // Which letter goes to which step of a core.
-ghost use Rattle.std.specs.Prelude.{◌≡◌, IfOk, IsTrue, Some};
+ghost use Rattle.std.specs.Prelude.{◌≡◌, [], IfOk, IsTrue, Some};
 ghost use Rattle.letter_types.specs.declared.bodies.Body.TheVariants.{Decide, Decided, Done, Release, Wake};
 ghost use Rattle.tx_trees.specs.declared.parts.TreeKind.TheVariants.{Strict, Update};
 ghost use Rattle.world_model.specs.Asked.{asked_ops};
@@ -8,296 +8,327 @@ ghost use Rattle.world_model.specs.Strict.{meets};
 ghost use Rattle.world_model.specs.Updates.{can_update};
 ghost use Rattle.tree_step.specs.Due.{is_due};
 ghost use Rattle.tree_step.specs.Core.{IsCoreReady, core_of};
+ghost use Rattle.tree_step.specs.Meant.{IsEmpty};
+ghost use Rattle.tree_step.specs.Node.{data_of};
 ghost use Rattle.node_keeping.specs.Plans.{IsPlanOf};
-ghost use Rattle.node_keeping.specs.declared.plans.CorePlan.TheVariants.{Does};
-ghost use Rattle.node_keeping.specs.Apt.{asks_a_sub, IsOwnPlan, IsPlanOfKind, IsPlanOfTree, IsReadPlan};
+ghost use Rattle.node_keeping.specs.Apt.{asks_a_sub, IsOwnPlan, IsReadPlan};
+ghost use Rattle.node_keeping.specs.Choices.{IsChoiceOfKind, IsChoiceOfTree, IsDueChoice, choice_meant};
 ghost use Rattle.tree_step.specs.AtNode.{IsDueAt, IsUnheldAt};
 
-use crate::orders::{plan_advancing, still_step};
-use crate::trees::{prepare_read_tree, prepare_update_tree};
+use crate::orders::{choose_advancing, still_plan};
+use crate::trees::{plan_read_tree, plan_update_tree};
 use letter_types::{Body, Letter, Notice};
 use nc_commit::Decision;
 use nc_locks::Met;
 use node_keeping::{
-    CorePlan, acked_apt, decide_apt, decides_near, is_free, meets, parked, release_apt,
+    CoreChoice, acked_apt, decide_apt, decides_near, is_free, meets, parked, release_apt,
     root_waiting, suits_coordinator, waits_for_show, wake_apt,
 };
 use std::alloc::Global;
-use strict_step::{prepare_acked, prepare_decide, prepare_note, prepare_release, prepare_vote};
-use tree_step::{NodeCore, Request, is_due, kind_of};
-use tv_base::{NoMemory, NodeNo, SubNo, TreeNo, Version};
+use strict_step::{Acknowledgement, plan_acked, plan_decide, plan_note, plan_release, plan_vote};
+use tree_step::{NodeCore, Request, Scratch, is_due, kind_of};
+use tv_base::{NoMemory, NodeNo, SubNo, TreeNo};
 use tx_trees::{Script, TreeKind};
 use update_step::can_update;
 
-/// A subtransaction of an update tree that meets a lock: it is parked, if its operations may be made.
-fn plan_parked(
-    alloc: Global,
+/// A notice at its tree's home.
+#[derive(Clone, Copy)]
+struct Noted<'a> {
+    request: Request,
+    notice: &'a Notice,
+}
+
+/// A subtransaction of an update tree that meets a lock, and whose operations may be made: it is parked.
+fn choose_parked(
     core: &NodeCore,
     letter: &Letter,
     script: &Script,
     tree: TreeNo,
     met: Met,
-) -> Result<CorePlan, NoMemory>
+    scratch: &mut Scratch,
+) -> Result<CoreChoice, NoMemory>
     // What the caller knows.
     requires ready { IsCoreReady script.now letter.now.to.0 core.now }
     requires asks { IsTrue (asks_a_sub letter.now.body) }
     requires due { IsDueAt script.now letter.now core.now.parts }
+    requires can { IsTrue (can_update script.now (data_of core.now.parts) letter.now.body) }
     requires met { meets script.now tree (asked_ops script.now letter.now.body) (core_of core.now) ≡ Some met }
+    requires no_acts { scratch.old.acts ≡ [] }
     // What is planned.
-    ensures { IfOk result (IsPlanOfKind script.now letter.now tree (Some Update) core.now) }
+    ensures { IfOk result (IsChoiceOfKind script.now letter.now tree (Some Update) core.now scratch.new) }
 {
-    if !can_update(alloc, &core.parts, letter, script)? {
-        return Ok(CorePlan::Still);
-    }
-    let kept = parked(alloc, &core.parts.turns, letter, tree, met)?;
-    Ok(CorePlan::Keeps(kept))
+    let _ = script;
+    let keep = parked(&core.parts.turns, letter, tree, met, &mut scratch.acts)?;
+    Ok(CoreChoice::Keeps(keep))
 }
 
-/// A subtransaction of an update tree.
-fn plan_update(
+/// A subtransaction of an update tree: where its operations may be made it is parked, if it meets a lock, and else it
+/// is done.
+fn choose_update(
     alloc: Global,
     core: &NodeCore,
     letter: &Letter,
     script: &Script,
     tree: TreeNo,
-) -> Result<CorePlan, NoMemory>
+    scratch: &mut Scratch,
+) -> Result<CoreChoice, NoMemory>
     // What the caller knows.
     requires ready { IsCoreReady script.now letter.now.to.0 core.now }
     requires asks { IsTrue (asks_a_sub letter.now.body) }
     requires due { IsDueAt script.now letter.now core.now.parts }
     requires unheld { IsUnheldAt letter.now core.now.parts }
+    requires empty { IsEmpty scratch.old }
     // What is planned.
-    ensures { IfOk result (IsPlanOfKind script.now letter.now tree (Some Update) core.now) }
+    ensures { IfOk result (IsChoiceOfKind script.now letter.now tree (Some Update) core.now scratch.new) }
 {
     if let Some(met) = meets(core, letter, script, tree) {
-        return plan_parked(alloc, core, letter, script, tree, met);
+        if !can_update(alloc, &core.parts, letter, script)? {
+            return Ok(CoreChoice::Still);
+        }
+        return choose_parked(core, letter, script, tree, met, scratch);
     }
-    let Some(prepared) = prepare_update_tree(alloc, core, letter, script, tree)? else {
-        return Ok(CorePlan::Still);
+    let Some(plan) = plan_update_tree(alloc, core, letter, script, tree, scratch)? else {
+        return Ok(CoreChoice::Still);
     };
-    Ok(CorePlan::Does(prepared))
+    Ok(CoreChoice::Does(plan))
 }
 
 /// A subtransaction of a read tree, which is never kept.
-fn plan_read(
+fn choose_read(
     alloc: Global,
     core: &NodeCore,
     letter: &Letter,
     script: &Script,
-) -> Result<CorePlan, NoMemory>
+    scratch: &mut Scratch,
+) -> Result<CoreChoice, NoMemory>
     // What the caller knows.
     requires ready { IsCoreReady script.now letter.now.to.0 core.now }
     requires due { IsDueAt script.now letter.now core.now.parts }
     requires unheld { IsUnheldAt letter.now core.now.parts }
+    requires empty { IsEmpty scratch.old }
     // What is planned.
-    ensures { IfOk result (IsReadPlan script.now letter.now core.now) }
+    ensures { IfOk result (λ choice. IsReadPlan script.now letter.now core.now (choice_meant choice scratch.new)) }
 {
-    let Some(prepared) = prepare_read_tree(alloc, core, letter, script)? else {
-        return Ok(CorePlan::Still);
+    let Some(plan) = plan_read_tree(alloc, core, letter, script, scratch)? else {
+        return Ok(CoreChoice::Still);
     };
-    Ok(CorePlan::Does(prepared))
+    Ok(CoreChoice::Does(plan))
 }
 
 /// A subtransaction of a strict tree: it votes, unless it is a root that has to wait.
-fn plan_strict(
+fn choose_strict(
     alloc: Global,
     core: &NodeCore,
     letter: &Letter,
     script: &Script,
     tree: TreeNo,
-) -> Result<CorePlan, NoMemory>
+    scratch: &mut Scratch,
+) -> Result<CoreChoice, NoMemory>
     // What the caller knows.
     requires ready { IsCoreReady script.now letter.now.to.0 core.now }
     requires due { IsDueAt script.now letter.now core.now.parts }
     requires unheld { IsUnheldAt letter.now core.now.parts }
+    requires empty { IsEmpty scratch.old }
     // What is planned.
-    ensures { IfOk result (IsPlanOfKind script.now letter.now tree (Some Strict) core.now) }
+    ensures { IfOk result (IsChoiceOfKind script.now letter.now tree (Some Strict) core.now scratch.new) }
 {
     if waits_for_show(core, letter) {
-        let kept = root_waiting(alloc, &core.parts.turns, tree)?;
-        return Ok(CorePlan::Keeps(kept));
+        let keep = root_waiting(&core.parts.turns, tree, &mut scratch.acts)?;
+        return Ok(CoreChoice::Keeps(keep));
     }
-    let prepared = prepare_vote(alloc, core, letter, script, tree)?;
-    Ok(CorePlan::Does(prepared))
+    let plan = plan_vote(alloc, core, letter, script, tree, scratch)?;
+    Ok(CoreChoice::Does(plan))
 }
 
-/// A subtransaction of a tree of this kind.
-fn plan_kind(
+/// A subtransaction of a tree, by the tree's kind.
+fn choose_kind(
     alloc: Global,
     core: &NodeCore,
     letter: &Letter,
     script: &Script,
     tree: TreeNo,
-    kind: Option<TreeKind>,
-) -> Result<CorePlan, NoMemory>
+    scratch: &mut Scratch,
+) -> Result<CoreChoice, NoMemory>
     // What the caller knows.
     requires ready { IsCoreReady script.now letter.now.to.0 core.now }
     requires asks { IsTrue (asks_a_sub letter.now.body) }
     requires due { IsDueAt script.now letter.now core.now.parts }
     requires unheld { IsUnheldAt letter.now core.now.parts }
+    requires empty { IsEmpty scratch.old }
     // What is planned.
-    ensures { IfOk result (IsPlanOfKind script.now letter.now tree kind core.now) }
+    ensures { IfOk result (IsDueChoice script.now letter.now tree core.now scratch.new) }
 {
-    let Some(kind) = kind else {
-        return Ok(CorePlan::Still);
+    let found = kind_of(script, tree);
+    let Some(kind) = found else {
+        return Ok(CoreChoice::Still);
     };
     match kind {
-        TreeKind::Update => plan_update(alloc, core, letter, script, tree),
-        TreeKind::Read => plan_read(alloc, core, letter, script),
-        TreeKind::Strict => plan_strict(alloc, core, letter, script, tree),
+        TreeKind::Update => choose_update(alloc, core, letter, script, tree, scratch),
+        TreeKind::Read => choose_read(alloc, core, letter, script, scratch),
+        TreeKind::Strict => choose_strict(alloc, core, letter, script, tree, scratch),
     }
 }
 
 /// A letter that asks for a subtransaction of a tree.
 #[inline(always)]
-fn plan_tree(
+fn choose_tree(
     alloc: Global,
     core: &NodeCore,
     letter: &Letter,
     script: &Script,
     tree: TreeNo,
-) -> Result<CorePlan, NoMemory>
+    scratch: &mut Scratch,
+) -> Result<CoreChoice, NoMemory>
     // What the caller knows.
     requires ready { IsCoreReady script.now letter.now.to.0 core.now }
     requires asks { IsTrue (asks_a_sub letter.now.body) }
+    requires empty { IsEmpty scratch.old }
     // What is planned.
-    ensures { IfOk result (IsPlanOfTree script.now letter.now tree core.now) }
+    ensures { IfOk result (IsChoiceOfTree script.now letter.now tree core.now scratch.new) }
 {
     if !is_free(core, letter, script) {
-        return Ok(CorePlan::Still);
+        return Ok(CoreChoice::Still);
     }
-    let kind = kind_of(script, tree);
-    plan_kind(alloc, core, letter, script, tree, kind)
+    choose_kind(alloc, core, letter, script, tree, scratch)
 }
 
 /// A notice at its tree's home.
-fn plan_note(
+fn choose_note(
     alloc: Global,
     core: &NodeCore,
     letter: &Letter,
     script: &Script,
-    request: Request,
-    notice: &Notice,
-) -> Result<CorePlan, NoMemory>
+    noted: Noted,
+    scratch: &mut Scratch,
+) -> Result<CoreChoice, NoMemory>
     // What the caller knows.
     requires ready { IsCoreReady script.now letter.now.to.0 core.now }
-    requires body { letter.now.body ≡ Done request.tree request.sub request.version notice.now }
-    requires from { request.from.0 ≡ letter.now.from.0 }
+    requires body { letter.now.body ≡ Done noted.request.tree noted.request.sub noted.request.version noted.notice.now }
+    requires from { noted.request.from.0 ≡ letter.now.from.0 }
+    requires empty { IsEmpty scratch.old }
     // What is planned.
-    ensures { IfOk result (IsOwnPlan script.now letter.now core.now) }
+    ensures { IfOk result (λ choice. IsOwnPlan script.now letter.now core.now (choice_meant choice scratch.new)) }
 {
+    let Noted { request, notice } = noted;
     if !is_due(&core.parts, letter, script) {
-        return Ok(CorePlan::Still);
+        return Ok(CoreChoice::Still);
     }
     if !decides_near(core, script, request) {
-        return Ok(CorePlan::Still);
+        return Ok(CoreChoice::Still);
     }
-    let prepared = prepare_note(alloc, core, script, request, notice)?;
-    Ok(CorePlan::Does(prepared))
+    let plan = plan_note(alloc, core, script, request, notice, scratch)?;
+    Ok(CoreChoice::Does(plan))
 }
 
 /// A decision on a strict tree.
-fn plan_decide(
+fn choose_decide(
     alloc: Global,
     core: &NodeCore,
     letter: &Letter,
     script: &Script,
     decision: Decision,
-) -> Result<CorePlan, NoMemory>
+    scratch: &mut Scratch,
+) -> Result<CoreChoice, NoMemory>
     // What the caller knows.
     requires ready { IsCoreReady script.now letter.now.to.0 core.now }
     requires body { letter.now.body ≡ Decide decision.tree decision.version decision.commit }
+    requires empty { IsEmpty scratch.old }
     // What is planned.
-    ensures { IfOk result (IsOwnPlan script.now letter.now core.now) }
+    ensures { IfOk result (λ choice. IsOwnPlan script.now letter.now core.now (choice_meant choice scratch.new)) }
 {
     if !decide_apt(core, letter, script, decision) {
-        return Ok(CorePlan::Still);
+        return Ok(CoreChoice::Still);
     }
-    let node = NodeNo(letter.to.0);
-    let from = NodeNo(letter.from.0);
-    let prepared = prepare_decide(alloc, core, script, node, from, decision)?;
-    Ok(CorePlan::Does(prepared))
+    let plan = plan_decide(alloc, core, letter, script, decision, scratch)?;
+    Ok(CoreChoice::Does(plan))
 }
 
 /// An acknowledgement at a strict tree's home.
-fn plan_acked(
+fn choose_acked(
     alloc: Global,
     core: &NodeCore,
     letter: &Letter,
     script: &Script,
-    tree: TreeNo,
-    version: Version,
-) -> Result<CorePlan, NoMemory>
+    acked: Acknowledgement,
+    scratch: &mut Scratch,
+) -> Result<CoreChoice, NoMemory>
     // What the caller knows.
     requires ready { IsCoreReady script.now letter.now.to.0 core.now }
-    requires body { letter.now.body ≡ Decided tree version }
+    requires body { letter.now.body ≡ Decided acked.tree acked.version }
+    requires from { acked.from.0 ≡ letter.now.from.0 }
+    requires empty { IsEmpty scratch.old }
     // What is planned.
-    ensures { IfOk result (IsOwnPlan script.now letter.now core.now) }
+    ensures { IfOk result (λ choice. IsOwnPlan script.now letter.now core.now (choice_meant choice scratch.new)) }
 {
-    if !acked_apt(core, letter, script, tree, version) {
-        return Ok(CorePlan::Still);
+    if !acked_apt(core, letter, script, acked.tree, acked.version) {
+        return Ok(CoreChoice::Still);
     }
-    let from = NodeNo(letter.from.0);
-    let prepared = prepare_acked(alloc, core, script, from, tree, version)?;
-    Ok(CorePlan::Does(prepared))
+    let plan = plan_acked(alloc, core, script, acked, scratch)?;
+    Ok(CoreChoice::Does(plan))
 }
 
 /// Marks of an update tree that go.
-fn plan_release(
-    alloc: Global,
+fn choose_release(
     core: &NodeCore,
     letter: &Letter,
     script: &Script,
     tree: TreeNo,
-) -> Result<CorePlan, NoMemory>
+    scratch: &mut Scratch,
+) -> Result<CoreChoice, NoMemory>
     // What the caller knows.
     requires ready { IsCoreReady script.now letter.now.to.0 core.now }
     requires body { letter.now.body ≡ Release tree }
+    requires empty { IsEmpty scratch.old }
     // What is planned.
-    ensures { IfOk result (IsOwnPlan script.now letter.now core.now) }
+    ensures { IfOk result (λ choice. IsOwnPlan script.now letter.now core.now (choice_meant choice scratch.new)) }
 {
     if !release_apt(script, letter.to, tree) {
-        return Ok(CorePlan::Still);
+        return Ok(CoreChoice::Still);
     }
-    let prepared = prepare_release(alloc, core, tree)?;
-    Ok(CorePlan::Does(prepared))
+    let plan = plan_release(core, tree, scratch)?;
+    Ok(CoreChoice::Does(plan))
 }
 
 /// A Wake, for which a core does nothing.
-fn plan_wake(
-    alloc: Global,
+fn choose_wake(
     core: &NodeCore,
     letter: &Letter,
     script: &Script,
     tree: TreeNo,
     sub: SubNo,
-) -> Result<CorePlan, NoMemory>
+    scratch: &Scratch,
+) -> CoreChoice
     // What the caller knows.
     requires ready { IsCoreReady script.now letter.now.to.0 core.now }
     requires body { letter.now.body ≡ Wake tree sub }
+    requires empty { IsEmpty scratch.now }
     // What is planned.
-    ensures { IfOk result (IsOwnPlan script.now letter.now core.now) }
+    ensures { IsOwnPlan script.now letter.now core.now (choice_meant result scratch.now) }
 {
+    let _ = core;
+    let _ = scratch;
     if !wake_apt(script, letter.to, tree, sub) {
-        return Ok(CorePlan::Still);
+        return CoreChoice::Still;
     }
-    Ok(CorePlan::Does(still_step(alloc)?))
+    CoreChoice::Does(still_plan())
 }
 
 /// What a core does with a letter that the script's kind of coordinator allows.
 #[inline(always)]
-fn plan_own(
+fn choose_own(
     alloc: Global,
     core: &NodeCore,
     letter: &Letter,
     script: &Script,
-) -> Result<CorePlan, NoMemory>
-    requires { IsCoreReady script.now letter.now.to.0 core.now }
-    ensures { IfOk result (IsOwnPlan script.now letter.now core.now) }
+    scratch: &mut Scratch,
+) -> Result<CoreChoice, NoMemory>
+    requires ready { IsCoreReady script.now letter.now.to.0 core.now }
+    requires empty { IsEmpty scratch.old }
+    ensures { IfOk result (λ choice. IsOwnPlan script.now letter.now core.now (choice_meant choice scratch.new)) }
 {
     match &letter.body {
-        Body::Root { tree } => plan_tree(alloc, core, letter, script, *tree),
-        Body::Sub { tree, .. } => plan_tree(alloc, core, letter, script, *tree),
+        Body::Root { tree } => choose_tree(alloc, core, letter, script, *tree, scratch),
+        Body::Sub { tree, .. } => choose_tree(alloc, core, letter, script, *tree, scratch),
         Body::Done {
             tree,
             sub,
@@ -310,7 +341,8 @@ fn plan_own(
                 version: *version,
                 from: NodeNo(letter.from.0),
             };
-            plan_note(alloc, core, letter, script, request, notice)
+            let noted = Noted { request, notice };
+            choose_note(alloc, core, letter, script, noted, scratch)
         }
         Body::Decide {
             tree,
@@ -322,28 +354,37 @@ fn plan_own(
                 version: *version,
                 commit: *commit,
             };
-            plan_decide(alloc, core, letter, script, decision)
+            choose_decide(alloc, core, letter, script, decision, scratch)
         }
-        Body::Decided { tree, version } => plan_acked(alloc, core, letter, script, *tree, *version),
-        Body::Release { tree } => plan_release(alloc, core, letter, script, *tree),
-        Body::Wake { tree, sub } => plan_wake(alloc, core, letter, script, *tree, *sub),
-        _ => plan_advancing(alloc, core, letter, script),
+        Body::Decided { tree, version } => {
+            let acked = Acknowledgement {
+                tree: *tree,
+                version: *version,
+                from: NodeNo(letter.from.0),
+            };
+            choose_acked(alloc, core, letter, script, acked, scratch)
+        }
+        Body::Release { tree } => choose_release(core, letter, script, *tree, scratch),
+        Body::Wake { tree, sub } => Ok(choose_wake(core, letter, script, *tree, *sub, scratch)),
+        _ => choose_advancing(alloc, core, letter, script, scratch),
     }
 }
 
-/// What a core does with a letter: nothing where it isn't apt; else it keeps the letter where it has to, and does its row
-/// where not (docs/ALGORITHM.md, "Nodes with strict trees").
+/// Plans what a core does with a letter: nothing where it isn't apt; else it keeps the letter where it has to, and does
+/// its row where not (docs/ALGORITHM.md, "Nodes with strict trees"). It changes nothing but the scratch.
 pub fn plan_core(
     alloc: Global,
     core: &NodeCore,
     letter: &Letter,
     script: &Script,
-) -> Result<CorePlan, NoMemory>
-    requires { IsCoreReady script.now letter.now.to.0 core.now }
-    ensures { IfOk result (IsPlanOf script.now letter.now core.now) }
+    scratch: &mut Scratch,
+) -> Result<CoreChoice, NoMemory>
+    requires ready { IsCoreReady script.now letter.now.to.0 core.now }
+    requires empty { IsEmpty scratch.old }
+    ensures { IfOk result (λ choice. IsPlanOf script.now letter.now core.now (choice_meant choice scratch.new)) }
 {
     if !suits_coordinator(script, &letter.body) {
-        return Ok(CorePlan::Still);
+        return Ok(CoreChoice::Still);
     }
-    plan_own(alloc, core, letter, script)
+    choose_own(alloc, core, letter, script, scratch)
 }

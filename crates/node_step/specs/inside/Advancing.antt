@@ -6,8 +6,8 @@ use Rattle.letter_types.specs.declared.acts.Act.TheVariants as acts
 use Rattle.letter_types.specs.declared.bodies.What.{What}
 use Rattle.letter_types.specs.declared.bodies.What.TheVariants as whats
 use Rattle.node_versions.specs.declared.turns.Turns.{Turns}
-use Rattle.tree_step.specs.declared.change.Change.{Change}
-use Rattle.tree_step.specs.declared.change.Change.TheVariants as changes
+use Rattle.tree_step.specs.declared.plan.Doing.{Doing}
+use Rattle.tree_step.specs.declared.plan.Doing.TheVariants as doings
 use Rattle.world_model.specs.Done.{turned_if}
 
 -- the act of a step that has at most one
@@ -22,7 +22,7 @@ order_acts whats.Show v turns = acts.Showed v ∷ []
 order_acts whats.Sweep v turns = acts.Swept v ∷ []
 
 -- what a node does by it
-abbrev pub order_change : What → Version → Change
-order_change whats.Turn v = changes.Turn v
-order_change whats.Show v = changes.Show v
-order_change whats.Sweep v = changes.Sweep v
+abbrev pub order_doing : What → Version → Doing
+order_doing whats.Turn v = doings.Turn v
+order_doing whats.Show v = doings.Show v
+order_doing whats.Sweep v = doings.Sweep v

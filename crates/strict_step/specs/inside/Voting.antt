@@ -1,4 +1,4 @@
--- What a vote changes, prepared. Private code alone cites these definitions.
+-- What a vote changes. Private code alone cites these definitions.
 use Rattle.std.specs.Prelude.{Bool, List, if◌then◌else◌}
 use Rattle.tv_base.specs.declared.numbers.SubNo.{SubNo}
 use Rattle.tv_base.specs.declared.numbers.TreeNo.{TreeNo}

@@ -13,16 +13,17 @@ use Rattle.letter_types.specs.Kept.{brought, kept_without, wakes, wakes_by, with
 use Rattle.letter_types.specs.Steps.{Out}
 use Rattle.world_model.specs.Core.{Core}
 use Rattle.world_model.specs.Epochs.{plain_order, is_obeyed_now}
-use Rattle.tx_trees.specs.ScriptData.{ScriptData}
-use Rattle.world_model.specs.Keeping.{AreKeptAt, KeepingNode, keeping_row, woken_by}
+use Rattle.world_model.specs.Keeping.{AreKeptAt, KeepingNode, woken_by}
 use Rattle.world_model.specs.Strict.{CoreKeeping}
 use Rattle.tree_step.specs.declared.core_change.CorePrepared.{CorePrepared}
+use Rattle.tree_step.specs.declared.plan.Scratch.{Scratch}
 use Rattle.node_keeping.specs.declared.change.Keep.{Keep}
 use Rattle.node_keeping.specs.declared.change.Keep.TheVariants.{New, Again}
-use Rattle.node_keeping.specs.declared.change.KeepingPrepared.{KeepingPrepared}
 use Rattle.node_keeping.specs.declared.meeting.CoreKept.{CoreKept}
+use Rattle.node_keeping.specs.declared.node_plan.KeepPlan.{KeepPlan}
+use Rattle.node_keeping.specs.declared.node_plan.NodePlan.{NodePlan}
 use Rattle.node_keeping.specs.declared.state.KeepingParts.{KeepingParts}
-use Rattle.node_keeping.specs.Changes.{IsKeepingStepOf}
+use Rattle.node_keeping.specs.Meant.{IsPlanned}
 use Rattle.node_keeping.specs.Plans.{kept_core}
 use Rattle.node_keeping.specs.State.{keeping_of}
 use Rattle.tree_step.specs.Core.{core_of}
@@ -37,6 +38,10 @@ pub record IsBroughtBy (l r : Letter) (n : KeepingParts) : Type 0 where
 abbrev pub keep_by : Letter → TreeNo → SubNo → KeepReason → Body → Keep
 keep_by l t k why (Wake u j) = Again t k why
 keep_by l t k why _ = New (record { letter = l; tree = t; sub = k; why = why })
+
+-- the same by a plan to keep it
+abbrev pub keep_as : Letter → KeepPlan → Keep
+keep_as l k = keep_by l k.tree k.sub k.why l.body
 
 -- letter l came and brought letter r, which is kept
 abbrev pub kept_out : Letter → Letter → KeepingNode → CoreKeeping → Out KeepingNode
@@ -76,18 +81,16 @@ sent_behind more p = record p {
   prepared = record p.prepared { out = record p.prepared.out { sent = p.prepared.out.sent ++ more } };
 }
 
--- a step that was prepared keeps what letter l brought
-abbrev pub IsKeptStep : Letter → Letter → CoreKept → KeepingParts → KeepingPrepared → Type 0
-IsKeptStep l r k n p = IsKeepingStepOf (kept_out l r (keeping_of n) (kept_core k (core_of n.core))) n p
+-- a plan and a scratch keep what letter l brought
+abbrev pub IsKeptPlan : Letter → Letter → CoreKept → KeepingParts → Scratch → NodePlan → Type 0
+IsKeptPlan l r k n x plan = IsPlanned (kept_out l r (keeping_of n) (kept_core k (core_of n.core))) n plan x
 
--- it does what letter l brought, where the core does this
-abbrev pub IsDoneStep : Letter → Letter → CorePrepared → KeepingParts → KeepingPrepared → Type 0
-IsDoneStep l r done n p = IsKeepingStepOf (done_out l r (keeping_of n) (core_prepared_row done (core_of n.core))) n p
+-- a plan and a scratch do what letter l brought, where the core does this
+abbrev pub IsDonePlan : Letter → Letter → CorePrepared → KeepingParts → Scratch → NodePlan → Type 0
+IsDonePlan l r done n x plan =
+    IsPlanned (done_out l r (keeping_of n) (core_prepared_row done (core_of n.core))) n plan x
 
 -- and where a letter of this body brought itself
-abbrev pub IsWakingStep : Body → CorePrepared → KeepingParts → KeepingPrepared → Type 0
-IsWakingStep body done n p = IsKeepingStepOf (waking_out body (keeping_of n) (core_prepared_row done (core_of n.core))) n p
-
--- it is the row of a letter
-abbrev pub IsLetterStep : ScriptData → Letter → KeepingParts → KeepingPrepared → Type 0
-IsLetterStep s l n p = IsKeepingStepOf (keeping_row s l.to.0 (keeping_of n) l) n p
+abbrev pub IsWakingPlan : Body → CorePrepared → KeepingParts → Scratch → NodePlan → Type 0
+IsWakingPlan body done n x plan =
+    IsPlanned (waking_out body (keeping_of n) (core_prepared_row done (core_of n.core))) n plan x

@@ -11,5 +11,5 @@ returns-then-not-suits_coordinator c =
 
 pub returns : goal.returns
 returns c =
-    own_plan c.args.script.now c.args.letter.now c.args.core.now _ (sym c.if-not-suits_coordinator.ensures)
-    c.plan_own.ensures
+    own_plan c.args.script.now c.args.letter.now c.args.core.now c.choose_own.new.scratch _
+    (sym c.if-not-suits_coordinator.ensures) c.choose_own.ensures

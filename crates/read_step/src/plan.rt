@@ -1,0 +1,93 @@
+// A subtransaction of a read tree is planned.
+ghost use Rattle.std.specs.Prelude.{◌≡◌, [], is_some, IfNone, IfOk, IfSome, OnOk};
+ghost use Rattle.std.specs.Option.{option_copied};
+ghost use Rattle.tree_step.specs.Meant.{out_in, part_meant};
+ghost use Rattle.tree_step.specs.Node.{data_of, IsReady};
+ghost use Rattle.read_step.specs.Rows.{can_get, can_read, gets, got_by_deed, IsReadPart};
+ghost use Rattle.tree_step.specs.AtNode.{IsDueAt};
+
+use commute_ops::{Value, Values};
+use item_versions::ItemTable;
+use letter_types::{Letter, Notice};
+use std::alloc::Global;
+use tree_step::{
+    InVersion, NodeParts, PartPlan, Scratch, SubTurn, asked_ops, asked_version, plan_tree,
+};
+use tv_base::{NoMemory, Version};
+use tx_trees::{Deed, Script, SubOp};
+
+/// What a get shows in version `v`. None where the operation isn't one, or its item isn't there.
+fn shown<'a>(items: &'a ItemTable, v: Version, op: &SubOp) -> Option<&'a Value>
+    ensures { option_copied result ≡ got_by_deed v op.now.item op.now.deed items.now }
+{
+    let Deed::Get = op.deed else {
+        return None;
+    };
+    let Some(item) = items.item(op.item) else {
+        return None;
+    };
+    Some(item.seen(v))
+}
+
+/// The values of the gets of a read in version `v`. None exactly where one of the operations isn't a get, or its item
+/// isn't there.
+pub(crate) fn get_values(
+    alloc: Global,
+    items: &ItemTable,
+    v: Version,
+    ops: &[SubOp],
+) -> Result<Option<Values>, NoMemory>
+    ensures can { IfOk result (λ found. is_some found ≡ can_get v ops.now items.now) }
+    ensures values { IfOk result (λ found. IfSome found (λ values. values ≡ gets v ops.now items.now)) }
+{
+    let mut values = Values::with_capacity(alloc, ops.len())?;
+    for op in ops {
+        let Some(value) = shown(items, v, op) else {
+            return Ok(None);
+        };
+        values.push((op.item, value.copy(alloc)?))?;
+    }
+    Ok(Some(values))
+}
+
+/// Plans what a node does with a letter that asks it for a subtransaction of a read tree (docs/ALGORITHM.md, "Nodes"),
+/// before the tree is answered. None exactly where the operations may not be made; then nothing goes out.
+pub fn plan_read(
+    alloc: Global,
+    node: &NodeParts,
+    letter: &Letter,
+    script: &Script,
+    scratch: &mut Scratch,
+) -> Result<Option<PartPlan>, NoMemory>
+    // What the caller knows.
+    requires ready { IsReady script.now letter.now.to.0 node.now }
+    requires due { IsDueAt script.now letter.now node.now }
+    requires none_staged { scratch.old.staged ≡ [] }
+    requires no_values { scratch.old.values ≡ [] }
+    requires none_sent { scratch.old.sent ≡ [] }
+    requires no_acts { scratch.old.acts ≡ [] }
+    // What is planned.
+    ensures can { IfOk result (λ found. is_some found ≡ can_read script.now (data_of node.now) letter.now.body) }
+    ensures part { IfOk result (λ found. IfSome found
+        (λ part. IsReadPart script.now letter.now node.now (part_meant part scratch.new))) }
+    ensures none { IfOk result (λ found. IfNone found (out_in scratch.new ≡ record { sent = []; acts = [] })) }
+    ensures rest { OnOk result (scratch.new ≡ record scratch.old {
+      staged = scratch.new.staged;
+      values = scratch.new.values;
+      sent = scratch.new.sent;
+      acts = scratch.new.acts;
+    }) }
+{
+    let version = asked_version(letter, node.turns.read);
+    let Some(values) = get_values(alloc, &node.items, version, asked_ops(letter, script))? else {
+        return Ok(None);
+    };
+    let within = InVersion {
+        version,
+        raises: false,
+    };
+    let notice = Notice::Did(values);
+    let turn = SubTurn { within, notice };
+    let part = plan_tree(alloc, node, letter, script, turn, scratch)?;
+    Ok(Some(part))
+}

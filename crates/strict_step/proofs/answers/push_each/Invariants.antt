@@ -1,8 +1,0 @@
-use Rattle.std.proofs.Common.{◌≡◌, ◌++◌, take}
-use Rattle.world_model.specs.Strict.{to_each}
-use Rattle.tree_step.specs.CoreChanges.{numbers_of_nodes}
-use Rattle.strict_step.proofs.answers.push_each.Given as goal
-
--- a letter to each node so far
-abbrev pub invariant-loop-node : goal.invariant-loop-node
-invariant-loop-node l = l.sent ≡ l.initial.sent ++ to_each l.body (numbers_of_nodes (take l.node-index l.nodes))

@@ -1,0 +1,28 @@
+use Rattle.std.proofs.Common.{false, sym, subst}
+use Rattle.tree_step.specs.AtNode.{IsNotedPart}
+use Rattle.tree_step.specs.Meant.{home_at}
+use Rattle.tree_step.specs.declared.change.Change.TheVariants.{Tree}
+use Rattle.tree_step.specs.declared.change.TreePrepared.{TreePrepared}
+use Rattle.tree_step.proofs.Noticed.{noted_part}
+use Rattle.tree_step.proofs.notices.plan_notice.Goals as goal
+
+pub returns-clause-part : goal.returns-clause-part
+returns-clause-part c =
+    let q = c.args.request in
+    let home = c.in_ok-home in
+    let does = home_at q.tree q.sub c.home_for.new.noted home.home in
+    subst (λ (p : TreePrepared). IsNotedPart q c.args.values.now c.args.node.now p)
+    (λ i. record {
+      prepared = record {
+        change = Tree (record {
+          raises = false;
+          staged = sym c.requires.none_staged i;
+          counting = record { version = q.version; root = false; from = q.from; asked = 0 };
+          home = does;
+        });
+        out = record { sent = sym c.requires.none_sent i; acts = sym c.requires.no_acts i };
+      };
+      answered = home.answered;
+    })
+    (noted_part q c.args.values.now c.args.node.now does home.answered c.requires.from c.requires.small c.requires.window
+    c.requires.near home.ensures.after home.ensures.answered home.ensures.may)

@@ -1,0 +1,38 @@
+// No run makes this call: a run does the step of a whole core, and copies its letters alone.
+ghost use Rattle.tree_step.specs.Changes.{IsDoneTwice, MayDo, SendsRequests, part_row, replied};
+ghost use Rattle.tree_step.specs.Meant.{doing_meant, part_meant};
+ghost use Rattle.tree_step.specs.Node.{data_of};
+
+use crate::doing::do_whole;
+use crate::node::NodeParts;
+use crate::plan::{PartPlan, Scratch, take_out};
+use crate::replies::push_reply;
+use letter_types::{Step, StepOut, copy_acts, copy_letters};
+use std::alloc::Global;
+use tv_base::{ActorNo, NoMemory};
+use tx_trees::Script;
+
+/// Does what is planned for a tree's letter, and gives what goes out, twice over: with the answer to the client behind
+/// what is sent, where the tree is answered. Where no memory is found the parts are as they were.
+pub fn do_part(
+    alloc: Global,
+    parts: &mut NodeParts,
+    script: &Script,
+    part: PartPlan,
+    scratch: &mut Scratch,
+) -> Result<Step, NoMemory>
+    requires may { MayDo (doing_meant part.doing scratch.old) scratch.old.sent parts.old }
+    requires counted { SendsRequests (doing_meant part.doing scratch.old) scratch.old.sent }
+    ensures { IsDoneTwice (replied script.now (part_row (part_meant part scratch.old) (data_of parts.old)))
+        parts.old parts.new result }
+{
+    let PartPlan { doing, answered } = part;
+    push_reply(&mut scratch.sent, ActorNo(script.nodes() + 1), answered)?;
+    let kept = StepOut {
+        sent: copy_letters(alloc, &scratch.sent)?,
+        acts: copy_acts(alloc, &scratch.acts)?,
+    };
+    do_whole(alloc, parts, doing, scratch)?;
+    let given = take_out(alloc, scratch);
+    Ok(Step { given, kept })
+}

@@ -1,0 +1,180 @@
+// A root or another subtransaction is planned.
+ghost use Rattle.std.specs.Prelude.{◌≡◌, ◌<◌, length, IfOk, IsTrue, None, OnOk};
+ghost use Rattle.item_versions.specs.Table.{pending};
+ghost use Rattle.item_versions.specs.Window.{in_window, IsWindowedTable};
+ghost use Rattle.tree_home.specs.Homes.{begun, home_in, open_trees};
+ghost use Rattle.tx_trees.specs.ScriptData.{subs_at};
+ghost use Rattle.tree_step.specs.Changes.{home_after, MayHome};
+ghost use Rattle.tree_step.specs.Meant.{home_at, part_meant};
+ghost use Rattle.tree_step.specs.Node.{IsReady};
+ghost use Rattle.world_model.specs.Notices.{homes_noted, values_of};
+ghost use Rattle.tree_step.specs.inside.Opening.{root_answer};
+ghost use Rattle.tree_step.specs.AtNode.{IsRootPart, IsSubPart};
+
+use crate::asked::{Request, SubTurn};
+use crate::counting::Counting;
+use crate::letters::{push_done, root_acts, sub_acts, sub_letters};
+use crate::node::NodeParts;
+use crate::plan::{Doing, HomePlan, PartPlan, Scratch, TreePlan};
+use commute_ops::Values;
+use letter_types::Notice;
+use std::alloc::Global;
+use tree_home::{Answered, Homes};
+use tv_base::{NoMemory, NodeNo, SubNo};
+use tx_trees::Script;
+
+/// The values that a notice brings.
+fn values_of(alloc: Global, notice: Notice) -> Values
+    ensures { result ≡ values_of notice }
+{
+    match notice {
+        Notice::Did(values) => values,
+        Notice::Yes(values) => values,
+        Notice::No(_) => Values::new(alloc),
+    }
+}
+
+/// What the home of a tree of so many subtransactions does once its root is done, and what the tree is answered then. A
+/// tree that has no other isn't opened, since these values are its answer; of any other they are noted.
+fn root_home(
+    homes: &Homes,
+    request: Request,
+    subs: u32,
+    values: Values,
+    noted: &mut Values,
+) -> (HomePlan, Option<Answered>)
+    requires some { 0 < subs }
+    requires absent { home_in request.tree (open_trees homes.now) ≡ None }
+    ensures after { home_after (home_at request.tree (record { 0 = 0 }) noted.new result.0) (open_trees homes.now)
+        ≡ homes_noted request.tree (record { 0 = 0 }) values
+        (begun request.tree subs request.version (open_trees homes.now)) }
+    ensures answered { result.1 ≡ root_answer subs request.tree request.version values }
+    ensures may { MayHome (home_at request.tree (record { 0 = 0 }) noted.new result.0) (open_trees homes.now) }
+{
+    let Request { tree, version, .. } = request;
+    if subs == 1 {
+        let answered = Answered {
+            tree,
+            version,
+            values,
+        };
+        return (HomePlan::Stay, Some(answered));
+    }
+    *noted = values;
+    (HomePlan::Open { subs, version }, None)
+}
+
+/// Plans the root of a tree of which its home is told this: it is counted, its children are asked for, and its home
+/// takes down its notice, which may be the last.
+pub(crate) fn plan_root(
+    alloc: Global,
+    node: &NodeParts,
+    script: &Script,
+    request: Request,
+    notice: Notice,
+    scratch: &mut Scratch,
+) -> Result<PartPlan, NoMemory>
+    // What the caller knows.
+    requires ready { IsReady script.now request.from.0 node.now }
+    requires there { 0 < length (subs_at script.now request.tree.0) }
+    requires absent { home_in request.tree (open_trees node.now.homes) ≡ None }
+    requires near { IsTrue (in_window node.now.turns.low.0 request.version.0) }
+    requires fits { IsWindowedTable node.now.turns.low.0 (pending scratch.old.staged node.now.items) }
+    // What is planned.
+    ensures part { IfOk result (λ part. IsRootPart script.now request
+        (record { staged = scratch.old.staged; notice = notice }) node.now (part_meant part scratch.new)) }
+    ensures rest { OnOk result (scratch.new ≡ record scratch.old {
+      values = scratch.new.values;
+      sent = scratch.new.sent;
+      acts = scratch.new.acts;
+    }) }
+{
+    let Request {
+        tree,
+        version,
+        from,
+        ..
+    } = request;
+    let subs = script.subs_of(tree);
+    let count = subs.len() as u32;
+    let sent = sub_letters(alloc, tree, version, SubNo(0), subs, 0)?;
+    let asked = sent.items().len();
+    let acts = root_acts(alloc, tree, version, &notice)?;
+    scratch.sent = sent;
+    scratch.acts = acts;
+    let values = values_of(alloc, notice);
+    let (home, answered) = root_home(&node.homes, request, count, values, &mut scratch.values);
+    let counting = Counting {
+        version,
+        root: true,
+        from,
+        asked,
+    };
+    let plan = TreePlan {
+        tree,
+        sub: SubNo(0),
+        raises: false,
+        counting,
+        home,
+    };
+    Ok(PartPlan {
+        doing: Doing::Tree(plan),
+        answered,
+    })
+}
+
+/// Plans the turn of a subtransaction that isn't a root: it is counted, its children are asked for, and its notice goes
+/// to the tree's home.
+pub(crate) fn plan_sub(
+    alloc: Global,
+    node: &NodeParts,
+    script: &Script,
+    request: Request,
+    turn: SubTurn,
+    scratch: &mut Scratch,
+) -> Result<PartPlan, NoMemory>
+    // What the caller knows.
+    requires ready { IsReady script.now request.from.0 node.now }
+    requires there { 0 < length (subs_at script.now request.tree.0) }
+    requires near { IsTrue (in_window node.now.turns.low.0 request.version.0) }
+    requires fits { IsWindowedTable node.now.turns.low.0 (pending scratch.old.staged node.now.items) }
+    // What is planned.
+    ensures part { IfOk result (λ part. IsSubPart script.now request turn.within.raises
+        (record { staged = scratch.old.staged; notice = turn.notice }) node.now (part_meant part scratch.new)) }
+    ensures rest { OnOk result (scratch.new
+        ≡ record scratch.old { sent = scratch.new.sent; acts = scratch.new.acts }) }
+{
+    let SubTurn { within, notice } = turn;
+    let raises = within.raises;
+    let Request {
+        tree,
+        sub,
+        version,
+        from,
+    } = request;
+    let subs = script.subs_of(tree);
+    let home = NodeNo(script.home_of(tree));
+    let mut sent = sub_letters(alloc, tree, version, sub, subs, 1)?;
+    let acts = sub_acts(alloc, request, &notice, raises)?;
+    push_done(&mut sent, home, request, notice)?;
+    let asked = sent.items().len();
+    scratch.sent = sent;
+    scratch.acts = acts;
+    let counting = Counting {
+        version,
+        root: false,
+        from,
+        asked,
+    };
+    let plan = TreePlan {
+        tree,
+        sub,
+        raises,
+        counting,
+        home: HomePlan::Stay,
+    };
+    Ok(PartPlan {
+        doing: Doing::Tree(plan),
+        answered: None,
+    })
+}

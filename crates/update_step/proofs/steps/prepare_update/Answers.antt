@@ -1,8 +1,0 @@
-use Rattle.update_step.proofs.Updated.{update_made}
-use Rattle.update_step.proofs.steps.prepare_update.Goals as goal
-
-pub returns : goal.returns
-returns c =
-    update_made c.args.script.now c.args.letter.now.to.0 c.args.letter.now.from.0 c.args.letter.now.body c.args.node.now
-    c.in-Some.part _ (rw c.in-Some.is at c.in_ok-part.ensures.can) (rw c.in-Some.is at c.in_ok-part.ensures.part)
-    c.in_ok-prepared.ensures

@@ -1,0 +1,109 @@
+// A subtransaction of an update tree is planned.
+ghost use Rattle.std.specs.Prelude.{◌≡◌, [], is_some, IfNone, IfOk, IfSome, IsTrue, OnOk};
+ghost use Rattle.std.specs.Bool.{OnTrue};
+ghost use Rattle.item_versions.specs.Table.{pending};
+ghost use Rattle.item_versions.specs.Window.{in_window, IsWindowedTable};
+ghost use Rattle.tree_step.specs.Meant.{out_in, part_meant};
+ghost use Rattle.tree_step.specs.Node.{data_of, IsReady};
+ghost use Rattle.update_step.specs.Rows.{can_touch, can_update, IsUpdatePart, table_after_ops};
+ghost use Rattle.tree_step.specs.AtNode.{IsDueAt};
+
+use commute_ops::Values;
+use item_versions::Staged;
+use letter_types::{Letter, Notice};
+use std::alloc::Global;
+use tree_step::{
+    InVersion, NodeParts, PartPlan, Scratch, SubTurn, asked_ops, asked_version, is_above, plan_tree,
+};
+use tv_base::{NoMemory, Version};
+use tx_trees::{Deed, Script, SubOp};
+
+/// Stages what the operations of an update make at a node in version `v`. False exactly where one of them may not be
+/// made.
+fn stage_ops(
+    alloc: Global,
+    node: &NodeParts,
+    v: Version,
+    ops: &[SubOp],
+    staged: &mut Staged,
+) -> Result<bool, NoMemory>
+    requires items { IsWindowedTable node.now.turns.low.0 node.now.items }
+    requires near { IsTrue (in_window node.now.turns.low.0 v.0) }
+    ensures can { IfOk result (λ can. can ≡ can_touch v ops.now node.now.items) }
+    ensures after { IfOk result (λ can. OnTrue can
+        (pending staged.new node.now.items ≡ table_after_ops v ops.now node.now.items)) }
+    ensures fits { IfOk result (λ can. OnTrue can
+        (IsWindowedTable node.now.turns.low.0 (pending staged.new node.now.items))) }
+{
+    let items = &node.items;
+    // The reader says that the versions of each item ascend.
+    let _count = items.count();
+    *staged = Staged::with_capacity(alloc, ops.len())?;
+    for op in ops {
+        let Deed::Apply(change) = &op.deed else {
+            return Ok(false);
+        };
+        if !items.stage_if_may(staged, v, op.item, change)? {
+            return Ok(false);
+        }
+    }
+    Ok(true)
+}
+
+/// Whether the operations that a letter asks for may be made.
+pub fn can_update(
+    alloc: Global,
+    node: &NodeParts,
+    letter: &Letter,
+    script: &Script,
+) -> Result<bool, NoMemory>
+    requires ready { IsReady script.now letter.now.to.0 node.now }
+    requires due { IsDueAt script.now letter.now node.now }
+    ensures { IfOk result (λ can. can ≡ can_update script.now (data_of node.now) letter.now.body) }
+{
+    let asked = asked_version(letter, node.turns.update);
+    let mut staged = Staged::new(alloc);
+    let can = stage_ops(alloc, node, asked, asked_ops(letter, script), &mut staged)?;
+    Ok(can)
+}
+
+/// Plans what a node does with a letter that asks it for a subtransaction of an update tree (docs/ALGORITHM.md,
+/// "Nodes"), before the tree is answered. None exactly where the operations may not be made; then nothing goes out.
+pub fn plan_update(
+    alloc: Global,
+    node: &NodeParts,
+    letter: &Letter,
+    script: &Script,
+    scratch: &mut Scratch,
+) -> Result<Option<PartPlan>, NoMemory>
+    // What the caller knows.
+    requires ready { IsReady script.now letter.now.to.0 node.now }
+    requires due { IsDueAt script.now letter.now node.now }
+    requires none_staged { scratch.old.staged ≡ [] }
+    requires no_values { scratch.old.values ≡ [] }
+    requires none_sent { scratch.old.sent ≡ [] }
+    requires no_acts { scratch.old.acts ≡ [] }
+    // What is planned.
+    ensures can { IfOk result (λ found. is_some found ≡ can_update script.now (data_of node.now) letter.now.body) }
+    ensures part { IfOk result (λ found. IfSome found
+        (λ part. IsUpdatePart script.now letter.now node.now (part_meant part scratch.new))) }
+    ensures none { IfOk result (λ found. IfNone found (out_in scratch.new ≡ record { sent = []; acts = [] })) }
+    ensures rest { OnOk result (scratch.new ≡ record scratch.old {
+      staged = scratch.new.staged;
+      values = scratch.new.values;
+      sent = scratch.new.sent;
+      acts = scratch.new.acts;
+    }) }
+{
+    let version = asked_version(letter, node.turns.update);
+    let ops = asked_ops(letter, script);
+    if !stage_ops(alloc, node, version, ops, &mut scratch.staged)? {
+        return Ok(None);
+    }
+    let raises = is_above(&node.turns, version);
+    let within = InVersion { version, raises };
+    let notice = Notice::Did(Values::new(alloc));
+    let turn = SubTurn { within, notice };
+    let part = plan_tree(alloc, node, letter, script, turn, scratch)?;
+    Ok(Some(part))
+}
