@@ -3,8 +3,6 @@
 
 mod plan;
 mod public;
-mod steps;
 
 pub use plan::plan_read;
 pub use public::run_read;
-pub use steps::read_part;

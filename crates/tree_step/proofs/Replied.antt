@@ -8,14 +8,13 @@ use Rattle.letter_types.specs.declared.entries.Outgoing.{Outgoing}
 use Rattle.pair_counters.specs.Counts.{Counts}
 use Rattle.pair_counters.specs.Rows.{counts_of}
 use Rattle.tx_trees.specs.ScriptData.{ScriptData, client_of}
-use Rattle.world_model.specs.Done.{TreeOut, counted_root, counted_sub, raised_if}
+use Rattle.world_model.specs.Done.{counted_root, counted_sub, raised_if}
 use Rattle.world_model.specs.Notices.{reply_letters}
-use Rattle.tree_step.specs.Changes.{after_change, home_after, IsNodeStepOf, IsReplied, IsTreePartOf, MayChange, MayCount, MayDo, SendsRequests, replied}
-use Rattle.tree_step.specs.Node.{Node, data_of}
+use Rattle.tree_step.specs.Changes.{after_change, home_after, IsReplied, MayChange, MayCount, MayDo, SendsRequests}
+use Rattle.tree_step.specs.Node.{Node}
 use Rattle.tree_step.specs.inside.Sent.{MOST_SENT}
 use Rattle.tree_step.specs.declared.change.Change.{Change}
 use Rattle.tree_step.specs.declared.change.Change.TheVariants.{Still, Tree, Turn, Show, Sweep}
-use Rattle.tree_step.specs.declared.change.Prepared.{Prepared}
 use Rattle.tree_step.specs.declared.change.TreeChange.{TreeChange}
 use Rattle.tree_step.specs.declared.change.TreePrepared.{TreePrepared}
 use Rattle.tree_step.specs.declared.counting.Counting.{Counting}
@@ -103,11 +102,3 @@ is_replied s part client sent to letters counted =
       may = λ n may. subst (λ (os : List Outgoing). MayDo part.prepared.change os n) (sym is)
           (do_more part.prepared.change old more n counted may);
     }
-
--- the step of a part is that of the row with the answer then
-pub replied_step : (s : ScriptData) (o : TreeOut) (n : NodeParts) (part : TreePrepared) (p : Prepared)
-    → IsTreePartOf o n part → IsReplied s part p → IsNodeStepOf (replied s o) n p
-replied_step s o n part p is with_answer = record {
-  row = with_answer.row (data_of n) ∙ ap (λ (x : TreeOut). replied s x) is.row;
-  may = with_answer.may n is.may;
-}

@@ -7,11 +7,9 @@ ghost use Rattle.tree_step.specs.Meant.{part_meant};
 ghost use Rattle.tree_step.specs.Node.{IsReady};
 ghost use Rattle.tree_step.specs.AtNode.{IsDueAt, IsTreePartAt};
 
-use crate::change::{Prepared, TreePrepared};
 use crate::lookups::ops_of;
-use crate::node::{Effect, NodeParts};
+use crate::node::NodeParts;
 use crate::plan::{Doing, PartPlan, Scratch};
-use crate::steps::{prepare_root, prepare_sub};
 use crate::subs::{plan_root, plan_sub};
 use letter_types::{Body, Letter, Notice};
 use std::alloc::Global;
@@ -64,48 +62,6 @@ pub struct InVersion {
 pub struct SubTurn {
     pub within: InVersion,
     pub notice: Notice,
-}
-
-/// Prepares the subtransaction that a letter asks for, in this version and with this effect, before the tree is
-/// answered.
-pub fn prepare_tree(
-    alloc: Global,
-    node: &NodeParts,
-    letter: &Letter,
-    script: &Script,
-    within: InVersion,
-    effect: Effect,
-) -> Result<TreePrepared, NoMemory>
-    requires ready { IsReady script.now letter.now.to.0 node.now }
-    requires due { IsDueAt script.now letter.now node.now }
-    requires near { IsTrue (in_window node.now.turns.low.0 within.version.0) }
-    requires fits { IsWindowedTable node.now.turns.low.0 (pending effect.staged node.now.items) }
-    ensures { IfOk result (IsTreePartAt script.now letter.now within effect node.now) }
-{
-    match &letter.body {
-        Body::Root { tree } => {
-            let request = Request {
-                tree: *tree,
-                sub: SubNo(0),
-                version: within.version,
-                from: NodeNo(letter.to.0),
-            };
-            prepare_root(alloc, node, script, request, effect)
-        }
-        Body::Sub { tree, sub, .. } => {
-            let request = Request {
-                tree: *tree,
-                sub: *sub,
-                version: within.version,
-                from: NodeNo(letter.from.0),
-            };
-            prepare_sub(alloc, node, script, request, within.raises, effect)
-        }
-        _ => Ok(TreePrepared {
-            prepared: Prepared::still(alloc),
-            answered: None,
-        }),
-    }
 }
 
 /// Plans the subtransaction that a letter asks for, and that makes what is staged in the scratch, before the tree is

@@ -10,8 +10,8 @@ ghost use Rattle.tree_step.specs.CoreChanges.{MayDoCore, epoch_with, numbers_of_
 ghost use Rattle.tree_step.specs.Meant.{core_meant, doing_meant, held_by, home_meant, IsDoingDone, IsStepDone, locks_meant, meant_with, out_in, refusals_meant, tree_meant};
 ghost use Rattle.tree_step.specs.inside.PlanOpening.{doing_once_open, opening_by, plan_once_open};
 ghost use Rattle.tree_step.specs.AtNode.{asked_counts};
+ghost use Rattle.world_model.specs.Done.{raised_if};
 
-use crate::change::raise_if;
 use crate::core_change::Opening;
 use crate::counting::count;
 use crate::node::NodeParts;
@@ -21,6 +21,7 @@ use crate::refusals::Refusals;
 use commute_ops::Values;
 use item_versions::Staged;
 use nc_locks::Locks;
+use node_versions::Turns;
 use pair_counters::Counters;
 use std::alloc::Global;
 use std::mem;
@@ -41,6 +42,15 @@ fn do_home(homes: &mut Homes, plan: TreePlan, values: Values)
         HomePlan::Open { .. } => {}
         HomePlan::Note => homes.put_notice(plan.tree, plan.sub, values),
         HomePlan::Forget => homes.forget(plan.tree),
+    }
+}
+
+/// Raises the update version where it is to be raised.
+fn raise_if(turns: &mut Turns, raises: bool, v: Version)
+    ensures { turns.new ≡ raised_if raises v.0 turns.old }
+{
+    if raises {
+        turns.update = v;
     }
 }
 

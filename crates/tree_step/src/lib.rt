@@ -1,7 +1,6 @@
 //! What a node keeps, its parts, and its core: these parts with its locks, the answers that it holds, the noes and the
 //! epoch of which it has heard. Whether a letter is due; what doing a subtransaction counts, sends and tells, and what
-//! a home makes of a notice, whatever kind of tree it is of, prepared; and the one call each that changes the parts,
-//! and the core.
+//! a home makes of a notice, whatever kind of tree it is of, planned; and the one call that changes a core.
 #![tactic(auto)]
 
 mod asked;
@@ -10,7 +9,6 @@ mod core_change;
 mod counting;
 mod doing;
 mod due;
-mod flattening;
 mod letters;
 mod lookups;
 mod node;
@@ -20,24 +18,22 @@ mod plan;
 mod public;
 mod refusals;
 mod replies;
-mod steps;
 mod subs;
 
-pub use asked::{InVersion, Request, SubTurn, asked_ops, asked_version, plan_tree, prepare_tree};
-pub use change::{Change, HomeChange, Prepared, TreeChange, TreePrepared, done, done_twice};
+pub use asked::{InVersion, Request, SubTurn, asked_ops, asked_version, plan_tree};
+pub use change::{Change, HomeChange, Prepared, TreeChange, TreePrepared};
 pub use core_change::{CorePrepared, HoldChange, Visited, VoteChange};
 pub use counting::Counting;
 pub use doing::do_plan;
 pub use due::{can_obey, is_above, is_due, is_near};
-pub use flattening::flatten;
 pub use lookups::{is_strict, kind_of};
 pub use node::{Effect, NodeParts};
 pub use node_core::NodeCore;
-pub use notices::{plan_notice, prepare_notice};
+pub use notices::plan_notice;
 pub use plan::{
     Doing, HoldPlan, HomePlan, PartPlan, Plan, Scratch, TreePlan, VotePlan, new_scratch, take_out,
     wipe,
 };
 pub use public::do_part;
 pub use refusals::Refusals;
-pub use replies::{push_reply, reply};
+pub use replies::push_reply;

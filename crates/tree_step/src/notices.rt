@@ -8,97 +8,21 @@ ghost use Rattle.tree_step.specs.Changes.{home_after, MayHome};
 ghost use Rattle.world_model.specs.Notices.{answer_noted, homes_noted};
 ghost use Rattle.tree_step.specs.Meant.{home_at, part_meant};
 ghost use Rattle.tree_step.specs.Node.{IsInWindow};
-ghost use Rattle.tree_step.specs.inside.Noting.{noting};
 ghost use Rattle.tree_step.specs.AtNode.{IsNotedPart};
 
 use crate::asked::Request;
-use crate::change::{Change, HomeChange, Prepared, TreeChange, TreePrepared};
 use crate::counting::Counting;
 use crate::node::NodeParts;
 use crate::plan::{Doing, HomePlan, PartPlan, Scratch, TreePlan};
 use commute_ops::{Values, copy_values};
-use item_versions::Staged;
-use letter_types::StepOut;
 use std::alloc::Global;
 use tree_home::{Answered, Homes, Prospect};
-use tv_base::{NoMemory, SubNo, TreeNo};
-
-/// What the home does for a notice of these values, and what the tree is answered then.
-#[tactic(auto, using(crate::proofs::Noticed::noticed))]
-fn notice_home(
-    alloc: Global,
-    homes: &Homes,
-    tree: TreeNo,
-    sub: SubNo,
-    values: &Values,
-) -> Result<(HomeChange, Option<Answered>), NoMemory>
-    ensures after { IfOk result (λ r. home_after r.0 (open_trees homes.now)
-        ≡ homes_noted tree sub values.now (open_trees homes.now)) }
-    ensures answered { IfOk result (λ r. r.1 ≡ answer_noted tree sub values.now (open_trees homes.now)) }
-    ensures may { IfOk result (λ r. MayHome r.0 (open_trees homes.now)) }
-{
-    match homes.would_answer(tree, sub, values)? {
-        Prospect::NotMissing => Ok((HomeChange::Stay, None)),
-        Prospect::Noted => {
-            let values = copy_values(alloc, values)?;
-            Ok((HomeChange::Note { tree, sub, values }, None))
-        }
-        Prospect::Answered(answer) => Ok((HomeChange::Forget { tree }, Some(answer))),
-    }
-}
-
-/// The step of a notice: its completion is counted, and its home does this.
-fn noting(
-    alloc: Global,
-    request: Request,
-    home: HomeChange,
-    answered: Option<Answered>,
-) -> TreePrepared
-    ensures { result ≡ noting request.from request.version home answered }
-{
-    let counting = Counting {
-        version: request.version,
-        root: false,
-        from: request.from,
-        asked: 0,
-    };
-    let change = TreeChange {
-        raises: false,
-        staged: Staged::new(alloc),
-        counting,
-        home,
-    };
-    let prepared = Prepared {
-        change: Change::Tree(change),
-        out: StepOut::still(alloc),
-    };
-    TreePrepared { prepared, answered }
-}
-
-/// Prepares the step of a tree's home that takes a notice of these values down and counts its completion, before the
-/// tree is answered, which it is where no notice is missing any more. A notice that isn't missing is counted and changes
-/// nothing else.
-pub fn prepare_notice(
-    alloc: Global,
-    node: &NodeParts,
-    request: Request,
-    values: &Values,
-) -> Result<TreePrepared, NoMemory>
-    requires from { request.from.0 < (counts_of node.now.counters).nodes }
-    requires small { AllBelow MOST_COUNT (counts_of node.now.counters).numbers }
-    requires window { IsInWindow node.now }
-    requires near { IsTrue (in_window node.now.turns.low.0 request.version.0) }
-    ensures { IfOk result (IsNotedPart request values.now node.now) }
-{
-    let Request { tree, sub, .. } = request;
-    let (home, answered) = notice_home(alloc, &node.homes, tree, sub, values)?;
-    Ok(noting(alloc, request, home, answered))
-}
+use tv_base::NoMemory;
 
 /// What the home does for a notice of these values, of which a copy is noted if it is taken down, and what the tree is
 /// answered then.
 #[tactic(auto, using(crate::proofs::Noticed::noticed))]
-fn home_for(
+fn notice_home(
     alloc: Global,
     homes: &Homes,
     request: Request,
@@ -148,7 +72,7 @@ pub fn plan_notice(
       acts = scratch.new.acts;
     }) }
 {
-    let (home, answered) = home_for(alloc, &node.homes, request, values, &mut scratch.values)?;
+    let (home, answered) = notice_home(alloc, &node.homes, request, values, &mut scratch.values)?;
     let Request {
         tree,
         sub,

@@ -3,8 +3,6 @@
 
 mod plan;
 mod public;
-mod steps;
 
 pub use plan::{can_update, plan_update};
 pub use public::run_update;
-pub use steps::update_part;

@@ -1,4 +1,4 @@
--- The step of a notice, prepared. Private code alone cites this definition.
+-- The step of a notice, prepared. Proofs alone cite this definition.
 use Rattle.std.specs.Prelude.{false, [], Option}
 use Rattle.tv_base.specs.declared.numbers.NodeNo.{NodeNo}
 use Rattle.tv_base.specs.declared.numbers.Version.{Version}

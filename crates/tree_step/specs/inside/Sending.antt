@@ -6,17 +6,13 @@ use Rattle.letter_types.specs.declared.acts.Act.TheVariants.{Turned}
 use Rattle.letter_types.specs.declared.bodies.Notice.{Notice}
 use Rattle.letter_types.specs.declared.entries.Outgoing.{Outgoing}
 use Rattle.pair_counters.specs.Counts.{Counts}
-use Rattle.tx_trees.specs.declared.parts.Sub.{Sub}
-use Rattle.world_model.specs.Children.{done_letter, sub_letters}
+use Rattle.world_model.specs.Children.{done_letter}
 use Rattle.world_model.specs.Notices.{act_of}
 use Rattle.tree_step.specs.Changes.{counted}
 use Rattle.tree_step.specs.declared.asked.Request.{Request}
 use Rattle.tree_step.specs.declared.counting.Counting.{Counting}
 
--- the Subs to a subtransaction's children, and the Done to its tree's home
-abbrev pub children_of : Request → List Sub → List Outgoing
-children_of r subs = sub_letters r.tree.0 r.version.0 r.sub.0 0 subs
-
+-- the Done to its tree's home
 abbrev pub done_to : NodeNo → Request → Notice → Outgoing
 done_to home r notice = done_letter home.0 r.tree.0 r.sub.0 r.version.0 notice
 

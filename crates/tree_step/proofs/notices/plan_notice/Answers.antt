@@ -10,7 +10,7 @@ pub returns-clause-part : goal.returns-clause-part
 returns-clause-part c =
     let q = c.args.request in
     let home = c.in_ok-home in
-    let does = home_at q.tree q.sub c.home_for.new.noted home.home in
+    let does = home_at q.tree q.sub c.notice_home.new.noted home.home in
     subst (λ (p : TreePrepared). IsNotedPart q c.args.values.now c.args.node.now p)
     (λ i. record {
       prepared = record {
