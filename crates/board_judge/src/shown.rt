@@ -1,8 +1,6 @@
 // What operations see of their items: what the items are worth at a version.
 ghost use Rattle.std.specs.Prelude.{◌≡◌, ◌<◌, false, ℕ, List, Some, None, length, IfOk};
 ghost use Rattle.std.specs.Bool.{Decides};
-ghost use Rattle.letter_types.specs.Causes.{short_cause};
-ghost use Rattle.script_parts.specs.Deeds.{found_short};
 ghost use Rattle.script_parts.specs.ScriptData.{ScriptData};
 ghost use Rattle.script_parts.specs.Valid.{IsValid};
 ghost use Rattle.board_rules.specs.Histories.{Place};
@@ -13,7 +11,8 @@ ghost use Rattle.board_judge.specs.Views.{AreThere};
 ghost use Rattle.board_judge.specs.inside.Shorts.{draws, short_item, short_ops};
 
 use commute_ops::Value;
-use letter_types::Cause;
+use letter_types::{Cause, short_cause};
+use script_parts::deeds::found_short;
 use std::alloc::Global;
 use tv_base::{ItemNo, NoMemory, Version};
 use tx_trees::{Deed, SubOp};
@@ -107,8 +106,7 @@ fn short_item(
         return Ok(None);
     };
     let value = worths.at(alloc, version)?;
-    let cause = short_by(op.item, &op.deed, &value);
-    Ok(cause)
+    Ok(short_cause(op.item, found_short(&op.deed, &value)))
 }
 
 // Whether the deed draws from its item.
@@ -120,24 +118,5 @@ fn draws(deed: &Deed) -> bool
         Deed::Get => false,
         Deed::Apply(_) => false,
         Deed::Set(_) => false,
-    }
-}
-
-// A value that is less than what is drawn, as a cause.
-fn short_by(item: ItemNo, deed: &Deed, value: &Value) -> Option<Cause>
-    ensures { result ≡ short_cause item (found_short deed.now value.now) }
-{
-    match (deed, value) {
-        (Deed::Draw(amount), Value::Sum(found)) => {
-            if found.0 < *amount {
-                Some(Cause::Short {
-                    item,
-                    found: found.0,
-                })
-            } else {
-                None
-            }
-        }
-        _ => None,
     }
 }

@@ -4,7 +4,6 @@ ghost use Rattle.std.specs.Option.{option_map};
 ghost use Rattle.tv_base.specs.declared.numbers.TreeNo.{TreeNo};
 ghost use Rattle.nc_locks.specs.Modes.{modes_conflict};
 ghost use Rattle.script_parts.specs.Counts.{has_strict};
-ghost use Rattle.script_parts.specs.Deeds.{overwrites};
 ghost use Rattle.script_parts.specs.ScriptData.{ScriptData, updates};
 ghost use Rattle.board_rules.specs.Histories.{Place, version_in, version_or, was_done};
 ghost use Rattle.board_rules.specs.Stands.{conflict_of, holder_of, newer_of, newest_of};
@@ -246,18 +245,6 @@ fn newest(script: &Script, users: &Users, board: &Board, node: ActorNo, item: It
     let strict = newest_by(script, board, node, on(&users.strict, item));
     let update = newest_by(script, board, node, on(&users.updates, item));
     update.max(strict)
-}
-
-// Whether a deed writes over what is newer.
-fn overwrites(deed: &Deed) -> bool
-    ensures { result ≡ overwrites deed.now }
-{
-    match deed {
-        Deed::Set(_) => true,
-        Deed::Draw(_) => true,
-        Deed::Get => false,
-        Deed::Apply(_) => false,
-    }
 }
 
 // The first of the operations of a strict tree at a node that writes an item which is written in a version above this one, as a
