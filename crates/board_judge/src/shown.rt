@@ -1,12 +1,11 @@
 // What operations see of their items: what the items are worth at a version.
 ghost use Rattle.std.specs.Prelude.{◌≡◌, ◌<◌, false, Some, None, IfOk};
-ghost use Rattle.letter_types.specs.Causes.{short_cause};
-ghost use Rattle.script_parts.specs.Deeds.{found_short};
 ghost use Rattle.board_rules.specs.Right.{is_get};
 ghost use Rattle.board_judge.specs.inside.Shorts.{draws, short_item, DecidesShown, DecidesWorth, NamesShort, NamesShortOf};
 
 use commute_ops::Value;
-use letter_types::Cause;
+use letter_types::{Cause, short_cause};
+use script_parts::deeds::found_short;
 use std::alloc::Global;
 use tv_base::{ItemNo, NoMemory, Version};
 use tx_trees::{Deed, SubOp};
@@ -96,8 +95,7 @@ fn short_item(
         return Ok(None);
     };
     let value = worths.at(alloc, version)?;
-    let cause = short_by(op.item, &op.deed, &value);
-    Ok(cause)
+    Ok(short_cause(op.item, found_short(&op.deed, &value)))
 }
 
 // Whether the deed draws from its item.
@@ -109,24 +107,5 @@ fn draws(deed: &Deed) -> bool
         Deed::Get => false,
         Deed::Apply(_) => false,
         Deed::Set(_) => false,
-    }
-}
-
-// A value that is less than what is drawn, as a cause.
-fn short_by(item: ItemNo, deed: &Deed, value: &Value) -> Option<Cause>
-    ensures { result ≡ short_cause item (found_short deed.now value.now) }
-{
-    match (deed, value) {
-        (Deed::Draw(amount), Value::Sum(found)) => {
-            if found.0 < *amount {
-                Some(Cause::Short {
-                    item,
-                    found: found.0,
-                })
-            } else {
-                None
-            }
-        }
-        _ => None,
     }
 }

@@ -2,7 +2,6 @@
 ghost use Rattle.std.specs.Prelude.{◌≡◌, ◌<◌, true, List, max};
 ghost use Rattle.tv_base.specs.declared.numbers.TreeNo.{TreeNo};
 ghost use Rattle.nc_locks.specs.Modes.{modes_conflict};
-ghost use Rattle.script_parts.specs.Deeds.{overwrites};
 ghost use Rattle.script_parts.specs.ScriptData.{ScriptData, updates};
 ghost use Rattle.board_rules.specs.Histories.{Place, version_in, version_or, was_done};
 ghost use Rattle.board_tallies.specs.Board.{IsBoardOf, OfBoard};
@@ -13,6 +12,7 @@ use crate::users::{User, Users, lock_mode, on};
 use board_tallies::Board;
 use letter_types::Cause;
 use nc_locks::Mode;
+use script_parts::deeds::overwrites;
 use script_parts::kinds::is_update;
 use tv_base::{ActorNo, ItemNo, TreeNo, Version};
 use tx_trees::{Deed, Script, SubOp};
@@ -237,18 +237,6 @@ fn newest(script: &Script, users: &Users, board: &Board, node: ActorNo, item: It
     let strict = newest_by(script, board, node, on(&users.strict, item));
     let update = newest_by(script, board, node, on(&users.updates, item));
     update.max(strict)
-}
-
-// Whether a deed writes over what is newer.
-fn overwrites(deed: &Deed) -> bool
-    ensures { result ≡ overwrites deed.now }
-{
-    match deed {
-        Deed::Set(_) => true,
-        Deed::Draw(_) => true,
-        Deed::Get => false,
-        Deed::Apply(_) => false,
-    }
 }
 
 // The first of the operations of a strict tree at a node that writes an item which is written in a version above this one, as a

@@ -54,7 +54,6 @@ get_replicate (suc n) (suc i) a = get_replicate n i a
 
 first_unmarked : (of : Marked) (k : ℕ) → get_or (marked_as of first_state) k false ≡ false
 first_unmarked marked.Done k = get_replicate 64 k false
-first_unmarked marked.Voted k = get_replicate 64 k false
 first_unmarked marked.Yes k = get_replicate 64 k false
 first_unmarked marked.Applied k = get_replicate 64 k false
 first_unmarked marked.Freed k = get_replicate 64 k false

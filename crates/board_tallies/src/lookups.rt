@@ -1,10 +1,10 @@
 // What the Board's tallies say of the acts so far.
-ghost use Rattle.std.specs.Prelude.{◌≡◌, ◌↔◌, ◌<◌, IsTrue, List, true};
+ghost use Rattle.std.specs.Prelude.{◌≡◌, List, true};
 ghost use Rattle.script_parts.specs.ScriptData.{ScriptData};
-ghost use Rattle.board_rules.specs.Histories.{Place, is_whole_in, version_in, was_applied, was_decided_as, was_done, AreAllWhole};
+ghost use Rattle.board_rules.specs.Histories.{Place, is_whole_in, version_in, was_applied, was_decided_as, was_done};
 ghost use Rattle.board_rules.specs.Moves.{low_after, read_after, update_after};
 ghost use Rattle.board_rules.specs.Right.{has_finished};
-ghost use Rattle.board_rules.specs.Stands.{voted_yes, was_freed, was_voted};
+ghost use Rattle.board_rules.specs.Stands.{voted_yes, was_freed};
 
 use crate::board::Board;
 use crate::noting::committed_at;
@@ -29,13 +29,6 @@ impl Board {
         ensures { (s : ScriptData) (xs : List Place) → IsBoardOf s xs self.now → result ≡ was_done tree.0 sub.0 xs }
     {
         marked_at(&self.trees, tree, Marked::Done, sub.0 as usize)
-    }
-
-    /// Whether a subtransaction has voted.
-    pub fn was_voted(&self, tree: TreeNo, sub: SubNo) -> bool
-        ensures { (s : ScriptData) (xs : List Place) → IsBoardOf s xs self.now → result ≡ was_voted tree.0 sub.0 xs }
-    {
-        marked_at(&self.trees, tree, Marked::Voted, sub.0 as usize)
     }
 
     /// Whether a subtransaction has voted yes.
@@ -72,13 +65,6 @@ impl Board {
         ensures { (xs : List Place) → IsBoardOf script.now xs self.now → result ≡ is_whole_in script.now xs tree.0 }
     {
         whole_at(script.trees(), &self.trees, tree.0 as usize)
-    }
-
-    /// Whether every transaction is complete. It doesn't go over them.
-    pub fn all_whole(&self) -> bool
-        ensures { (s : ScriptData) (xs : List Place) → IsBoardOf s xs self.now → (IsTrue result ↔ AreAllWhole s xs) }
-    {
-        self.passed == self.trees.len()
     }
 
     /// The update version of a node.

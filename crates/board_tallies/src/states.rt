@@ -49,12 +49,11 @@ pub(crate) enum StateWas {
     Decided(bool, bool),
 }
 
-// What the marks of a tree are of: subtransactions that were done, have voted or have voted yes, and nodes at which what
+// What the marks of a tree are of: subtransactions that were done or have voted yes, and nodes at which what
 // was decided was applied or marks were freed.
 #[derive(Clone, Copy)]
 pub(crate) enum Marked {
     Done,
-    Voted,
     Yes,
     Applied,
     Freed,
@@ -195,7 +194,6 @@ fn marked_as(state: &TreeState, of: Marked) -> &[bool]
 {
     match of {
         Marked::Done => &state.done,
-        Marked::Voted => &state.voted,
         Marked::Yes => &state.yes,
         Marked::Applied => &state.applied,
         Marked::Freed => &state.freed,

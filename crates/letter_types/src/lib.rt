@@ -17,4 +17,4 @@ pub use entries::{
     one_letter,
 };
 pub use kept::{KeepReason, KeptLetter};
-pub use votes::{Cause, Vote};
+pub use votes::{Cause, Vote, short_cause};

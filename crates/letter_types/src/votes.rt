@@ -1,5 +1,6 @@
 // Votes of strict trees.
 ghost use Rattle.std.specs.Prelude.{◌≡◌, IfOk};
+ghost use Rattle.letter_types.specs.Causes.{short_cause};
 
 use crate::boxed::Boxed;
 use commute_ops::{Amount, Values, copy_values};
@@ -35,5 +36,15 @@ impl Vote {
             Vote::Yes(values) => Ok(Vote::Yes(copy_values(alloc, values)?)),
             Vote::No(cause) => Ok(Vote::No(cause.copy(alloc)?)),
         }
+    }
+}
+
+/// Where a sum is short of what is drawn from an item, with this number found: that is a cause.
+pub fn short_cause(item: ItemNo, found: Option<Amount>) -> Option<Cause>
+    ensures { result ≡ short_cause item found }
+{
+    match found {
+        Some(found) => Some(Cause::Short { item, found }),
+        None => None,
     }
 }

@@ -7,10 +7,11 @@ ghost use Rattle.nc_locks.specs.Locks.{without};
 ghost use Rattle.nc_commit.specs.Decisions.{applied_in, can_apply, can_apply_op, decided_in, may_apply_decision, may_overwrite, ops_at, overwritten_in};
 ghost use Rattle.nc_commit.specs.inside.Writes.{AreOnce};
 
-use crate::votes::{overwrites, seen_in};
+use crate::votes::seen_in;
 use commute_ops::{Op, SumValue, TopValue, Value};
 use item_versions::{ItemTable, Staged};
 use nc_locks::Locks;
+use script_parts::deeds::overwrites;
 use script_parts::kinds;
 use std::alloc::Global;
 use tv_base::{NoMemory, NodeNo, TreeNo, Version};

@@ -4,14 +4,13 @@ ghost use Rattle.std.specs.Option.{option_copied};
 ghost use Rattle.letter_types.specs.declared.votes.Vote.TheVariants.{No};
 ghost use Rattle.nc_locks.specs.Locks.{first_where, is_in_way, met_by, met_in};
 ghost use Rattle.world_model.specs.Reads.{gets, got_by_deed, seen_in};
-ghost use Rattle.script_parts.specs.Deeds.{found_short, overwrites};
-ghost use Rattle.letter_types.specs.Causes.{short_cause};
 ghost use Rattle.nc_commit.specs.Votes.{greatest_version, mode_wanted, newer_at, newer_by, newer_in, short_at, short_in, vote_of, wanted_by};
 
 use commute_ops::{Value, Values};
 use item_versions::{Item, ItemTable};
-use letter_types::{Boxed, Cause, Vote};
+use letter_types::{Boxed, Cause, Vote, short_cause};
 use nc_locks::{Locks, Met, Mode, WantedLocks};
+use script_parts::deeds::{found_short, overwrites};
 use std::alloc::Global;
 use tv_base::{ItemNo, NoMemory, TreeNo, Version};
 use tx_trees::{Deed, Sub, SubOp};
@@ -113,18 +112,6 @@ fn mode_wanted(deed: &Deed) -> Mode
     }
 }
 
-/// Whether the operation is a set or a draw.
-pub(crate) fn overwrites(deed: &Deed) -> bool
-    ensures { result ≡ overwrites deed.now }
-{
-    match deed {
-        Deed::Set(_) => true,
-        Deed::Draw(_) => true,
-        Deed::Get => false,
-        Deed::Apply(_) => false,
-    }
-}
-
 /// The first of the operations that writes an item which is held in a version above `v`, as a cause.
 fn newer(items: &ItemTable, v: Version, ops: &[SubOp]) -> Option<Cause>
     ensures { result ≡ newer_in v ops.now items.now }
@@ -200,29 +187,8 @@ fn short(items: &ItemTable, v: Version, ops: &[SubOp]) -> Option<Cause>
 fn short_at(items: &ItemTable, v: Version, op: &SubOp) -> Option<Cause>
     ensures { result ≡ short_at v op.now items.now }
 {
-    match seen_in(items, v, op.item) {
-        Some(value) => short_by(op.item, &op.deed, value),
-        None => None,
-    }
-}
-
-/// A value that is less than what is drawn, as a cause.
-fn short_by(item: ItemNo, deed: &Deed, value: &Value) -> Option<Cause>
-    ensures { result ≡ short_cause item (found_short deed.now value.now) }
-{
-    match (deed, value) {
-        (Deed::Draw(amount), Value::Sum(found)) => {
-            if found.0 < *amount {
-                Some(Cause::Short {
-                    item,
-                    found: found.0,
-                })
-            } else {
-                None
-            }
-        }
-        _ => None,
-    }
+    let value = seen_in(items, v, op.item)?;
+    short_cause(op.item, found_short(&op.deed, value))
 }
 
 /// What the gets show in version `v`, in order.

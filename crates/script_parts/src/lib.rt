@@ -5,6 +5,7 @@
 
 pub mod children;
 pub mod counts;
+pub mod deeds;
 pub mod failing;
 mod forms;
 pub mod kinds;

@@ -6,7 +6,6 @@ use Rattle.board_tallies.specs.declared.states.TreeState.{TreeState}
 
 abbrev pub marked_as : Marked → TreeState → List Bool
 marked_as marked.Done st = st.done
-marked_as marked.Voted st = st.voted
 marked_as marked.Yes st = st.yes
 marked_as marked.Applied st = st.applied
 marked_as marked.Freed st = st.freed
