@@ -22,8 +22,8 @@ OfEachFinished P = (s : ScriptData) (h : List Entry) → IsValid s → IsWorldRu
     → AllByRecursion (IsPrintable s) h → P s h
 
 -- the lines of the history are read as it, with the letters that were taken
-abbrev pub IsReadBack : ScriptData → List Entry → Type 0
-IsReadBack s h = Reading s (history_lines_of s h) (Ok h)
+abbrev pub ReadsBack : ScriptData → List Entry → Type 0
+ReadsBack s h = Reading s (history_lines_of s h) (Ok h)
 
 -- they are accepted, with all its entries
 abbrev pub IsPassed : ScriptData → List Entry → Type 0

@@ -1,7 +1,7 @@
 // Laws of runs and their printed histories.
 ghost use Rattle.board_rules.specs.Right.{HasFinished};
 ghost use Rattle.world_model.specs.Runs.{IsWorldRun};
-ghost use Rattle.audit_laws.specs.PrintedRuns.{IsPassed, IsReadBack, OfEachFinished, OfEachPrinted, PassesAudits};
+ghost use Rattle.audit_laws.specs.PrintedRuns.{IsPassed, ReadsBack, OfEachFinished, OfEachPrinted, PassesAudits};
 
 use crate::printable::runs_are_printable;
 use headline::every_run_is_accepted;
@@ -31,13 +31,13 @@ pub fn printed_histories_are_accepted(script: &Script, history: &History)
 /// The lines of every run, finished or not, are read back as its history, with the messages that were taken, if each
 /// entry may be printed.
 pub fn printed_runs_are_read_back()
-    ensures { OfEachPrinted IsReadBack }
+    ensures { OfEachPrinted ReadsBack }
 {}
 
 /// The same of each history of the script that is such a run. It walks the history and changes nothing.
 pub fn printed_histories_are_read_back(script: &Script, history: &History)
     requires { IsWorldRun script.now history.now }
-    ensures { IsReadBack script.now history.now }
+    ensures { ReadsBack script.now history.now }
 {
     runs_are_printable(script, history);
     printed_runs_are_read_back();

@@ -35,8 +35,8 @@ pub record HasJudged (j : JudgeData) (h : List Entry) : Type 0 where
   pub worths : AreAllWorths j.script (places_of h) j.worths
 
 -- the first judge may take the entry, whatever history it has taken, and the second one has taken it too
-abbrev pub HasTaken : JudgeData → Entry → JudgeData → Type 0
-HasTaken j e k = (h : List Entry) → HasJudged j h → MayCome j.script h e × HasJudged k (h ++ e ∷ [])
+abbrev pub HasTakenEntry : JudgeData → Entry → JudgeData → Type 0
+HasTakenEntry j e k = (h : List Entry) → HasJudged j h → MayCome j.script h e × HasJudged k (h ++ e ∷ [])
 
 -- what an item is worth at version v after the history that the judge has taken
 abbrev pub IsWorthBy : JudgeData → ℕ → ℕ → Value → Type 0

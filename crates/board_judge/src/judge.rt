@@ -7,7 +7,7 @@ ghost use Rattle.board_rules.specs.Right.{has_finished};
 ghost use Rattle.board_judge.specs.Notes.{AreAllWorths};
 ghost use Rattle.commute_ops.specs.Ops.{value_start};
 ghost use Rattle.worth_steps.specs.Kept.{AreWorths};
-ghost use Rattle.board_judge.specs.Judged.{HasJudged, IsRefusal, HasTaken, IsWorthBy};
+ghost use Rattle.board_judge.specs.Judged.{HasJudged, IsRefusal, HasTakenEntry, IsWorthBy};
 ghost use Rattle.board_judge.specs.declared.noting.NotedStep.{NotedStep};
 ghost use Rattle.board_judge.specs.inside.Rewriting.{AreOfKinds, unaltered};
 ghost use Rattle.board_judge.specs.inside.Steps.{restored};
@@ -105,7 +105,7 @@ impl<'a> Judge<'a> {
     /// transactions that they end, and for locks by the operations of the script on these items.
     pub fn take(&mut self, entry: &Entry) -> Result<(), Refused>
         ensures script { self.new.script ≡ self.old.script }
-        ensures ok { OnOk result (HasTaken self.old entry.now self.new) }
+        ensures ok { OnOk result (HasTakenEntry self.old entry.now self.new) }
         ensures refused { IfErr result (λ refused. IsRefusal self.old entry.now refused) }
         ensures err { OnErr result (self.new ≡ self.old) }
     {

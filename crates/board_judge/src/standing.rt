@@ -5,8 +5,8 @@ ghost use Rattle.nc_locks.specs.Modes.{modes_conflict};
 ghost use Rattle.script_parts.specs.ScriptData.{ScriptData, updates};
 ghost use Rattle.board_rules.specs.Histories.{Place, version_in, version_or, was_done};
 ghost use Rattle.board_tallies.specs.Board.{IsBoardOf, OfBoard};
-ghost use Rattle.board_judge.specs.inside.Users.{changes_in, has_taken, has_written, is_mark, lesser_tree, newer_item, newest_by, stands_against, newer_by, was_updated};
-ghost use Rattle.board_judge.specs.inside.Standing.{IsNewest, NamesConflict, NamesFirst, NamesHolder, NamesNewer, NamesNewerOf};
+ghost use Rattle.board_judge.specs.inside.Users.{changes_in, has_taken, has_written, is_mark, lesser_tree, newer_item, newest_by, stands_against, newest_with, was_updated};
+ghost use Rattle.board_judge.specs.inside.Standing.{IsNewestWritten, NamesConflict, NamesFirst, NamesHolder, NamesNewer, NamesNewerOf};
 
 use crate::users::{User, Users, lock_mode, on};
 use board_tallies::Board;
@@ -222,7 +222,7 @@ fn newest_by(script: &Script, board: &Board, node: ActorNo, users: &[User]) -> u
 
 // A version, or that of an operation which has written its item in a greater one.
 fn newer_by(script: &Script, board: &Board, node: ActorNo, user: User, newest: u64) -> u64
-    ensures { OfBoard script.now board.now (λ xs. result ≡ newer_by script.now xs node.0 user newest) }
+    ensures { OfBoard script.now board.now (λ xs. result ≡ newest_with script.now xs node.0 user newest) }
 {
     if !has_written(script, board, node, user) {
         return newest;
@@ -232,7 +232,7 @@ fn newer_by(script: &Script, board: &Board, node: ActorNo, user: User, newest: u
 
 // The greatest version in which an item was written, which is at this node.
 fn newest(script: &Script, users: &Users, board: &Board, node: ActorNo, item: ItemNo) -> u64
-    ensures { IsNewest script.now board.now users.now node.0 item result }
+    ensures { IsNewestWritten script.now board.now users.now node.0 item result }
 {
     let strict = newest_by(script, board, node, on(&users.strict, item));
     let update = newest_by(script, board, node, on(&users.updates, item));

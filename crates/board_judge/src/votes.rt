@@ -4,7 +4,7 @@ ghost use Rattle.std.specs.Option.{option_map};
 ghost use Rattle.script_parts.specs.ScriptData.{ops_of};
 ghost use Rattle.board_rules.specs.Histories.{act_at};
 ghost use Rattle.board_rules.specs.Stands.{refusal_in};
-ghost use Rattle.board_judge.specs.inside.Votes.{ballot_of, did_of, given_by, same_cause, yes_of, DecidesGiven, DecidesMove, DecidesRead, DecidesYes, NamesCause};
+ghost use Rattle.board_judge.specs.inside.Votes.{ballot_of, did_of, given_by, same_cause, yes_of, DecidesGiven, DecidesMove, DecidesRead, DecidesYes, IsCauseThere};
 
 use crate::at_once::{Asked, ops_of, reads};
 use crate::shown::{short, shows};
@@ -97,7 +97,7 @@ fn cause(
     node: ActorNo,
     asked: Asked,
 ) -> Result<Option<Cause>, NoMemory>
-    ensures { IfOk result (NamesCause basis.now board.now worths.now node.0 asked) }
+    ensures { IfOk result (IsCauseThere basis.now board.now worths.now node.0 asked) }
 {
     let ops = ops_of(basis.script, asked.tree, asked.sub);
     let lock = conflict(basis.script, &basis.users, board, node, asked.tree, ops);

@@ -37,8 +37,8 @@ pub record Handled (post : PostId) (n : ℕ) (old new : List Entry) (l : Letter)
   pub outbox : out ≡ outbox_data post n (map delivery_of new) (delivery_of entry) 0
 
 -- the actor of a log took the letter
-abbrev pub TookLetter : PostId → LogData → LogData → Letter → List Entry → List Entry → OutboxData → Type 0
-TookLetter post old new l made now out = Handled post old.number old.entries new.entries l made now out
+abbrev pub ActorTook : PostId → LogData → LogData → Letter → List Entry → List Entry → OutboxData → Type 0
+ActorTook post old new l made now out = Handled post old.number old.entries new.entries l made now out
 
 -- an addressee took the letter: the last of the entries that were made is its own, and so is the outbox, which has that
 -- entry's posting, the last of its postings so far; the acts are what its table says of it there

@@ -6,7 +6,7 @@ ghost use Rattle.stamp_post.specs.Logs.{most};
 ghost use Rattle.stamp_post.specs.Shown.{seat_data};
 ghost use Rattle.world_model.specs.Runs.{IsRunOf};
 ghost use Rattle.world_model.specs.Tables.{actor_row, start_actor};
-ghost use Rattle.history_merge.specs.OwnLogs.{Delivered, TookLetter, log_data, row_there};
+ghost use Rattle.history_merge.specs.OwnLogs.{Delivered, ActorTook, log_data, row_there};
 
 use crate::made::Made;
 use crate::name::ClusterName;
@@ -113,7 +113,7 @@ impl<K: ClusterName> OwnLog<K> {
         requires copy { copy ≡ out.sent }
         requires room { deque_len made.old < deque_capacity made.old }
         ensures number { self.new.number ≡ self.old.number }
-        ensures handled { TookLetter K.post self.old self.new envelope.letter made.old.items made.new.items result }
+        ensures handled { ActorTook K.post self.old self.new envelope.letter made.old.items made.new.items result }
         ensures delivered { Delivered K.post K.script envelope.letter made.old.items made.new.items result }
     {
         let _valid = script.nodes();

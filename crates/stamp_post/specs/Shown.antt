@@ -61,8 +61,8 @@ outbox_data post number own p next = record { post = post; number = number; own 
 abbrev pub one_more_out : OutboxData → OutboxData
 one_more_out o = outbox_data o.post o.number o.own o.posting (o.next + 1)
 
-abbrev pub HasLeft : OutboxData → Type 0
-HasLeft o = o.next < length o.posting.sent
+abbrev pub HasLettersLeft : OutboxData → Type 0
+HasLettersLeft o = o.next < length o.posting.sent
 
 abbrev pub IsAllOut : OutboxData → Type 0
 IsAllOut o = length o.posting.sent ≤ o.next

@@ -4,7 +4,7 @@ ghost use Rattle.letter_types.specs.declared.entries.Posting.{Posting};
 ghost use Rattle.letter_types.specs.Letters.{go};
 ghost use Rattle.letter_types.specs.Postal.{letters_sent};
 ghost use Rattle.stamp_post.specs.Logs.{most, posting};
-ghost use Rattle.stamp_post.specs.Shown.{seat_data, outbox_data, envelope_data, gatherer_data, new_seats, seat_joined, receipt_joined, AreToActors, AreGathered, HasLeft, IsAllOut, one_more_out, receipt_of, with_posting};
+ghost use Rattle.stamp_post.specs.Shown.{seat_data, outbox_data, envelope_data, gatherer_data, new_seats, seat_joined, receipt_joined, AreToActors, AreGathered, HasLettersLeft, IsAllOut, one_more_out, receipt_of, with_posting};
 ghost use Rattle.stamp_post.specs.Views.{first_data, with_made, with_receipts, with_seats};
 
 use crate::first::FirstSeat;
@@ -349,7 +349,7 @@ impl Outbox {
     pub fn next(&mut self, post: &Post) -> Option<Envelope>
         requires { self.old.post ≡ post.now }
         // None exactly where no letter is left
-        ensures left { IfSome result (λ _. HasLeft self.old) }
+        ensures left { IfSome result (λ _. HasLettersLeft self.old) }
         ensures none { IfNone result (IsAllOut self.old) }
         // which letter it is
         ensures letter { IfSome result (λ e. slice_get (letters_sent self.old.posting) self.old.next ≡ Some e.letter) }

@@ -1,7 +1,7 @@
 // What is handed about: actors' seats, outboxes, envelopes, receipts and the gatherer.
 ghost use Rattle.std.specs.Prelude.{◌≡◌, ◌<◌, ◌≤◌, [], length, MatchResult};
 ghost use Rattle.stamp_post.specs.declared.rule.View.TheVariants.{Carrying};
-ghost use Rattle.stamp_post.specs.Shown.{AreToActors, receipt_data, HasLeft, IsAllOut, receipt_of};
+ghost use Rattle.stamp_post.specs.Shown.{AreToActors, receipt_data, HasLettersLeft, IsAllOut, receipt_of};
 
 use crate::first::FirstSeat;
 use crate::rule::View;
@@ -167,7 +167,7 @@ impl Outbox {
 
     /// The receipt of a posting whose letters are all out. The outbox comes back exactly if a letter is left.
     pub fn receipt(self) -> Result<Receipt, Outbox>
-        ensures { MatchResult result (λ r. (r ≡ receipt_of self) × IsAllOut self) (λ o. (o ≡ self) × HasLeft self) }
+        ensures { MatchResult result (λ r. (r ≡ receipt_of self) × IsAllOut self) (λ o. (o ≡ self) × HasLettersLeft self) }
     {
         if !self.left.is_empty() {
             return Err(self);

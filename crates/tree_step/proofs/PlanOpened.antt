@@ -14,11 +14,11 @@ use Rattle.tree_step.specs.declared.plan.HomePlan.TheVariants.{Stay, Open, Note,
 use Rattle.tree_step.specs.declared.plan.Plan.{Plan}
 use Rattle.tree_step.specs.declared.plan.Scratch.{Scratch}
 use Rattle.tree_step.specs.declared.plan.TreePlan.{TreePlan}
-use Rattle.tree_step.specs.Meant.{core_meant, doing_meant, home_at, holds_meant, out_in, votes_meant}
+use Rattle.tree_step.specs.Meant.{core_meant, doing_meant, home_planned_at, holds_meant, out_in, votes_meant}
 use Rattle.tree_step.specs.inside.PlanOpening.{doing_once_open, opening_at, opening_by, plan_once_open, tree_once_open}
 
 opening_home : (p : TreePlan) (h : HomePlan) (values : Gets) (o : Opening) → opening_at p h ≡ Some o
-    → opening_of (home_at p.tree p.sub values h) ≡ Some o
+    → opening_of (home_planned_at p.tree p.sub values h) ≡ Some o
 opening_home p (Open n v) values o is =
     let same : record { tree = p.tree; subs = n; version = v } ≡ o = cc in
     ap (λ (x : Opening). Some x) same
@@ -34,7 +34,7 @@ opening_same (Turn v) x o is = cc
 opening_same (Show v) x o is = cc
 opening_same (Sweep v) x o is = cc
 
-opens_home : (p : TreePlan) (h : HomePlan) (values : Gets) → opening_at p h ≡ None → OpensNoTree (home_at p.tree p.sub values h)
+opens_home : (p : TreePlan) (h : HomePlan) (values : Gets) → opening_at p h ≡ None → OpensNoTree (home_planned_at p.tree p.sub values h)
 opens_home p (Open n v) values is = cc
 opens_home p Stay values is = tt
 opens_home p Note values is = tt
@@ -52,11 +52,11 @@ abbrev change_at : TreePlan → Scratch → HomeChange → Change
 change_at p x h = changes.Tree (record { raises = p.raises; staged = x.staged; counting = p.counting; home = h })
 
 tree_same : (p : TreePlan) (h : HomePlan) (x : Scratch) → p.home ≡ h
-    → doing_meant (Tree (tree_once_open p h)) x ≡ change_at p x (home_once_open (home_at p.tree p.sub x.values h))
+    → doing_meant (Tree (tree_once_open p h)) x ≡ change_at p x (home_once_open (home_planned_at p.tree p.sub x.values h))
 tree_same p (Open n v) x is = refl
-tree_same p Stay x is = ap (λ (h : HomePlan). change_at p x (home_at p.tree p.sub x.values h)) is
-tree_same p Note x is = ap (λ (h : HomePlan). change_at p x (home_at p.tree p.sub x.values h)) is
-tree_same p Forget x is = ap (λ (h : HomePlan). change_at p x (home_at p.tree p.sub x.values h)) is
+tree_same p Stay x is = ap (λ (h : HomePlan). change_at p x (home_planned_at p.tree p.sub x.values h)) is
+tree_same p Note x is = ap (λ (h : HomePlan). change_at p x (home_planned_at p.tree p.sub x.values h)) is
+tree_same p Forget x is = ap (λ (h : HomePlan). change_at p x (home_planned_at p.tree p.sub x.values h)) is
 
 pub doing_same : (d : Doing) (x : Scratch) → doing_meant (doing_once_open d) x ≡ changed_once_open (doing_meant d x)
 doing_same (Tree p) x = tree_same p p.home x refl

@@ -1,6 +1,6 @@
 -- What is done goes by what is staged and by the values of a notice, and by nothing else in the scratch.
 use Rattle.std.proofs.Common.{◌≡◌, refl}
-use Rattle.tree_step.specs.Meant.{doing_meant, home_at}
+use Rattle.tree_step.specs.Meant.{doing_meant, home_planned_at}
 use Rattle.tree_step.specs.declared.change.Change.TheVariants as changes
 use Rattle.tree_step.specs.declared.plan.Doing.{Doing}
 use Rattle.tree_step.specs.declared.plan.Doing.TheVariants.{Still, Tree, Turn, Show, Sweep}
@@ -13,7 +13,7 @@ doing_by (Tree p) x y staged values = λ i. changes.Tree (record {
   raises = p.raises;
   staged = staged i;
   counting = p.counting;
-  home = home_at p.tree p.sub (values i) p.home;
+  home = home_planned_at p.tree p.sub (values i) p.home;
 })
 doing_by (Turn v) x y staged values = refl
 doing_by (Show v) x y staged values = refl

@@ -41,14 +41,14 @@ use Rattle.tree_step.specs.declared.plan.Plan.{Plan}
 use Rattle.tree_step.specs.declared.plan.Scratch.{Scratch}
 
 -- what the home of tree t does, for its subtransaction k
-abbrev pub home_at : TreeNo → SubNo → Gets → HomePlan → HomeChange
-home_at t k values home_plans.Stay = homes.Stay
-home_at t k values (home_plans.Open n v) = homes.Open t n v values
-home_at t k values home_plans.Note = homes.Note t k values
-home_at t k values home_plans.Forget = homes.Forget t
+abbrev pub home_planned_at : TreeNo → SubNo → Gets → HomePlan → HomeChange
+home_planned_at t k values home_plans.Stay = homes.Stay
+home_planned_at t k values (home_plans.Open n v) = homes.Open t n v values
+home_planned_at t k values home_plans.Note = homes.Note t k values
+home_planned_at t k values home_plans.Forget = homes.Forget t
 
 abbrev pub home_meant : TreePlan → Gets → HomeChange
-home_meant p values = home_at p.tree p.sub values p.home
+home_meant p values = home_planned_at p.tree p.sub values p.home
 
 -- what a node does for a subtransaction or a notice
 abbrev pub tree_meant : TreePlan → Scratch → TreeChange

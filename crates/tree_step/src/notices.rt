@@ -6,7 +6,7 @@ ghost use Rattle.pair_counters.specs.Rows.{counts_of};
 ghost use Rattle.tree_home.specs.Homes.{open_trees};
 ghost use Rattle.tree_step.specs.Changes.{home_after, MayHome};
 ghost use Rattle.world_model.specs.Notices.{answer_noted, homes_noted};
-ghost use Rattle.tree_step.specs.Meant.{home_at, part_meant};
+ghost use Rattle.tree_step.specs.Meant.{home_planned_at, part_meant};
 ghost use Rattle.tree_step.specs.Node.{IsInWindow};
 ghost use Rattle.tree_step.specs.AtNode.{IsNotedPart};
 
@@ -29,11 +29,11 @@ fn notice_home(
     values: &Values,
     noted: &mut Values,
 ) -> Result<(HomePlan, Option<Answered>), NoMemory>
-    ensures after { IfOk result (λ r. home_after (home_at request.tree request.sub noted.new r.0) (open_trees homes.now)
+    ensures after { IfOk result (λ r. home_after (home_planned_at request.tree request.sub noted.new r.0) (open_trees homes.now)
         ≡ homes_noted request.tree request.sub values.now (open_trees homes.now)) }
     ensures answered { IfOk result (λ r. r.1
         ≡ answer_noted request.tree request.sub values.now (open_trees homes.now)) }
-    ensures may { IfOk result (λ r. MayHome (home_at request.tree request.sub noted.new r.0) (open_trees homes.now)) }
+    ensures may { IfOk result (λ r. MayHome (home_planned_at request.tree request.sub noted.new r.0) (open_trees homes.now)) }
 {
     match homes.would_answer(request.tree, request.sub, values)? {
         Prospect::NotMissing => Ok((HomePlan::Stay, None)),

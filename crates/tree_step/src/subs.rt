@@ -5,7 +5,7 @@ ghost use Rattle.item_versions.specs.Window.{in_window, IsWindowedTable};
 ghost use Rattle.tree_home.specs.Homes.{begun, home_in, open_trees};
 ghost use Rattle.tx_trees.specs.ScriptData.{subs_at};
 ghost use Rattle.tree_step.specs.Changes.{home_after, MayHome};
-ghost use Rattle.tree_step.specs.Meant.{home_at, part_meant};
+ghost use Rattle.tree_step.specs.Meant.{home_planned_at, part_meant};
 ghost use Rattle.tree_step.specs.Node.{IsReady};
 ghost use Rattle.world_model.specs.Notices.{homes_noted, values_of};
 ghost use Rattle.tree_step.specs.inside.Opening.{root_answer};
@@ -45,11 +45,11 @@ fn root_home(
 ) -> (HomePlan, Option<Answered>)
     requires some { 0 < subs }
     requires absent { home_in request.tree (open_trees homes.now) ≡ None }
-    ensures after { home_after (home_at request.tree (record { 0 = 0 }) noted.new result.0) (open_trees homes.now)
+    ensures after { home_after (home_planned_at request.tree (record { 0 = 0 }) noted.new result.0) (open_trees homes.now)
         ≡ homes_noted request.tree (record { 0 = 0 }) values
         (begun request.tree subs request.version (open_trees homes.now)) }
     ensures answered { result.1 ≡ root_answer subs request.tree request.version values }
-    ensures may { MayHome (home_at request.tree (record { 0 = 0 }) noted.new result.0) (open_trees homes.now) }
+    ensures may { MayHome (home_planned_at request.tree (record { 0 = 0 }) noted.new result.0) (open_trees homes.now) }
 {
     let Request { tree, version, .. } = request;
     if subs == 1 {

@@ -33,7 +33,7 @@ use update_step::can_update;
 
 /// A notice at its tree's home.
 #[derive(Clone, Copy)]
-struct Noted<'a> {
+struct NoticeHere<'a> {
     request: Request,
     notice: &'a Notice,
 }
@@ -198,7 +198,7 @@ fn choose_note(
     core: &NodeCore,
     letter: &Letter,
     script: &Script,
-    noted: Noted,
+    noted: NoticeHere,
     scratch: &mut Scratch,
 ) -> Result<CoreChoice, NoMemory>
     // What the caller knows.
@@ -209,7 +209,7 @@ fn choose_note(
     // What is planned.
     ensures { IfOk result (λ choice. IsOwnPlan script.now letter.now core.now (choice_meant choice scratch.new)) }
 {
-    let Noted { request, notice } = noted;
+    let NoticeHere { request, notice } = noted;
     if !is_due(&core.parts, letter, script) {
         return Ok(CoreChoice::Still);
     }
@@ -341,7 +341,7 @@ fn choose_own(
                 version: *version,
                 from: NodeNo(letter.from.0),
             };
-            let noted = Noted { request, notice };
+            let noted = NoticeHere { request, notice };
             choose_note(alloc, core, letter, script, noted, scratch)
         }
         Body::Decide {

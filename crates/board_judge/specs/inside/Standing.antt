@@ -38,8 +38,8 @@ abbrev pub NamesInWay : ScriptData → BoardData → UsersData → ℕ → Asked
 NamesInWay s b u p asked way = OfView s b u (λ xs. way ≡ in_way_of s xs p asked.tree.0 asked.sub.0)
 
 -- the greatest version in which the item was written there
-abbrev pub IsNewest : ScriptData → BoardData → UsersData → ℕ → ItemNo → ℕ → Type 0
-IsNewest s b u p item newest =
+abbrev pub IsNewestWritten : ScriptData → BoardData → UsersData → ℕ → ItemNo → ℕ → Type 0
+IsNewestWritten s b u p item newest =
     OfView s b u (λ xs. item.0 < length s.items → has_strict s ≡ true → newest ≡ newest_of s xs p item.0)
 
 -- the first of these operations that writes what is written in a version above v, as a cause; and the same of one of

@@ -111,8 +111,8 @@ newest_by s xs p [] = 0
 newest_by s xs p (u ∷ us) = if has_written s xs p u then max (version_by xs u) (newest_by s xs p us) else newest_by s xs p us
 
 -- a version, or that of an operation which has written in a greater one
-abbrev pub newer_by : ScriptData → List Place → ℕ → User → ℕ → ℕ
-newer_by s xs p u v = if has_written s xs p u then max v (version_by xs u) else v
+abbrev pub newest_with : ScriptData → List Place → ℕ → User → ℕ → ℕ
+newest_with s xs p u v = if has_written s xs p u then max v (version_by xs u) else v
 
 -- an operation that writes an item which is written in a version above v, as a cause
 abbrev pub newer_item : ScriptData → List Place → ℕ → ℕ → SubOp → Option Cause

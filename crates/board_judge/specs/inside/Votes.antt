@@ -53,8 +53,8 @@ abbrev pub IsNoMove : Basis → BoardData → List WorthsData → Place → Type
 IsNoMove basis b ws x = OfMidway basis b ws (λ h xs. IsMove basis.script.now h xs x → ⊥)
 
 -- why a subtransaction of a strict tree has to vote no there, at node p, if it has to
-abbrev pub NamesCause : Basis → BoardData → List WorthsData → ℕ → Asked → Option Cause → Type 0
-NamesCause basis b ws p asked cause = OfMidway basis b ws (λ h xs. is_strict_tree basis.script.now asked.tree.0 ≡ true
+abbrev pub IsCauseThere : Basis → BoardData → List WorthsData → ℕ → Asked → Option Cause → Type 0
+IsCauseThere basis b ws p asked cause = OfMidway basis b ws (λ h xs. is_strict_tree basis.script.now asked.tree.0 ≡ true
     → cause ≡ cause_of basis.script.now h xs p asked.tree.0 (ops_of basis.script.now asked.tree.0 asked.sub.0))
 
 -- the vote that an act is

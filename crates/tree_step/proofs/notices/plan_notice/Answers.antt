@@ -1,6 +1,6 @@
 use Rattle.std.proofs.Common.{false, sym, subst}
 use Rattle.tree_step.specs.AtNode.{IsNotedPart}
-use Rattle.tree_step.specs.Meant.{home_at}
+use Rattle.tree_step.specs.Meant.{home_planned_at}
 use Rattle.tree_step.specs.declared.change.Change.TheVariants.{Tree}
 use Rattle.tree_step.specs.declared.change.TreePrepared.{TreePrepared}
 use Rattle.tree_step.proofs.Noticed.{noted_part}
@@ -10,7 +10,7 @@ pub returns-clause-part : goal.returns-clause-part
 returns-clause-part c =
     let q = c.args.request in
     let home = c.in_ok-home in
-    let does = home_at q.tree q.sub c.notice_home.new.noted home.home in
+    let does = home_planned_at q.tree q.sub c.notice_home.new.noted home.home in
     subst (λ (p : TreePrepared). IsNotedPart q c.args.values.now c.args.node.now p)
     (λ i. record {
       prepared = record {

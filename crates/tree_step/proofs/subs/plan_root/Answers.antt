@@ -3,7 +3,7 @@ use Rattle.letter_types.specs.declared.entries.Outgoing.{Outgoing}
 use Rattle.tree_home.specs.Homes.{open_trees}
 use Rattle.world_model.specs.Notices.{values_of}
 use Rattle.world_model.proofs.Addressed.{children_nodes, children_few}
-use Rattle.tree_step.specs.Meant.{home_at}
+use Rattle.tree_step.specs.Meant.{home_planned_at}
 use Rattle.tree_step.proofs.Begun.{root_answered}
 use Rattle.tree_step.proofs.Made.{all_requests, may_count, root_ready}
 use Rattle.tree_step.proofs.subs.plan_root.Goals as goal
@@ -17,7 +17,7 @@ returns-clause-part c =
     let sent = c.in_ok-sent.sent in
     let asked = length c.items-asked.result.now in
     let count = ap (λ (os : List Outgoing). length os) c.items-asked.ensures.items in
-    let home = home_at q.tree (record { 0 = 0 }) c.root_home-home.new.noted c.root_home-home.result.0 in
+    let home = home_planned_at q.tree (record { 0 = 0 }) c.root_home-home.new.noted c.root_home-home.result.0 in
     record {
       row = root_ready s q.from q.tree q.version asked c.args.notice c.args.scratch.now.staged home
           c.root_home-home.result.1 n sent c.in_ok-acts.acts xs c.subs_of-subs.ensures.subs c.in_ok-sent.ensures count
