@@ -12,13 +12,13 @@ use Rattle.world_model.specs.Named.{is_strict_at}
 use Rattle.world_model.specs.Runs.{IsStepRun, node_in}
 use Rattle.world_model.proofs.Scripts.{SubAt, get_below, tree_below}
 use Rattle.tree_laws.specs.Effects.{effects}
-use Rattle.tree_laws.proofs.AptApplied.{applied_where_decided}
-use Rattle.tree_laws.proofs.AptBounds.{effect_bound, tables_keep}
-use Rattle.tree_laws.proofs.AptDecided.{decided_once}
-use Rattle.tree_laws.proofs.AptMakes.{node_in_script, node_visited}
-use Rattle.tree_laws.proofs.AptTurns.{turns_at_most_once}
-use Rattle.tree_laws.proofs.Loads.{trees_most}
-use Rattle.tree_laws.proofs.Tables.{TableIn, table_more}
+use Rattle.tree_laws.proofs.decided.AptApplied.{applied_where_decided}
+use Rattle.tree_laws.proofs.apt.AptBounds.{effect_bound, tables_keep}
+use Rattle.tree_laws.proofs.decided.AptDecided.{decided_once}
+use Rattle.tree_laws.proofs.apt.AptMakes.{node_in_script, node_visited}
+use Rattle.tree_laws.proofs.apt.AptTurns.{turns_at_most_once}
+use Rattle.tree_laws.proofs.loads.Loads.{trees_most}
+use Rattle.tree_laws.proofs.loads.Tables.{TableIn, table_more}
 
 once_by : (s : ScriptData) (past : List Entry) (t k : ℕ) (strict : Bool) → SubAt s t k → IsValid s → AllApt s past → IsStepRun s past
     → is_strict_at s t ≡ strict → effects s past t k ≤ 1

@@ -49,14 +49,14 @@ use Rattle.world_model.proofs.Plain.{no_strict}
 use Rattle.world_model.proofs.Scripts.{SubAt, sub_there, tree_below}
 use Rattle.world_model.proofs.Sends.{asked_each, rows_each}
 use Rattle.world_model.specs.Meant.{IsMeant}
-use Rattle.tree_laws.proofs.AtHome.{all_append}
-use Rattle.tree_laws.proofs.DoneOrParked.{meets_way}
+use Rattle.tree_laws.proofs.conflicts.AtHome.{all_append}
+use Rattle.tree_laws.proofs.kept.DoneOrParked.{meets_way}
 use Rattle.world_model.proofs.MeantRows.{strict_below}
-use Rattle.tree_laws.proofs.Parkings.{kind_updates_by}
-use Rattle.advance_laws.proofs.Brought.{brought_meant, each_of_brought}
-use Rattle.advance_laws.proofs.Progress.{brings_to}
-use Rattle.tree_laws.proofs.NodeLoads.{kind_here, ops_fit_kind}
-use Rattle.run_laws.proofs.AtOnce.{no_votes}
+use Rattle.tree_laws.proofs.kept.Parkings.{kind_updates_by}
+use Rattle.advance_laws.proofs.governed.Brought.{brought_meant, each_of_brought}
+use Rattle.advance_laws.proofs.phases.Progress.{brings_to}
+use Rattle.tree_laws.proofs.loads.NodeLoads.{kind_here, ops_fit_kind}
+use Rattle.run_laws.proofs.keeping.AtOnce.{no_votes}
 use Rattle.history_text.specs.Printable.{IsSubOf}
 use Rattle.audit_laws.specs.OfScript.{IsActOf}
 use Rattle.audit_laws.proofs.Bounded.{bounded_items}

@@ -24,10 +24,10 @@ use Rattle.world_model.proofs.Every.{each_both}
 use Rattle.world_model.proofs.Posts.{steps}
 use Rattle.world_model.proofs.Scripts.{sub_there}
 use Rattle.world_model.specs.Meant.{IsLetterMeant, IsMeant}
-use Rattle.tree_laws.proofs.AtHome.{all_append}
+use Rattle.tree_laws.proofs.conflicts.AtHome.{all_append}
 use Rattle.world_model.proofs.Meant.{letters_are_meant}
 use Rattle.world_model.proofs.MeantRows.{strict_below}
-use Rattle.run_laws.proofs.EveryApt.{all_apt}
+use Rattle.run_laws.proofs.each_tree.EveryApt.{all_apt}
 use Rattle.history_text.specs.Printable.{IsSubOf, IsTreeOf}
 use Rattle.audit_laws.specs.OfScript.{IsAnswerOf, IsBodyOf, IsOfScript, IsSentOf}
 use Rattle.audit_laws.proofs.Carrying.{IsEntryOf, all_carried, next_entry}

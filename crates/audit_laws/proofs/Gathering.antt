@@ -19,7 +19,7 @@ use Rattle.tree_home.specs.declared.homes.OpenTree.{OpenTree}
 use Rattle.world_model.specs.Core.{Refusals, lesser, refused_by}
 use Rattle.world_model.specs.Notices.{answer_noted, homes_noted, values_of}
 use Rattle.world_model.specs.declared.refusal.NegativeVote.{NegativeVote}
-use Rattle.tree_laws.proofs.AtHome.{all_append}
+use Rattle.tree_laws.proofs.conflicts.AtHome.{all_append}
 use Rattle.history_text.specs.Printable.{AreGot, HasStrictness, IsGot}
 use Rattle.audit_laws.specs.OfScript.{IsCauseOf, IsNoticeOf}
 

@@ -32,7 +32,7 @@ use Rattle.world_model.specs.Decisions.{applied_in, ops_at, overwritten, overwri
 use Rattle.world_model.specs.Node.{items_at}
 use Rattle.world_model.specs.Reads.{seen_in}
 use Rattle.world_model.specs.Updates.{table_after_deed, table_after_ops}
-use Rattle.tree_laws.proofs.AtHome.{all_append}
+use Rattle.tree_laws.proofs.conflicts.AtHome.{all_append}
 use Rattle.audit_laws.proofs.Values.{AreSmall, IsSmall, small_collected, small_deed, small_put, small_seen, small_start, small_touched}
 
 -- each value of each item

@@ -35,9 +35,9 @@ use Rattle.world_model.specs.Reads.{got_by_deed, gets, seen_in, with_get}
 use Rattle.world_model.specs.Runs.{IsStepRun, keeping_in}
 use Rattle.world_model.specs.Votes.{cause_in, conflict_by, newer_at, newer_by, newer_in, greatest_version, short_at, short_in}
 use Rattle.world_model.proofs.Scripts.{get_below}
-use Rattle.tree_laws.proofs.RunConflicts.{runs_meet_conflicts}
-use Rattle.tree_laws.proofs.Tables.{ItemIn, TableIn}
-use Rattle.tree_laws.proofs.Values.{HeldIn, ValueIn, seen_in as seen_value}
+use Rattle.tree_laws.proofs.conflicts.RunConflicts.{runs_meet_conflicts}
+use Rattle.tree_laws.proofs.loads.Tables.{ItemIn, TableIn}
+use Rattle.tree_laws.proofs.loads.Values.{HeldIn, ValueIn, seen_in as seen_value}
 use Rattle.history_text.specs.Printable.{AreGot, IsAmount, IsItemOf, IsOfItem, IsOfKind}
 use Rattle.audit_laws.specs.OfScript.{IsCauseOf}
 use Rattle.audit_laws.proofs.Items.{AreSmallIn, small_seen_in}

@@ -44,7 +44,7 @@ use Rattle.world_model.proofs.Epochs.{ask_each, order_each}
 use Rattle.world_model.proofs.Every.{each_append}
 use Rattle.world_model.proofs.Scripts.{SubAt, sub_here, tree_below}
 use Rattle.world_model.proofs.Notices.{answer_noted_tree}
-use Rattle.tree_laws.proofs.AtHome.{all_append}
+use Rattle.tree_laws.proofs.conflicts.AtHome.{all_append}
 use Rattle.history_text.specs.Printable.{AreGot, HasStrictness, IsSubOf, IsTreeOf}
 use Rattle.audit_laws.specs.OfScript.{IsActOf, IsCauseOf, IsNoticeOf, IsVoteOf}
 use Rattle.audit_laws.proofs.Gathering.{AreHeldAnswers, AreOpen, AreRefusals, HasGot, IsRefusal, acked_got, answer_got, held_acked, notice_got, notice_refused, one_held, open_begun, open_noted, refusal_gone}

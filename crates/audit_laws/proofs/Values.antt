@@ -22,7 +22,7 @@ use Rattle.script_parts.specs.declared.parts.Deed.TheVariants as deeds
 use Rattle.world_model.specs.Counts.{Each}
 use Rattle.world_model.proofs.Every.{each_append}
 use Rattle.history_text.specs.Printable.{IsAmount, IsOfKind}
-use Rattle.tree_laws.proofs.Values.{ValueIn}
+use Rattle.tree_laws.proofs.loads.Values.{ValueIn}
 
 -- what is said of a top and of a bag; a sum keeps to the bound of its item
 abbrev pub IsSmall : Value → Type 0

@@ -17,20 +17,20 @@ use Rattle.world_model.specs.Runs.{IsStepRun, client_in, in_flight}
 use Rattle.world_model.proofs.Bags.{tally-drop}
 use Rattle.world_model.proofs.Flows.{client_kept, flow}
 use Rattle.world_model.proofs.Scripts.{SubAt, get_below, sub_here, sub_there}
-use Rattle.advance_laws.proofs.ClientSteps.{Aside, Begins, ClientStep, Ends, Hears, Tells, client_step}
+use Rattle.advance_laws.proofs.right.ClientSteps.{Aside, Begins, ClientStep, Ends, Hears, Tells, client_step}
 use Rattle.tree_laws.specs.Dids.{answers, is_born, replies, replies_to}
 use Rattle.tree_laws.specs.Stages.{AllTurned, StageAt, Answered, Gathers, Holds, Unborn}
-use Rattle.tree_laws.proofs.Acts.{of_act}
-use Rattle.tree_laws.proofs.AptDecided.{applied_when_answered}
-use Rattle.tree_laws.proofs.AptMakes.{node_in_script, node_visited}
-use Rattle.tree_laws.proofs.AptStagesOwn.{sub_of_node}
-use Rattle.tree_laws.proofs.AptStagesRun.{stages_of_trees}
-use Rattle.tree_laws.proofs.AptTurns.{births_are_turns}
-use Rattle.tree_laws.proofs.Counted.{all_done_of, births_in, dids_in, was_done_of}
-use Rattle.run_laws.proofs.EveryApt.{all_apt}
-use Rattle.run_laws.proofs.EveryDid.{dids_are_turns}
-use Rattle.run_laws.proofs.EveryWhole.{all_applied_of, strict_is, was_applied_of}
-use Rattle.run_laws.proofs.Releases.{born_some}
+use Rattle.tree_laws.proofs.histories.Acts.{of_act}
+use Rattle.tree_laws.proofs.decided.AptDecided.{applied_when_answered}
+use Rattle.tree_laws.proofs.apt.AptMakes.{node_in_script, node_visited}
+use Rattle.tree_laws.proofs.stages.AptStagesOwn.{sub_of_node}
+use Rattle.tree_laws.proofs.stages.AptStagesRun.{stages_of_trees}
+use Rattle.tree_laws.proofs.apt.AptTurns.{births_are_turns}
+use Rattle.tree_laws.proofs.homes.Counted.{all_done_of, births_in, dids_in, was_done_of}
+use Rattle.run_laws.proofs.each_tree.EveryApt.{all_apt}
+use Rattle.run_laws.proofs.each_tree.EveryDid.{dids_are_turns}
+use Rattle.run_laws.proofs.each_tree.EveryWhole.{all_applied_of, strict_is, was_applied_of}
+use Rattle.run_laws.proofs.strict.Releases.{born_some}
 
 -- What the client has heard.
 hears : (answered : List Bool) (t u : ℕ) → (u ≡ t) ⊎ (u ≢ t)

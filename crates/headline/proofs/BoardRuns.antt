@@ -9,9 +9,9 @@ use Rattle.world_model.specs.Runs.{IsStepRun}
 use Rattle.board_rules.specs.Histories.{Place, places_at, places_of}
 use Rattle.board_rules.specs.Moves.{IsBoardRun, IsMove, IsMoveAt, OneByOne}
 use Rattle.board_rules.specs.ButCause.{IsMoveButCause, IsMoveButCauseAt}
-use Rattle.run_laws.proofs.AllMoves.{moves_but_cause}
+use Rattle.run_laws.proofs.act_order.AllMoves.{moves_but_cause}
 use Rattle.run_laws.specs.Causes.{NamesItsCause}
-use Rattle.run_laws.proofs.VoteCauses.{names_causes}
+use Rattle.run_laws.proofs.strict.VoteCauses.{names_causes}
 
 -- what follows from two that hold of acts one after the other
 both_one_by_one : (P Q R : List Place → Place → Type 0) (xs ys : List Place) → ((zs : List Place) (y : Place) → P zs y → Q zs y → R zs y)

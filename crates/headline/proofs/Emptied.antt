@@ -7,13 +7,13 @@ use Rattle.tx_trees.specs.ScriptData.{ScriptData}
 use Rattle.tx_trees.specs.Valid.{IsValid}
 use Rattle.world_model.specs.Runs.{IsStepRun, in_flight}
 use Rattle.world_model.proofs.Bridge.{coordinator_after}
-use Rattle.advance_laws.proofs.Small.{rounds_by_trees}
-use Rattle.run_laws.proofs.Bounds.{entries_few}
-use Rattle.run_laws.proofs.Ends.{no_run_stalls}
-use Rattle.run_laws.proofs.Entries.{entries_counted}
-use Rattle.run_laws.proofs.EveryApt.{all_apt, lawful}
+use Rattle.advance_laws.proofs.phases.Small.{rounds_by_trees}
+use Rattle.run_laws.proofs.ending.Bounds.{entries_few}
+use Rattle.run_laws.proofs.ending.Ends.{no_run_stalls}
+use Rattle.run_laws.proofs.ending.Entries.{entries_counted}
+use Rattle.run_laws.proofs.each_tree.EveryApt.{all_apt, lawful}
 use Rattle.headline.proofs.Promised.{headline_past}
-use Rattle.run_laws.proofs.NoRounds.{no_rounds}
+use Rattle.run_laws.proofs.ending.NoRounds.{no_rounds}
 use Rattle.headline.specs.Ended.{HasEnded}
 
 pub ended_past : (s : ScriptData) (past : List Entry) → IsValid s → IsStepRun s past → in_flight s past ≡ [] → HasEnded s (reverse past)

@@ -20,12 +20,12 @@ use Rattle.tx_trees.proofs.SubsOf.{all_at}
 use Rattle.world_model.specs.Runs.{IsStepRun, actor_after, node_in}
 use Rattle.world_model.specs.Tables.{ActorData}
 use Rattle.world_model.proofs.Back.{node_leads}
-use Rattle.run_laws.proofs.EveryApt.{all_apt}
-use Rattle.run_laws.proofs.InTime.{advancing_run}
-use Rattle.tree_laws.proofs.Histories.{first_of, run_before}
-use Rattle.tree_laws.proofs.AptBounds.{effect_bound, tables_keep}
-use Rattle.tree_laws.proofs.AptWindows.{tables_ascend, tables_in_window}
-use Rattle.run_laws.proofs.YesVotes.{there_held}
+use Rattle.run_laws.proofs.each_tree.EveryApt.{all_apt}
+use Rattle.run_laws.proofs.each_tree.InTime.{advancing_run}
+use Rattle.tree_laws.proofs.histories.Histories.{first_of, run_before}
+use Rattle.tree_laws.proofs.apt.AptBounds.{effect_bound, tables_keep}
+use Rattle.tree_laws.proofs.apt.AptWindows.{tables_ascend, tables_in_window}
+use Rattle.run_laws.proofs.strict.YesVotes.{there_held}
 use Rattle.headline.specs.Held.{HasHeldThree, HoldsThree, held_after, items_of, turns_of}
 use Rattle.headline.proofs.Highest.{highest_run}
 

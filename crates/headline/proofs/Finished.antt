@@ -12,11 +12,11 @@ use Rattle.board_rules.specs.Histories.{IsWhole, Place, places_of}
 use Rattle.board_rules.specs.Right.{HasFinished, finishes}
 use Rattle.world_model.specs.Client.{all_answered}
 use Rattle.world_model.specs.Runs.{IsStepRun, client_in, node_in}
-use Rattle.advance_laws.proofs.Advancing.{IsAdvancing}
+use Rattle.advance_laws.proofs.governed.Advancing.{IsAdvancing}
 use Rattle.tree_laws.specs.Ends.{is_finish}
-use Rattle.tree_laws.proofs.Acts.{any_counted, finish_marks, of_act}
-use Rattle.tree_laws.proofs.Finishes.{finishes_of, is_true_of}
-use Rattle.run_laws.proofs.InTime.{advancing_run}
+use Rattle.tree_laws.proofs.histories.Acts.{any_counted, finish_marks, of_act}
+use Rattle.tree_laws.proofs.homes.Finishes.{finishes_of, is_true_of}
+use Rattle.run_laws.proofs.each_tree.InTime.{advancing_run}
 use Rattle.headline.proofs.Answered.{answered_whole, answered_yet}
 use Rattle.headline.proofs.Finishing.{finishing_run}
 use Rattle.headline.proofs.Opens.{answered_at}

@@ -37,11 +37,11 @@ use Rattle.world_model.proofs.Cases.{Case, Coordinates, NodeDoes, NodeKeeps, Sub
 use Rattle.world_model.proofs.Epochs.{ask_each, order_each}
 use Rattle.world_model.proofs.Flows.{client_kept}
 use Rattle.world_model.proofs.Nexts.{MadeByClient}
-use Rattle.advance_laws.proofs.ClientSteps.{Aside, Begins, ClientStep, Ends, Hears, Tells, client_step}
+use Rattle.advance_laws.proofs.right.ClientSteps.{Aside, Begins, ClientStep, Ends, Hears, Tells, client_step}
 use Rattle.tree_laws.specs.Ends.{is_finish}
-use Rattle.tree_laws.proofs.AptRulings.{keeping_acts}
-use Rattle.tree_laws.proofs.Client.{IsOver, finish_count, finishes_once, over_then}
-use Rattle.run_laws.proofs.EveryApt.{all_apt}
+use Rattle.tree_laws.proofs.decided.AptRulings.{keeping_acts}
+use Rattle.tree_laws.proofs.histories.Client.{IsOver, finish_count, finishes_once, over_then}
+use Rattle.run_laws.proofs.each_tree.EveryApt.{all_apt}
 use Rattle.headline.proofs.Passes.{answer_ended, end_ended, passed_run}
 
 -- No act of a row of a core is the end.

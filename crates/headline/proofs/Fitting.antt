@@ -5,7 +5,7 @@ use Rattle.tx_trees.specs.ScriptData.{ScriptData}
 use Rattle.tx_trees.specs.Valid.{IsValid}
 use Rattle.board_rules.specs.Gates.{Fits, KeepsTo}
 use Rattle.world_model.specs.Runs.{IsStepRun}
-use Rattle.tree_laws.proofs.Histories.{at_each_act_more}
+use Rattle.tree_laws.proofs.histories.Histories.{at_each_act_more}
 use Rattle.headline.proofs.Keeps.{entry_keeps}
 
 pub fits_run : (s : ScriptData) (past : List Entry) → IsValid s → IsStepRun s past → Fits s (reverse past)

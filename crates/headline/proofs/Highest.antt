@@ -39,12 +39,12 @@ use Rattle.world_model.proofs.Cases.{Case, Coordinates, NodeDoes, NodeKeeps, Sub
 use Rattle.world_model.proofs.Epochs.{order_timely}
 use Rattle.world_model.proofs.Every.{node_kept}
 use Rattle.world_model.proofs.KeptThere.{IsCoreKeeping, OfKeeping, core_keeps}
-use Rattle.tree_laws.proofs.AptItems.{Applies, Changes, Collects, Follows, Raises, Rests, Shows, Touches, core_changes, raised_to}
-use Rattle.tree_laws.proofs.AptWindows.{apt_timely}
-use Rattle.run_laws.proofs.EveryApt.{all_apt}
-use Rattle.run_laws.proofs.KeptWhy.{keeps_rises}
-use Rattle.run_laws.proofs.HeldItems.{collected_most}
-use Rattle.run_laws.proofs.MostHeld.{put_most, touched_most}
+use Rattle.tree_laws.proofs.apt.AptItems.{Applies, Changes, Collects, Follows, Raises, Rests, Shows, Touches, core_changes, raised_to}
+use Rattle.tree_laws.proofs.apt.AptWindows.{apt_timely}
+use Rattle.run_laws.proofs.each_tree.EveryApt.{all_apt}
+use Rattle.run_laws.proofs.keeping.KeptWhy.{keeps_rises}
+use Rattle.run_laws.proofs.items.HeldItems.{collected_most}
+use Rattle.run_laws.proofs.items.MostHeld.{put_most, touched_most}
 use Rattle.headline.proofs.Voters.{commits_below, raises}
 
 -- A table.

@@ -28,19 +28,19 @@ use Rattle.world_model.proofs.Cases.{case}
 use Rattle.world_model.proofs.Bags.{one_if_both}
 use Rattle.tree_laws.specs.Dids.{asks, letters_asking}
 use Rattle.tree_laws.specs.Ends.{is_finish}
-use Rattle.tree_laws.proofs.Acts.{any_counted, finish_marks, of_act}
-use Rattle.tree_laws.proofs.AptTurns.{roots_have_turns}
-use Rattle.tree_laws.proofs.Finishes.{finishes_of, is_true_of}
-use Rattle.run_laws.proofs.EveryApt.{all_apt}
-use Rattle.run_laws.proofs.InTime.{advancing_run}
+use Rattle.tree_laws.proofs.histories.Acts.{any_counted, finish_marks, of_act}
+use Rattle.tree_laws.proofs.apt.AptTurns.{roots_have_turns}
+use Rattle.tree_laws.proofs.homes.Finishes.{finishes_of, is_true_of}
+use Rattle.run_laws.proofs.each_tree.EveryApt.{all_apt}
+use Rattle.run_laws.proofs.each_tree.InTime.{advancing_run}
 use Rattle.advance_laws.specs.Given.{greatest_given}
 use Rattle.advance_laws.specs.Phases.{TurnStage}
-use Rattle.advance_laws.proofs.Brought.{BringsTo, brought_outstanding}
-use Rattle.advance_laws.proofs.ClientSteps.{Aside, Begins, ClientStep, Ends, Hears, Tells, client_step}
-use Rattle.run_laws.proofs.NodeNumbers.{node_numbers}
-use Rattle.run_laws.proofs.Openings.{OpensFor, opens, opens_as}
-use Rattle.run_laws.proofs.Raised.{raised_most}
-use Rattle.tree_laws.proofs.Counted.{placed}
+use Rattle.advance_laws.proofs.governed.Brought.{BringsTo, brought_outstanding}
+use Rattle.advance_laws.proofs.right.ClientSteps.{Aside, Begins, ClientStep, Ends, Hears, Tells, client_step}
+use Rattle.run_laws.proofs.births.NodeNumbers.{node_numbers}
+use Rattle.run_laws.proofs.act_order.Openings.{OpensFor, opens, opens_as}
+use Rattle.run_laws.proofs.births.Raised.{raised_most}
+use Rattle.tree_laws.proofs.homes.Counted.{placed}
 use Rattle.headline.proofs.Answered.{answered_before, answered_whole}
 use Rattle.headline.proofs.Finished.{AreAtRest, over_run}
 use Rattle.headline.proofs.Finishing.{finishing_run, none_finishes}

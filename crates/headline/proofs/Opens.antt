@@ -17,7 +17,7 @@ use Rattle.world_model.specs.Counts.{Each}
 use Rattle.world_model.specs.Runs.{IsStepRun, client_in}
 use Rattle.world_model.proofs.Fits.{each_take}
 use Rattle.world_model.proofs.MeantRows.{NamesTree, rows_name}
-use Rattle.run_laws.proofs.InTime.{advancing_run}
+use Rattle.run_laws.proofs.each_tree.InTime.{advancing_run}
 use Rattle.headline.proofs.Answered.{answered_whole, answered_yet}
 use Rattle.headline.proofs.Passes.{passed_run}
 use Rattle.headline.proofs.Swept.{swept_run}

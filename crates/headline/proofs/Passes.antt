@@ -21,8 +21,8 @@ use Rattle.world_model.specs.Client.{Client, all_answered, have_ended, nudge, su
 use Rattle.world_model.specs.Runs.{IsStepRun, client_in}
 use Rattle.world_model.proofs.Flows.{client_kept}
 use Rattle.world_model.proofs.Nexts.{MadeByClient}
-use Rattle.advance_laws.proofs.ClientSteps.{Aside, Begins, ClientStep, Ends, Hears, Tells, client_step}
-use Rattle.tree_laws.proofs.Client.{answers_grow, end_grows}
+use Rattle.advance_laws.proofs.right.ClientSteps.{Aside, Begins, ClientStep, Ends, Hears, Tells, client_step}
+use Rattle.tree_laws.proofs.histories.Client.{answers_grow, end_grows}
 
 -- How far the client submits: all for which a row waits has ended, from the rows before on.
 abbrev HasPassed : Client → List ScriptRow → Type 0

@@ -19,8 +19,8 @@ use Rattle.board_rules.specs.Worth.{worth}
 use Rattle.world_model.specs.Runs.{in_flight}
 use Rattle.world_model.specs.Sample.{sample, small}
 use Rattle.tree_laws.specs.Entries.{entries_most}
-use Rattle.tree_laws.proofs.Sampled.{small_valid}
-use Rattle.run_laws.proofs.Sampled.{sample_run}
+use Rattle.tree_laws.proofs.histories.Sampled.{small_valid}
+use Rattle.run_laws.proofs.ending.Sampled.{sample_run}
 use Rattle.headline.specs.Ended.{HasEnded}
 use Rattle.headline.specs.Held.{held_after}
 use Rattle.headline.proofs.Emptied.{ended_past}

@@ -18,10 +18,10 @@ use Rattle.board_rules.specs.Worth.{is_written, worth}
 use Rattle.tree_laws.specs.SeenAt.{seen_at}
 use Rattle.world_model.specs.Runs.{IsStepRun, node_in}
 use Rattle.run_laws.specs.Shown.{WritersAreWhole}
-use Rattle.run_laws.proofs.OwnWorth.{own_is_worth, shown_is_closed}
+use Rattle.run_laws.proofs.worth.OwnWorth.{own_is_worth, shown_is_closed}
 use Rattle.run_laws.specs.Written.{holds_of}
-use Rattle.run_laws.proofs.HeldWritten.{held_is_written}
-use Rattle.run_laws.proofs.WrittenAtEnd.{written_at_end}
+use Rattle.run_laws.proofs.items.HeldWritten.{held_is_written}
+use Rattle.run_laws.proofs.items.WrittenAtEnd.{written_at_end}
 use Rattle.headline.specs.Held.{HoldsBalances}
 use Rattle.headline.proofs.Few.{IsKept, held_at, item_node}
 use Rattle.headline.proofs.Finished.{at_end, whole_at_end}

@@ -29,16 +29,16 @@ use Rattle.world_model.proofs.Epochs.{Anew, Orders, Plainly}
 use Rattle.world_model.proofs.Every.{node_kept}
 use Rattle.world_model.proofs.Cases.{Case, Coordinates, Does, Keeps, NodeDoes, NodeKeeps, Submits, case}
 use Rattle.world_model.proofs.Keepings.{of_kept}
-use Rattle.run_laws.proofs.EveryApt.{all_apt}
-use Rattle.run_laws.proofs.InTime.{advancing_run}
-use Rattle.advance_laws.proofs.Brought.{BringsTo}
-use Rattle.advance_laws.proofs.Progress.{brings_to}
-use Rattle.tree_laws.proofs.AptItems.{Applies, Changes, Collects, Follows, Raises, Rests, Shows, Touches, core_changes, raised_to}
-use Rattle.tree_laws.proofs.Seen.{raised_low}
-use Rattle.tree_laws.proofs.Counted.{placed}
+use Rattle.run_laws.proofs.each_tree.EveryApt.{all_apt}
+use Rattle.run_laws.proofs.each_tree.InTime.{advancing_run}
+use Rattle.advance_laws.proofs.governed.Brought.{BringsTo}
+use Rattle.advance_laws.proofs.phases.Progress.{brings_to}
+use Rattle.tree_laws.proofs.apt.AptItems.{Applies, Changes, Collects, Follows, Raises, Rests, Shows, Touches, core_changes, raised_to}
+use Rattle.tree_laws.proofs.loads.Seen.{raised_low}
+use Rattle.tree_laws.proofs.homes.Counted.{placed}
 use Rattle.board_rules.proofs.Wholes.{any_more}
 use Rattle.board_rules.proofs.Places.{places_more}
-use Rattle.run_laws.proofs.Raised.{ordered_given, sweeps_ahead}
+use Rattle.run_laws.proofs.births.Raised.{ordered_given, sweeps_ahead}
 
 -- What was collected, with more acts.
 swept_more : (p v : ℕ) (xs ys : List Place) → was_swept p v xs ≡ true → was_swept p v (xs ++ ys) ≡ true

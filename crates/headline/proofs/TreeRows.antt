@@ -10,7 +10,7 @@ use Rattle.tx_trees.specs.declared.parts.ScriptRow.{ScriptRow}
 use Rattle.tx_trees.specs.declared.parts.ScriptRow.TheVariants.{Tree as TreeRow, Advance as AdvanceRow, Settle as SettleRow, Lose as LoseRow}
 use Rattle.world_model.specs.Counts.{one_if}
 use Rattle.tree_laws.specs.Dids.{roots_sent}
-use Rattle.tree_laws.proofs.Sent.{rooted_once}
+use Rattle.tree_laws.proofs.homes.Sent.{rooted_once}
 
 -- where the first rows send the root of a tree, one of them is its row
 tree_row_by : (t n : ℕ) (u : TreeNo) (rows : List ScriptRow) (test : Bool) → (u.0 == t) ≡ test

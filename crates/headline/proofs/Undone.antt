@@ -36,7 +36,7 @@ use Rattle.board_rules.specs.Worth.{after_deed, after_ops, after_subs, after_tre
 use Rattle.world_model.specs.Runs.{IsStepRun}
 use Rattle.run_laws.specs.Stays.{Shows}
 use Rattle.headline.specs.Undone.{ShowsNothingUndone, is_undone, worth_kept}
-use Rattle.run_laws.proofs.ShownStays.{same_worths, shown_stays}
+use Rattle.run_laws.proofs.worth.ShownStays.{same_worths, shown_stays}
 
 -- What `add` operations make of a value.
 

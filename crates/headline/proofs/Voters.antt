@@ -33,28 +33,28 @@ use Rattle.world_model.specs.Strict.{core_by_kind, core_row}
 use Rattle.world_model.proofs.Cases.{Case, Coordinates, Does, NodeDoes, NodeKeeps, Submits, case, apt_named}
 use Rattle.world_model.proofs.Every.{node_kept}
 use Rattle.world_model.proofs.Scripts.{get_below}
-use Rattle.advance_laws.proofs.Brought.{brought_outstanding, each_of_brought}
-use Rattle.advance_laws.proofs.Progress.{brings_to}
+use Rattle.advance_laws.proofs.governed.Brought.{brought_outstanding, each_of_brought}
+use Rattle.advance_laws.proofs.phases.Progress.{brings_to}
 use Rattle.tree_laws.specs.Applied.{decided_as, decisions_to}
 use Rattle.tree_laws.specs.Carried.{CarriesVersion}
 use Rattle.tree_laws.specs.Dids.{asks}
 use Rattle.tree_laws.specs.Stages.{StageAt, Answered, Gathers, Holds, Unborn}
 use Rattle.tree_laws.specs.Turns.{has_turn, turns}
-use Rattle.tree_laws.proofs.AptApplied.{applied_where_decided}
-use Rattle.tree_laws.proofs.AptBounds.{asked_node}
-use Rattle.tree_laws.proofs.AptDecided.{Once, decided_any, once_in_run}
-use Rattle.tree_laws.proofs.AptDecisions.{dated_here, letters_carry_versions}
-use Rattle.tree_laws.proofs.AptItems.{Applies, Changes, Collects, Follows, Raises, Rests, Shows, Touches, core_changes, raised_to}
-use Rattle.tree_laws.proofs.AptMakes.{decision_waits}
-use Rattle.tree_laws.proofs.AptRulings.{client_acts, keeping_acts}
-use Rattle.tree_laws.proofs.AptStagesRun.{stages_of_trees}
-use Rattle.tree_laws.proofs.AptTurns.{core_turns}
-use Rattle.tree_laws.proofs.AptVersions.{DoneIn, before, is_version, version_is}
-use Rattle.tree_laws.proofs.NodeLoads.{strict_there}
-use Rattle.tree_laws.proofs.Turns.{kind_version, work_version}
-use Rattle.run_laws.proofs.EveryApt.{all_apt}
-use Rattle.run_laws.proofs.KeptWhy.{keeps_rises}
-use Rattle.run_laws.proofs.StrictKinds.{kind_of_strict}
+use Rattle.tree_laws.proofs.decided.AptApplied.{applied_where_decided}
+use Rattle.tree_laws.proofs.apt.AptBounds.{asked_node}
+use Rattle.tree_laws.proofs.decided.AptDecided.{Once, decided_any, once_in_run}
+use Rattle.tree_laws.proofs.decided.AptDecisions.{dated_here, letters_carry_versions}
+use Rattle.tree_laws.proofs.apt.AptItems.{Applies, Changes, Collects, Follows, Raises, Rests, Shows, Touches, core_changes, raised_to}
+use Rattle.tree_laws.proofs.apt.AptMakes.{decision_waits}
+use Rattle.tree_laws.proofs.decided.AptRulings.{client_acts, keeping_acts}
+use Rattle.tree_laws.proofs.stages.AptStagesRun.{stages_of_trees}
+use Rattle.tree_laws.proofs.apt.AptTurns.{core_turns}
+use Rattle.tree_laws.proofs.apt.AptVersions.{DoneIn, before, is_version, version_is}
+use Rattle.tree_laws.proofs.loads.NodeLoads.{strict_there}
+use Rattle.tree_laws.proofs.histories.Turns.{kind_version, work_version}
+use Rattle.run_laws.proofs.each_tree.EveryApt.{all_apt}
+use Rattle.run_laws.proofs.keeping.KeptWhy.{keeps_rises}
+use Rattle.run_laws.proofs.strict.StrictKinds.{kind_of_strict}
 
 -- The version that is updated never falls.
 raise_by : (turns : Turns) (v : ℕ) (test : Bool) → nat_lt turns.update.0 v ≡ test

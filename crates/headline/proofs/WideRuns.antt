@@ -29,9 +29,9 @@ use Rattle.world_model.proofs.Actors.{IsTableOf, RowsRun, rows_run, runs_of_rows
 use Rattle.world_model.proofs.Back.{run_more, says_node, table_run_of, world_run}
 use Rattle.world_model.proofs.Bridge.{run_less, state_more}
 use Rattle.world_model.proofs.Posts.{follows_by, moves_by, rows_less, steps, waits_of, who_of}
-use Rattle.tree_laws.proofs.AptWindows.{tables_in_window}
-use Rattle.run_laws.proofs.EveryApt.{all_apt}
-use Rattle.run_laws.proofs.Taken.{apt_here}
+use Rattle.tree_laws.proofs.apt.AptWindows.{tables_in_window}
+use Rattle.run_laws.proofs.each_tree.EveryApt.{all_apt}
+use Rattle.run_laws.proofs.each_tree.Taken.{apt_here}
 
 -- An apt letter is widely apt.
 widely_timely : (s : ScriptData) (st : Node) (b : Body) → IsWindowedTable st.turns.low.0 st.items → is_timely s st b ≡ true

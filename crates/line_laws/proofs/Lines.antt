@@ -23,7 +23,7 @@ use Rattle.report_text.specs.Outcomes.{outcome_of}
 use Rattle.report_text.specs.Report.{gets_text, tree_line}
 use Rattle.world_model.specs.Runs.{IsStepRun}
 use Rattle.world_model.proofs.Scripts.{get_below}
-use Rattle.tree_laws.proofs.AtHome.{all_append}
+use Rattle.tree_laws.proofs.conflicts.AtHome.{all_append}
 use Rattle.run_laws.proofs.replies_told.Said.{acts_before, acts_next}
 use Rattle.audit_laws.specs.OfScript.{IsActOf}
 use Rattle.audit_laws.specs.ReplyLines.{line_in}

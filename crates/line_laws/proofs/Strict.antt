@@ -27,7 +27,7 @@ use Rattle.board_rules.proofs.Wholes.{any_more, whole_applied}
 use Rattle.history_text.specs.TreeNames.{got_text}
 use Rattle.report_text.specs.Outcomes.{decided_text, outcome_of, why_text}
 use Rattle.world_model.specs.Runs.{IsStepRun}
-use Rattle.run_laws.proofs.Rules.{follows_rules}
+use Rattle.run_laws.proofs.act_order.Rules.{follows_rules}
 use Rattle.run_laws.proofs.replies_told.Said.{decision_stays}
 use Rattle.audit_laws.specs.OfScript.{IsActOf, IsCauseOf, IsVoteOf}
 use Rattle.growth_laws.specs.Growth.{Extends}

@@ -27,7 +27,7 @@ use Rattle.board_rules.proofs.SerialOrder.{done_of}
 use Rattle.world_model.specs.Runs.{IsStepRun}
 use Rattle.world_model.proofs.Scripts.{get_below}
 use Rattle.run_laws.specs.Stays.{ReadsStayRight, Shows}
-use Rattle.run_laws.proofs.ShownStays.{shown_stays}
+use Rattle.run_laws.proofs.worth.ShownStays.{shown_stays}
 use Rattle.growth_laws.specs.Growth.{Extends}
 
 -- Where two readings agree on the operations of each subtransaction, they agree on all.

@@ -3,7 +3,7 @@ use Rattle.std.proofs.Common.{◌≡◌, false, List, [], ◌∷◌, ◌++◌, r
 use Rattle.std.proofs.lemmas.List.{reverse-append}
 use Rattle.letter_types.specs.declared.entries.Entry.{Entry}
 use Rattle.letter_types.specs.declared.entries.Outgoing.{Outgoing}
-use Rattle.run_laws.proofs.InTime.{anew_run, given_run}
+use Rattle.run_laws.proofs.each_tree.InTime.{anew_run, given_run}
 use Rattle.advance_laws.specs.Given.{IsGivenAnew}
 use Rattle.advance_laws.specs.Quiet.{IsGivenInQuiet}
 use Rattle.tx_trees.specs.ScriptData.{ScriptData}

@@ -18,7 +18,7 @@ use Rattle.world_model.specs.declared.refusal.NegativeVote.{NegativeVote}
 use Rattle.world_model.specs.Core.{Refusals}
 use Rattle.world_model.specs.Named.{is_strict_at, tree_kind_at}
 use Rattle.world_model.specs.Strict.{answer_by, refusals_after}
-use Rattle.run_laws.proofs.StrictKinds.{strict_by_kind}
+use Rattle.run_laws.proofs.strict.StrictKinds.{strict_by_kind}
 use Rattle.run_laws.proofs.replies_told.Homes.{put_cases}
 use Rattle.run_laws.proofs.replies_told.Told.{Answers, HeldTold, OpenTold, SaidNo, Told}
 

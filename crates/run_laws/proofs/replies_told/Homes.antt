@@ -25,9 +25,9 @@ use Rattle.world_model.specs.declared.refusal.NegativeVote.{NegativeVote}
 use Rattle.world_model.specs.Core.{Refusals, lesser, refused_by}
 use Rattle.world_model.specs.Named.{is_strict_at}
 use Rattle.world_model.specs.Notices.{answer_noted, homes_noted}
-use Rattle.tree_laws.proofs.Answering.{home_there}
-use Rattle.tree_laws.proofs.Noting.{Last, More, Noting, noting}
-use Rattle.tree_laws.proofs.Staging.{none_places}
+use Rattle.tree_laws.proofs.homes.Answering.{home_there}
+use Rattle.tree_laws.proofs.homes.Noting.{Last, More, Noting, noting}
+use Rattle.tree_laws.proofs.homes.Staging.{none_places}
 use Rattle.run_laws.proofs.replies_told.Said.{said_in}
 use Rattle.run_laws.proofs.replies_told.Told.{Below, Gathered, HeldTold, Minds, OpenTold, Reaches, SaidNo, Slot, Told, below_same, open_less}
 

@@ -34,9 +34,9 @@ use Rattle.world_model.proofs.Every.{each_append, each_both, each_map}
 use Rattle.board_rules.specs.Outcomes.{acts_in, cause_from, decision_in, did_from, did_in, got_from, got_of, vote_in}
 use Rattle.board_rules.specs.Histories.{places_of}
 use Rattle.board_rules.specs.Stands.{refusal_in}
-use Rattle.run_laws.proofs.EveryApt.{all_apt}
+use Rattle.run_laws.proofs.each_tree.EveryApt.{all_apt}
 use Rattle.run_laws.specs.Replies.{AnswersAsDecided, AnswersByActs, IsLowestNo, IsRightReply, NamesCause, NamesLowestNo, RepliesNameNoes, RepliesTell, ReplyNamesNo}
-use Rattle.run_laws.proofs.StrictKinds.{strict_by_kind}
+use Rattle.run_laws.proofs.strict.StrictKinds.{strict_by_kind}
 use Rattle.run_laws.proofs.replies_told.Runs.{SentTold, all_sent, versions_before}
 use Rattle.run_laws.proofs.replies_told.Said.{acts_before, said_in}
 use Rattle.run_laws.proofs.replies_told.Senders.{FromHome, SentFromHome, all_from_home}

@@ -41,10 +41,10 @@ use Rattle.world_model.specs.Strict.{answer_letters, answered, core_by_kind, cor
 use Rattle.world_model.specs.Updates.{touching}
 use Rattle.world_model.specs.Votes.{vote_of}
 use Rattle.board_rules.specs.Outcomes.{decision_in}
-use Rattle.tree_laws.proofs.Answering.{home_there}
-use Rattle.tree_laws.proofs.Turns.{each_told, kind_version, releases_none}
+use Rattle.tree_laws.proofs.homes.Answering.{home_there}
+use Rattle.tree_laws.proofs.histories.Turns.{each_told, kind_version, releases_none}
 use Rattle.run_laws.proofs.replies_told.Acks.{acked_answers, acked_told}
-use Rattle.run_laws.proofs.StrictKinds.{kind_of_strict, strict_by_kind}
+use Rattle.run_laws.proofs.strict.StrictKinds.{kind_of_strict, strict_by_kind}
 use Rattle.run_laws.proofs.replies_told.Homes.{Given, begun_told, given, holding_told, last_closes, plain_noted, refused_minds, refused_told, strict_noted}
 use Rattle.run_laws.proofs.replies_told.Said.{decided_here, decision_new, said_here, said_in, said_new, said_stays, told_undecided, turned_said}
 use Rattle.run_laws.proofs.replies_told.Told.{Answers, FitsKind, Gathered, HeldTold, Minds, OutTold, Slot, Told, below_same, body_more, gathered_more, quiet, speaks, told_more}

@@ -39,16 +39,16 @@ use Rattle.board_rules.proofs.Places.{places_more, version_stays}
 use Rattle.tree_laws.specs.Dids.{asks}
 use Rattle.tree_laws.specs.Stages.{IsUnborn}
 use Rattle.tree_laws.specs.Turns.{turns}
-use Rattle.tree_laws.proofs.AptDecided.{GathersNow, Now, note_gathers, once_in_run}
-use Rattle.tree_laws.proofs.AptDecisions.{dated_here, open_trees_carry_versions}
-use Rattle.tree_laws.proofs.AptStagesApart.{CountsNoOthers, client_none, coordinator_none, none_of_others}
-use Rattle.tree_laws.proofs.AptStagesOwn.{Doing, NoteAt, asked, note_at, root_home, root_unturned, sub_of_node, sub_place, unborn_by}
-use Rattle.tree_laws.proofs.AptStagesRun.{stages_of_trees}
-use Rattle.tree_laws.proofs.AptSteps.{enters, wakes_none}
-use Rattle.tree_laws.proofs.AptTurns.{no_turn_yet}
-use Rattle.tree_laws.proofs.AptVersions.{DoneIn, before, version_is}
-use Rattle.tree_laws.proofs.Staging.{told_one}
-use Rattle.tree_laws.proofs.Turns.{has_kind, work_version}
+use Rattle.tree_laws.proofs.decided.AptDecided.{GathersNow, Now, note_gathers, once_in_run}
+use Rattle.tree_laws.proofs.decided.AptDecisions.{dated_here, open_trees_carry_versions}
+use Rattle.tree_laws.proofs.stages.AptStagesApart.{CountsNoOthers, client_none, coordinator_none, none_of_others}
+use Rattle.tree_laws.proofs.stages.AptStagesOwn.{Doing, NoteAt, asked, note_at, root_home, root_unturned, sub_of_node, sub_place, unborn_by}
+use Rattle.tree_laws.proofs.stages.AptStagesRun.{stages_of_trees}
+use Rattle.tree_laws.proofs.apt.AptSteps.{enters, wakes_none}
+use Rattle.tree_laws.proofs.apt.AptTurns.{no_turn_yet}
+use Rattle.tree_laws.proofs.apt.AptVersions.{DoneIn, before, version_is}
+use Rattle.tree_laws.proofs.homes.Staging.{told_one}
+use Rattle.tree_laws.proofs.histories.Turns.{has_kind, work_version}
 use Rattle.run_laws.proofs.replies_told.Rows.{Comes, CoreTold, NoteComes, RootComes, RowTold, SubComes, core_told}
 use Rattle.run_laws.proofs.replies_told.Said.{acts_before, acts_next, undecided_before, unsaid_before}
 use Rattle.run_laws.proofs.replies_told.Told.{BodyTold, Grows, OutTold, Told, body_more, quiet, silent_told, speaks, told_more}

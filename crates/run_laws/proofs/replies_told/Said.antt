@@ -21,9 +21,9 @@ use Rattle.world_model.specs.Notices.{act_of}
 use Rattle.world_model.specs.Strict.{notice_by}
 use Rattle.tree_laws.specs.Applied.{decided_as, has_decided}
 use Rattle.tree_laws.specs.Turns.{has_turn, turns}
-use Rattle.tree_laws.proofs.Acts.{acts_more, of_act}
-use Rattle.tree_laws.proofs.AptVersions.{before}
-use Rattle.run_laws.proofs.ParksOnce.{told_by}
+use Rattle.tree_laws.proofs.histories.Acts.{acts_more, of_act}
+use Rattle.tree_laws.proofs.apt.AptVersions.{before}
+use Rattle.run_laws.proofs.keeping.ParksOnce.{told_by}
 
 -- what the act tells of subtransaction k of tree t
 abbrev pub said_by : ℕ → ℕ → Act → Option Notice

@@ -38,8 +38,8 @@ use Rattle.board_rules.specs.Right.{IsShown, shown, with_worths}
 use Rattle.board_rules.specs.Worth.{worth}
 use Rattle.board_rules.proofs.TreeSubs.{found_ops}
 use Rattle.run_laws.specs.Stays.{Shows}
-use Rattle.run_laws.proofs.EveryApt.{all_apt}
-use Rattle.run_laws.proofs.ShownStays.{shown_stays}
+use Rattle.run_laws.proofs.each_tree.EveryApt.{all_apt}
+use Rattle.run_laws.proofs.worth.ShownStays.{shown_stays}
 use Rattle.run_laws.specs.Replies.{RepliesShow, ReplyShows, ShowsWorths}
 use Rattle.run_laws.proofs.replies_told.Replies.{each_reversed, said_did}
 use Rattle.run_laws.proofs.replies_told.Runs.{SentTold, all_sent, versions_before}

@@ -2,8 +2,8 @@ use Rattle.std.specs.Prelude.{reverse}
 use Rattle.board_rules.proofs.Judging.{all_rules}
 use Rattle.headline.proofs.BoardRuns.{board_run}
 use Rattle.headline.proofs.Fitting.{fits_run}
-use Rattle.run_laws.proofs.AtOnce.{all_at_once}
-use Rattle.run_laws.proofs.Right.{right_run}
+use Rattle.run_laws.proofs.keeping.AtOnce.{all_at_once}
+use Rattle.run_laws.proofs.worth.Right.{right_run}
 use Rattle.headline.proofs.board.every_run_is_accepted.Goals as goal
 
 pub returns : goal.returns

@@ -1,4 +1,4 @@
-use Rattle.run_laws.proofs.HeldWritten.{holds_written}
+use Rattle.run_laws.proofs.items.HeldWritten.{holds_written}
 use Rattle.run_laws.proofs.held.what_is_held_was_written.Goals as goal
 
 pub returns : goal.returns

@@ -1,4 +1,4 @@
-use Rattle.run_laws.proofs.AllMoves.{moves_but_cause}
+use Rattle.run_laws.proofs.act_order.AllMoves.{moves_but_cause}
 use Rattle.run_laws.proofs.moves.acts_are_moves.Goals as goal
 
 pub returns : goal.returns

@@ -1,5 +1,5 @@
-use Rattle.advance_laws.proofs.Small.{advances_kept}
-use Rattle.run_laws.proofs.EveryApt.{all_apt, lawful}
+use Rattle.advance_laws.proofs.phases.Small.{advances_kept}
+use Rattle.run_laws.proofs.each_tree.EveryApt.{all_apt, lawful}
 use Rattle.run_laws.proofs.phases.advances_are_kept.Goals as goal
 
 pub returns : goal.returns

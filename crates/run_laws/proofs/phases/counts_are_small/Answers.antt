@@ -1,4 +1,4 @@
-use Rattle.run_laws.proofs.InTime.{counts_small}
+use Rattle.run_laws.proofs.each_tree.InTime.{counts_small}
 use Rattle.run_laws.proofs.phases.counts_are_small.Goals as goal
 
 pub returns : goal.returns

@@ -1,4 +1,4 @@
-use Rattle.run_laws.proofs.NoRounds.{no_rounds}
+use Rattle.run_laws.proofs.ending.NoRounds.{no_rounds}
 use Rattle.run_laws.proofs.phases.no_round_without_advancements.Goals as goal
 
 pub returns : goal.returns

@@ -1,6 +1,6 @@
-use Rattle.advance_laws.proofs.Advancing.{together}
+use Rattle.advance_laws.proofs.governed.Advancing.{together}
 use Rattle.world_model.specs.Runs.{node_in}
-use Rattle.run_laws.proofs.InTime.{advancing_run}
+use Rattle.run_laws.proofs.each_tree.InTime.{advancing_run}
 use Rattle.run_laws.proofs.phases.nodes_keep_together.Goals as goal
 
 pub returns : goal.returns

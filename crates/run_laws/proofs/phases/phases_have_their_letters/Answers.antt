@@ -1,5 +1,5 @@
-use Rattle.advance_laws.proofs.Levels.{letters_in_phase}
-use Rattle.run_laws.proofs.EveryApt.{all_apt, lawful}
+use Rattle.advance_laws.proofs.phases.Levels.{letters_in_phase}
+use Rattle.run_laws.proofs.each_tree.EveryApt.{all_apt, lawful}
 use Rattle.run_laws.proofs.phases.phases_have_their_letters.Goals as goal
 
 pub returns : goal.returns

@@ -1,5 +1,5 @@
-use Rattle.advance_laws.proofs.Small.{rounds_by_trees}
-use Rattle.run_laws.proofs.EveryApt.{all_apt, lawful}
+use Rattle.advance_laws.proofs.phases.Small.{rounds_by_trees}
+use Rattle.run_laws.proofs.each_tree.EveryApt.{all_apt, lawful}
 use Rattle.run_laws.proofs.phases.rounds_are_few.Goals as goal
 
 pub returns : goal.returns

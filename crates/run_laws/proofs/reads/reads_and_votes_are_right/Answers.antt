@@ -1,4 +1,4 @@
-use Rattle.run_laws.proofs.Right.{right_run}
+use Rattle.run_laws.proofs.worth.Right.{right_run}
 use Rattle.run_laws.proofs.reads.reads_and_votes_are_right.Goals as goal
 
 pub returns : goal.returns

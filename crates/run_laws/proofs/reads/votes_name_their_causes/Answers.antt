@@ -1,4 +1,4 @@
-use Rattle.run_laws.proofs.VoteCauses.{names_causes}
+use Rattle.run_laws.proofs.strict.VoteCauses.{names_causes}
 use Rattle.run_laws.proofs.reads.votes_name_their_causes.Goals as goal
 
 pub returns : goal.returns

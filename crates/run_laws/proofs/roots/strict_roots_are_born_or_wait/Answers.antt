@@ -1,4 +1,4 @@
-use Rattle.run_laws.proofs.BornOrWaits.{all_born_or_wait}
+use Rattle.run_laws.proofs.keeping.BornOrWaits.{all_born_or_wait}
 use Rattle.run_laws.proofs.roots.strict_roots_are_born_or_wait.Goals as goal
 
 pub returns : goal.returns

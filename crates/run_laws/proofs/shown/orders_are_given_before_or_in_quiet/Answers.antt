@@ -1,4 +1,4 @@
-use Rattle.run_laws.proofs.InTime.{anew_run}
+use Rattle.run_laws.proofs.each_tree.InTime.{anew_run}
 use Rattle.run_laws.proofs.shown.orders_are_given_before_or_in_quiet.Goals as goal
 
 pub returns : goal.returns

@@ -1,4 +1,4 @@
-use Rattle.run_laws.proofs.Closed.{shown_is_backed}
+use Rattle.run_laws.proofs.each_tree.Closed.{shown_is_backed}
 use Rattle.run_laws.proofs.shown.what_is_shown_is_whole.Goals as goal
 
 pub returns : goal.returns

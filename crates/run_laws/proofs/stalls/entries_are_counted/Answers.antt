@@ -1,4 +1,4 @@
-use Rattle.run_laws.proofs.Entries.{entries_counted}
+use Rattle.run_laws.proofs.ending.Entries.{entries_counted}
 use Rattle.run_laws.proofs.stalls.entries_are_counted.Goals as goal
 
 pub returns : goal.returns

@@ -1,4 +1,4 @@
-use Rattle.run_laws.proofs.Bounds.{entries_few}
+use Rattle.run_laws.proofs.ending.Bounds.{entries_few}
 use Rattle.run_laws.proofs.stalls.entries_are_few.Goals as goal
 
 pub returns : goal.returns

@@ -1,4 +1,4 @@
-use Rattle.run_laws.proofs.Ends.{no_run_stalls}
+use Rattle.run_laws.proofs.ending.Ends.{no_run_stalls}
 use Rattle.run_laws.proofs.stalls.no_run_stalls.Goals as goal
 
 pub returns : goal.returns

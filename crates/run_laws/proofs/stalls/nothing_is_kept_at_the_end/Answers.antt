@@ -1,4 +1,4 @@
-use Rattle.run_laws.proofs.Ends.{nothing_kept}
+use Rattle.run_laws.proofs.ending.Ends.{nothing_kept}
 use Rattle.run_laws.proofs.stalls.nothing_is_kept_at_the_end.Goals as goal
 
 pub returns : goal.returns

@@ -1,4 +1,4 @@
-use Rattle.run_laws.proofs.Bounds.{entries_small}
+use Rattle.run_laws.proofs.ending.Bounds.{entries_small}
 use Rattle.run_laws.proofs.stalls.runs_are_short.Goals as goal
 
 pub returns : goal.returns

@@ -1,5 +1,5 @@
-use Rattle.tree_laws.proofs.AptApplied.{applied_where_decided}
-use Rattle.run_laws.proofs.EveryApt.{all_apt}
+use Rattle.tree_laws.proofs.decided.AptApplied.{applied_where_decided}
+use Rattle.run_laws.proofs.each_tree.EveryApt.{all_apt}
 use Rattle.run_laws.proofs.trees.decisions_are_applied_once.Goals as goal
 
 pub returns : goal.returns

@@ -1,5 +1,5 @@
-use Rattle.tree_laws.proofs.AptVotes.{decided_by_votes}
-use Rattle.run_laws.proofs.EveryApt.{all_apt}
+use Rattle.tree_laws.proofs.decided.AptVotes.{decided_by_votes}
+use Rattle.run_laws.proofs.each_tree.EveryApt.{all_apt}
 use Rattle.run_laws.proofs.trees.decisions_follow_votes.Goals as goal
 
 pub returns : goal.returns

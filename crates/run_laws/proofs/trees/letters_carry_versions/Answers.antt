@@ -1,5 +1,5 @@
-use Rattle.tree_laws.proofs.AptDecisions.{letters_carry_versions as carry}
-use Rattle.run_laws.proofs.EveryApt.{all_apt}
+use Rattle.tree_laws.proofs.decided.AptDecisions.{letters_carry_versions as carry}
+use Rattle.run_laws.proofs.each_tree.EveryApt.{all_apt}
 use Rattle.run_laws.proofs.trees.letters_carry_versions.Goals as goal
 
 pub returns : goal.returns

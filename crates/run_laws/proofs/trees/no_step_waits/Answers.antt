@@ -1,4 +1,4 @@
-use Rattle.run_laws.proofs.AtOnce.{all_at_once}
+use Rattle.run_laws.proofs.keeping.AtOnce.{all_at_once}
 use Rattle.run_laws.proofs.trees.no_step_waits.Goals as goal
 
 pub returns : goal.returns

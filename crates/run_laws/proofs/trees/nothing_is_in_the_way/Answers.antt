@@ -1,4 +1,4 @@
-use Rattle.run_laws.proofs.AtOnce.{nothing_in_way}
+use Rattle.run_laws.proofs.keeping.AtOnce.{nothing_in_way}
 use Rattle.run_laws.proofs.trees.nothing_is_in_the_way.Goals as goal
 
 pub returns : goal.returns

@@ -1,4 +1,4 @@
-use Rattle.run_laws.proofs.AtOnce.{strict_in_way}
+use Rattle.run_laws.proofs.keeping.AtOnce.{strict_in_way}
 use Rattle.run_laws.proofs.trees.only_strict_trees_are_in_the_way.Goals as goal
 
 pub returns : goal.returns

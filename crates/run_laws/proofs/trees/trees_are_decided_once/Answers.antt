@@ -1,5 +1,5 @@
-use Rattle.tree_laws.proofs.AptDecided.{decided_once}
-use Rattle.run_laws.proofs.EveryApt.{all_apt}
+use Rattle.tree_laws.proofs.decided.AptDecided.{decided_once}
+use Rattle.run_laws.proofs.each_tree.EveryApt.{all_apt}
 use Rattle.run_laws.proofs.trees.trees_are_decided_once.Goals as goal
 
 pub returns : goal.returns

@@ -1,5 +1,5 @@
-use Rattle.tree_laws.proofs.AptStagesRun.{stages_of_trees}
-use Rattle.run_laws.proofs.EveryApt.{all_apt}
+use Rattle.tree_laws.proofs.stages.AptStagesRun.{stages_of_trees}
+use Rattle.run_laws.proofs.each_tree.EveryApt.{all_apt}
 use Rattle.run_laws.proofs.trees.trees_go_by_stages.Goals as goal
 
 pub returns : goal.returns

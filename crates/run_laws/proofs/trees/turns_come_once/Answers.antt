@@ -1,5 +1,5 @@
-use Rattle.tree_laws.proofs.AptTurns.{turns_come_once as once}
-use Rattle.run_laws.proofs.EveryApt.{all_apt}
+use Rattle.tree_laws.proofs.apt.AptTurns.{turns_come_once as once}
+use Rattle.run_laws.proofs.each_tree.EveryApt.{all_apt}
 use Rattle.run_laws.proofs.trees.turns_come_once.Goals as goal
 
 pub returns : goal.returns

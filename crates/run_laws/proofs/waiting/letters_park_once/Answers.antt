@@ -1,4 +1,4 @@
-use Rattle.run_laws.proofs.ParksOnce.{letters_park_once}
+use Rattle.run_laws.proofs.keeping.ParksOnce.{letters_park_once}
 use Rattle.run_laws.proofs.waiting.letters_park_once.Goals as goal
 
 pub returns : goal.returns

@@ -1,4 +1,4 @@
-use Rattle.run_laws.proofs.KeptWhy.{letters_stay_kept}
+use Rattle.run_laws.proofs.keeping.KeptWhy.{letters_stay_kept}
 use Rattle.run_laws.proofs.waiting.letters_stay_kept_for_a_reason.Goals as goal
 
 pub returns : goal.returns

@@ -1,4 +1,4 @@
-use Rattle.run_laws.proofs.WaitsFew.{strict_roots_wait_few_times}
+use Rattle.run_laws.proofs.keeping.WaitsFew.{strict_roots_wait_few_times}
 use Rattle.run_laws.proofs.waiting.strict_roots_wait_few_times.Goals as goal
 
 pub returns : goal.returns

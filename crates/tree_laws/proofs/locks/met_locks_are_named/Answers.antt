@@ -1,4 +1,4 @@
-use Rattle.tree_laws.proofs.Conflicts.{met_is_conflict}
+use Rattle.tree_laws.proofs.conflicts.Conflicts.{met_is_conflict}
 use Rattle.tree_laws.proofs.locks.met_locks_are_named.Goals as goal
 
 pub returns : goal.returns

@@ -1,4 +1,4 @@
-use Rattle.tree_laws.proofs.RunConflicts.{runs_meet_conflicts}
+use Rattle.tree_laws.proofs.conflicts.RunConflicts.{runs_meet_conflicts}
 use Rattle.tree_laws.proofs.locks.runs_meet_conflicts.Goals as goal
 
 pub returns : goal.returns

@@ -1,0 +1,14 @@
+pub mod KeptRows
+pub mod Working
+pub mod Letters
+pub mod Counters
+pub mod Moves
+pub mod CoreCounts
+pub mod Balance
+pub mod Silence
+pub mod Counting
+pub mod CoordinatorCounts
+pub mod Waves
+pub mod Rounds
+pub mod Below
+pub mod RestartCounts

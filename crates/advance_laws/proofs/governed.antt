@@ -1,0 +1,5 @@
+pub mod Lawful
+pub mod Brought
+pub mod Advancing
+pub mod Governed
+pub mod Sampled

@@ -1,0 +1,11 @@
+pub mod Outcomes
+pub mod Progress
+pub mod Small
+pub mod LevelAt
+pub mod LevelSteps
+pub mod LevelLetters
+pub mod Levels
+pub mod Steps
+pub mod Shows
+pub mod Closing
+pub mod GivenInPhase

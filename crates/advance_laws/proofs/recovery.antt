@@ -1,0 +1,14 @@
+pub mod Heeds
+pub mod Tokens
+pub mod RestartSteps
+pub mod FewRounds
+pub mod Few
+pub mod TreeEpochs
+pub mod ToldLists
+pub mod RecoverSteps
+pub mod ExactSteps
+pub mod ExactAside
+pub mod Exact
+pub mod Recovers
+pub mod Forgetting
+pub mod Floors

@@ -1,0 +1,11 @@
+pub mod InEntries
+pub mod Fronts
+pub mod Lasts
+pub mod Turns
+pub mod LastActs
+pub mod Rules
+pub mod Openings
+pub mod AllMoves
+pub mod AtFront
+pub mod SampledOrder
+pub mod RowActs

@@ -1,0 +1,11 @@
+pub mod Taken
+pub mod Closed
+pub mod EveryApt
+pub mod EveryBirth
+pub mod EveryDecided
+pub mod EveryDid
+pub mod EveryWhole
+pub mod InTime
+pub mod Reached
+pub mod Wholes
+pub mod Late

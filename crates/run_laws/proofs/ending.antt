@@ -1,0 +1,17 @@
+pub mod Resting
+pub mod Stopping
+pub mod Measures
+pub mod Busy
+pub mod Balancing
+pub mod Heard
+pub mod Exacts
+pub mod Pauses
+pub mod RoundsOver
+pub mod EndsAnew
+pub mod Ends
+pub mod Costs
+pub mod CostsAnew
+pub mod Entries
+pub mod Bounds
+pub mod Sampled
+pub mod NoRounds

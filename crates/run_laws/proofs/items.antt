@@ -1,0 +1,13 @@
+pub mod UpTo
+pub mod Writes
+pub mod MostHeld
+pub mod NewestOf
+pub mod HeldNewest
+pub mod HeldRows
+pub mod HeldWritten
+pub mod WrittenAtEnd
+pub mod HeldItems
+pub mod Newest
+pub mod Overwritten
+pub mod SeenRows
+pub mod SeenByActs

@@ -1,0 +1,9 @@
+pub mod KeptWhy
+pub mod ParksOnce
+pub mod WaitsFew
+pub mod WakesFew
+pub mod SentFew
+pub mod AtOnce
+pub mod KeepingActs
+pub mod Woken
+pub mod BornOrWaits

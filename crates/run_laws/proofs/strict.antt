@@ -1,0 +1,14 @@
+pub mod Holders
+pub mod QuietLocks
+pub mod Decisions
+pub mod ReleaseRows
+pub mod Releases
+pub mod YesVotes
+pub mod VoteSees
+pub mod VoteCauses
+pub mod AllOrNone
+pub mod CommitsStand
+pub mod VoteLocks
+pub mod Agreed
+pub mod StrictKinds
+pub mod HoldRows

@@ -1,0 +1,9 @@
+pub mod OwnWorth
+pub mod RightReads
+pub mod RightVotes
+pub mod Right
+pub mod WorthStays
+pub mod WritersFirst
+pub mod ShownStays
+pub mod CommittedGets
+pub mod OtherValues

@@ -1,0 +1,9 @@
+pub mod AptSteps
+pub mod AptTurns
+pub mod AptVersions
+pub mod AptOfTree
+pub mod AptItems
+pub mod AptBounds
+pub mod AptWindows
+pub mod AptMakes
+pub mod AptLawful

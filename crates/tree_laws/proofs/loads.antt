@@ -1,0 +1,9 @@
+pub mod Values
+pub mod Tables
+pub mod Overwriting
+pub mod Loads
+pub mod Gets
+pub mod Counts
+pub mod Sums
+pub mod Seen
+pub mod NodeLoads
