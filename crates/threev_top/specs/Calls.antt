@@ -29,6 +29,7 @@ use Rattle.threev_top.specs.Texts.{line_told, status_of}
 use Rattle.threev_top.specs.declared.stops.Stop.{Stop}
 use Rattle.threev_top.specs.declared.stops.Stop.TheVariants as stops
 use Rattle.threev_top.specs.declared.texts.TheConstants.{HELP, VERSION}
+use Rattle.threev_top.specs.declared.calls.Ended.{Ended}
 
 -- the report of a history, and its lines after it where they are asked for
 abbrev pub report_with : Bool → ScriptData → List Entry → List ℕ
@@ -52,8 +53,8 @@ pub record IsTextOf (mode : ScriptMode) (left now : Option (List ℕ)) (history 
   pub is_text : IsText mode script history text
 
 -- the history and the text of a line: a mode's, of the script that the source had; the summary of a run of the script
--- that a seed makes, which has the headline; of an audit, how many entries the history has that the source had behind its
--- script, and that is accepted whole; the help or the version
+-- that a seed makes, which has the headline; of an audit, how many entries the history has that the source had behind
+-- its script, and that is accepted whole; the help or the version
 abbrev pub IsTextBy : Line → Option (List ℕ) → Option (List ℕ) → List Entry → List ℕ → Type 0
 IsTextBy (lines.OfScript mode) left now history text = IsTextOf mode left now history text
 IsTextBy (lines.Soak workers seed trees) left now history text =
@@ -79,8 +80,8 @@ abbrev pub most_bytes : Option Line → ℕ
 most_bytes (Some lines.Audit) = MOST_AUDIT_BYTES
 most_bytes _ = MOST_BYTES
 
--- all bytes of the source are refused with this fault, or more bytes came than a script may have; of an audit the script's
--- part is refused, or more bytes came than are read
+-- all bytes of the source are refused with this fault, or more bytes came than a script may have; of an audit the
+-- script's part is refused, or more bytes came than are read
 abbrev pub Refuses : Option Line → Option (List ℕ) → Option (List ℕ) → ScriptFault → Type 0
 Refuses (Some lines.Audit) left now f = RefusesPart left now f
 Refuses _ left now f = ((bytes : List ℕ) × ReadsAll left now bytes × (read_of bytes ≡ Err f))
@@ -99,6 +100,21 @@ HasCause line left now source_failed out_failed (stops.Script f) = IsTrue (reads
 HasCause line left now source_failed out_failed stops.Reading = IsTrue (reads_script line) × source_failed
 HasCause line left now source_failed out_failed stops.Writing = out_failed
 HasCause line left now source_failed out_failed (stops.History f) = FailsAudit line left now f
+
+-- the same before anything is written, of a source
+abbrev pub StopsMaking : {S : Type 0} → (S → Option (List ℕ)) → (S → ℕ) → S → S → Option Line → Stop → Type 0
+StopsMaking left faults source source' line stop =
+    HasCause line (left source) (left source') (Rose (faults source) (faults source')) ⊥ stop
+
+-- nothing hinders a call: its words are a line, the output has no fault, and where the line reads a script, the source
+-- has no fault, the script is accepted, and the history that is audited doesn't fail
+pub record IsUnhindered {S K : Type 0} (left : S → Option (List ℕ)) (read_faults : S → ℕ) (source source' : S)
+    (write_faults : K → ℕ) (out out' : K) (line : Option Line) : Type 0 where
+  pub is_line : line ≢ None
+  pub writes : Rose (write_faults out) (write_faults out') → ⊥
+  pub reads : IsTrue (reads_script line) → Rose (read_faults source) (read_faults source') → ⊥
+  pub accepted : IsTrue (reads_script line) → (f : ScriptFault) → Refuses line (left source) (left source') f → ⊥
+  pub stands : IsTrue (reads_script line) → (f : HistoryFault) → FailsAudit line (left source) (left source') f → ⊥
 
 -- how a call with this line ends, with a stop or without one, and what it leaves of its source and its output
 pub record EndsAs {S K : Type 0} (left : S → Option (List ℕ)) (read_faults : S → ℕ) (source source' : S)
@@ -131,3 +147,11 @@ pub record TellsEnd {E : Type 0} (received : E → Option (List ℕ)) (faults : 
   pub quiet : stop ≡ None → err' ≡ err
   pub line : (s : Stop) → stop ≡ Some s
       → Tells (received err) (received err') (faults err) (faults err') (line_told s)
+
+-- a call ends so, with some stop or without one, and tells it so
+abbrev pub EndsSo : {S K E : Type 0} → (S → Option (List ℕ)) → (S → ℕ) → S → S → (K → Option (List ℕ)) → (K → ℕ) → K → K
+    → (E → Option (List ℕ)) → (E → ℕ) → E → E → Option Line → Ended → Type 0
+EndsSo left read_faults source source' received write_faults out out' told faults err err' line ended =
+    (stop : Option Stop)
+    × EndsAs left read_faults source source' received write_faults out out' line stop ended.history
+    × TellsEnd told faults err err' stop ended.status

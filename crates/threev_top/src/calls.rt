@@ -1,10 +1,10 @@
 // The top call.
-ghost use Rattle.std.specs.Prelude.{◌≡◌, ◌≤◌, ◌⊎◌, ◌≢◌, map, string_bytes, IsTrue, None, Option, Some};
+ghost use Rattle.std.specs.Prelude.{◌≡◌, ◌≤◌, ◌⊎◌, None, Option, Some};
 ghost use Rattle.std.specs.Io.KnownBytes.{Appends};
-ghost use Rattle.command_words.specs.Grammar.{line_of};
+ghost use Rattle.command_words.specs.Grammar.{line_said};
 ghost use Rattle.history_audit.specs.declared.source_audit.HistoryFault.{HistoryFault};
 ghost use Rattle.script_reader.specs.declared.reading.ScriptFault.{ScriptFault};
-ghost use Rattle.threev_top.specs.Calls.{EndsAs, FailsAudit, reads_script, Refuses, Tells, TellsEnd};
+ghost use Rattle.threev_top.specs.Calls.{EndsAs, Tells, TellsEnd, EndsSo, IsUnhindered};
 ghost use Rattle.threev_top.specs.Texts.{line_told};
 ghost use Rattle.threev_top.specs.inside.Calls.{bytes_of, MayTell, words_stop};
 ghost use Rattle.threev_top.specs.declared.stops.Stop.{Stop};
@@ -104,7 +104,7 @@ fn make_and_write<R: Threads + Wait + Sync, S: Source, K: Sink, G: Gate + Sync>(
     gate: &G,
 ) -> Outcome
     ensures { EndsAs S.left S.faults source.old source.new K.written K.faults out.old out.new
-        (line_of (map string_bytes words.now)) result.stop result.history }
+        (line_said words.now) result.stop result.history }
 {
     match made_by_words(rt, alloc, words, source, gate) {
         Ok(made) => write(made, out),
@@ -209,21 +209,14 @@ pub fn threev<R: Threads + Wait + Sync, S: Source, K: Sink, E: Sink, G: Gate + S
 ) -> Ended
     // How the call ends, with a stop or without one: when it ends so, what it leaves, its status, and what standard
     // error is told.
-    ensures ends { (stop : Option Stop)
-        × EndsAs S.left S.faults source.old source.new K.written K.faults out.old out.new
-        (line_of (map string_bytes words.now)) stop result.history
-        × TellsEnd E.written E.faults err.old err.new stop result.status }
+    ensures ends { EndsSo S.left S.faults source.old source.new K.written K.faults out.old out.new
+        E.written E.faults err.old err.new (line_said words.now) result }
     // So words that are no line are refused, unless memory runs out.
-    ensures no_line { line_of (map string_bytes words.now) ≡ None → (result.status ≡ 1) ⊎ (result.status ≡ 2) }
+    ensures no_line { line_said words.now ≡ None → (result.status ≡ 1) ⊎ (result.status ≡ 2) }
     // And with words that are a line, no fault of the output, and, where the line reads a script, one that is accepted, no
     // fault of the source, and no failure of the history that is audited, the text is written, or memory was wanting.
-    ensures complete { line_of (map string_bytes words.now) ≢ None
-        → (Rose (K.faults out.old) (K.faults out.new) → ⊥)
-        → (IsTrue (reads_script (line_of (map string_bytes words.now)))
-        → (Rose (S.faults source.old) (S.faults source.new) → ⊥)
-        × ((f : ScriptFault) → Refuses (line_of (map string_bytes words.now)) (S.left source.old) (S.left source.new) f → ⊥)
-        × ((f : HistoryFault) → FailsAudit (line_of (map string_bytes words.now)) (S.left source.old) (S.left source.new) f → ⊥))
-        → result.status ≤ 1 }
+    ensures complete { IsUnhindered S.left S.faults source.old source.new K.faults out.old out.new
+        (line_said words.now) → result.status ≤ 1 }
 {
     let Outcome {
         stop,

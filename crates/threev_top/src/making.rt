@@ -1,14 +1,14 @@
 // What a command line asks for is made, before anything is written.
-ghost use Rattle.std.specs.Prelude.{◌≡◌, ◌≤◌, ◌+◌, false, map, string_bytes, IfOk, IfErr, Some};
-ghost use Rattle.command_words.specs.Grammar.{line_of};
+ghost use Rattle.std.specs.Prelude.{◌≡◌, ◌≤◌, ◌+◌, false, IfOk, IfErr, Some};
+ghost use Rattle.command_words.specs.Grammar.{line_said};
 ghost use Rattle.command_words.specs.Lines.{HasWorkers, IsInRange};
 ghost use Rattle.command_words.specs.declared.Line.TheVariants as lines;
 ghost use Rattle.headline.specs.Headline.{HasHeadline};
 ghost use Rattle.report_text.specs.Summary.{summary_of};
 ghost use Rattle.script_gen.specs.Generated.{generated};
-ghost use Rattle.threev_top.specs.Calls.{HasCause, IsTextBy, IsTextOf, most_bytes, reads_script, WroteBy};
-ghost use Rattle.threev_top.specs.inside.Calls.{bytes_of};
-ghost use Rattle.tv_base.specs.Outside.{HasTaken, Rose};
+ghost use Rattle.threev_top.specs.Calls.{most_bytes, reads_script, StopsMaking};
+ghost use Rattle.threev_top.specs.inside.Calls.{bytes_of, IsMadeBy, IsMadeFor, IsMadeIn};
+ghost use Rattle.tv_base.specs.Outside.{HasTaken};
 ghost use Rattle.tv_base.specs.declared.moving.TheConstants.{MOST_BYTES};
 
 use crate::modes::{MadeText, Output, made_of_script};
@@ -59,10 +59,8 @@ fn made_of_source<R: Threads + Wait + Sync, S: Source, G: Gate + Sync>(
     gate: &G,
 ) -> Result<MadeText, Stop>
     requires { HasWorkers mode }
-    ensures made { IfOk result (λ made. IsTextOf mode (S.left source.old) (S.left source.new) made.history
-        (bytes_of made.output)) }
-    ensures cause { IfErr result (λ stop. HasCause (Some (lines.OfScript mode)) (S.left source.old) (S.left source.new)
-        (Rose (S.faults source.old) (S.faults source.new)) ⊥ stop) }
+    ensures made { IfOk result (IsMadeIn mode (S.left source.old) (S.left source.new)) }
+    ensures cause { IfErr result (StopsMaking S.left S.faults source.old source.new (Some (lines.OfScript mode))) }
     ensures taken { HasTaken (MOST_BYTES + 1) (S.left source.old) (S.left source.new) }
 {
     let bytes = read_all(alloc, source, MOST_BYTES)?;
@@ -80,10 +78,8 @@ fn made_by_line<R: Threads + Wait + Sync, S: Source, G: Gate + Sync>(
     gate: &G,
 ) -> Result<MadeText, Stop>
     requires { IsInRange line }
-    ensures made { IfOk result (λ made. IsTextBy line (S.left source.old) (S.left source.new) made.history
-        (bytes_of made.output)) }
-    ensures cause { IfErr result (λ stop. HasCause (Some line) (S.left source.old) (S.left source.new)
-        (Rose (S.faults source.old) (S.faults source.new)) ⊥ stop) }
+    ensures made { IfOk result (IsMadeBy line (S.left source.old) (S.left source.new)) }
+    ensures cause { IfErr result (StopsMaking S.left S.faults source.old source.new (Some line)) }
     ensures unread { reads_script (Some line) ≡ false → source.new ≡ source.old }
     ensures taken { HasTaken (most_bytes (Some line) + 1) (S.left source.old) (S.left source.new) }
 {
@@ -114,12 +110,10 @@ pub(crate) fn made_by_words<R: Threads + Wait + Sync, S: Source, G: Gate + Sync>
     source: &mut S,
     gate: &G,
 ) -> Result<MadeText, Stop>
-    ensures made { IfOk result (λ made. WroteBy (λ text. text ≡ bytes_of made.output)
-        (line_of (map string_bytes words.now)) (S.left source.old) (S.left source.new) made.history) }
-    ensures cause { IfErr result (λ stop. HasCause (line_of (map string_bytes words.now)) (S.left source.old)
-        (S.left source.new) (Rose (S.faults source.old) (S.faults source.new)) ⊥ stop) }
-    ensures unread { reads_script (line_of (map string_bytes words.now)) ≡ false → source.new ≡ source.old }
-    ensures taken { HasTaken (most_bytes (line_of (map string_bytes words.now)) + 1) (S.left source.old) (S.left source.new) }
+    ensures made { IfOk result (IsMadeFor (line_said words.now) (S.left source.old) (S.left source.new)) }
+    ensures cause { IfErr result (StopsMaking S.left S.faults source.old source.new (line_said words.now)) }
+    ensures unread { reads_script (line_said words.now) ≡ false → source.new ≡ source.old }
+    ensures taken { HasTaken (most_bytes (line_said words.now) + 1) (S.left source.old) (S.left source.new) }
 {
     let line = read_words(alloc, words)?;
     let made = made_by_line(rt, alloc, line, source, gate)?;

@@ -1,5 +1,5 @@
 -- What the top call reads and writes. These are the definitions that private code alone cites.
-use Rattle.std.specs.Prelude.{ℕ, ◌≡◌, ◌⊎◌, List}
+use Rattle.std.specs.Prelude.{ℕ, ◌≡◌, ◌⊎◌, List, Option}
 use Rattle.tv_base.specs.declared.moving.ReadEnd.{ReadEnd}
 use Rattle.tv_base.specs.declared.moving.ReadEnd.TheVariants as ends
 use Rattle.command_words.specs.declared.WordsError.{WordsError}
@@ -15,12 +15,26 @@ use Rattle.threev_top.specs.declared.modes.Output.TheVariants as outputs
 use Rattle.threev_top.specs.declared.stops.Stop.{Stop}
 use Rattle.threev_top.specs.declared.stops.Stop.TheVariants as stops
 use Rattle.threev_top.specs.declared.texts.TheConstants.{HELP, VERSION}
+use Rattle.command_words.specs.declared.Line.{Line}
+use Rattle.command_words.specs.declared.ScriptMode.{ScriptMode}
+use Rattle.threev_top.specs.Calls.{IsTextBy, IsTextOf, WroteBy}
+use Rattle.threev_top.specs.declared.modes.MadeText.{MadeText}
 
 -- what is written
 abbrev pub bytes_of : Output → List ℕ
 bytes_of (outputs.Text text) = text
 bytes_of outputs.Help = HELP.now
 bytes_of outputs.Version = VERSION.now
+
+-- this was made of the script that the source had, in this mode; by this line; and by these words, if they are a line
+abbrev pub IsMadeIn : ScriptMode → Option (List ℕ) → Option (List ℕ) → MadeText → Type 0
+IsMadeIn mode left now made = IsTextOf mode left now made.history (bytes_of made.output)
+
+abbrev pub IsMadeBy : Line → Option (List ℕ) → Option (List ℕ) → MadeText → Type 0
+IsMadeBy line left now made = IsTextBy line left now made.history (bytes_of made.output)
+
+abbrev pub IsMadeFor : Option Line → Option (List ℕ) → Option (List ℕ) → MadeText → Type 0
+IsMadeFor line left now made = WroteBy (λ text. text ≡ bytes_of made.output) line left now made.history
 
 -- why a text is no script
 abbrev pub script_stop : ScriptRefusal → Stop

@@ -14,6 +14,6 @@ returns-in-Some-clause-no_line g c = λ none.
     no_line_status (ends_as_told c.make_and_write-stop.ensures c.in-Some.is c.tell_stop-told.ensures.same) c.status.ensures none
 
 pub returns-in-Some-clause-complete : goal.returns-in-Some-clause-complete
-returns-in-Some-clause-complete g c = λ some writes reads.
+returns-in-Some-clause-complete g c = λ free.
     no_cause_status (ends_as_told c.make_and_write-stop.ensures c.in-Some.is c.tell_stop-told.ensures.same) c.status.ensures
-    some writes reads
+    free.is_line free.writes (λ reads. (free.reads reads, free.accepted reads, free.stands reads))
