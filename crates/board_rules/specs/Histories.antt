@@ -1,5 +1,5 @@
 -- What the acts of a history say of trees.
-use Rattle.std.specs.Prelude.{if◌then◌else◌, ℕ, zero, suc, Bool, true, false, ◌==◌, ◌&&◌, List, [], ◌∷◌, ◌++◌, length, map, not, Option, Some, None, IsTrue, is_some, slice_get}
+use Rattle.std.specs.Prelude.{if◌then◌else◌, ℕ, zero, suc, Bool, true, false, ◌==◌, ◌&&◌, List, [], ◌∷◌, ◌++◌, length, map, not, Option, Some, None, IsTrue, is_some, slice_get, ◌<◌}
 use Rattle.std.specs.List.{list_any}
 use Rattle.std.specs.Option.{option_or}
 use Rattle.tv_base.specs.declared.numbers.Version.{Version}
@@ -101,6 +101,10 @@ was_born xs t = is_some (version_in t xs)
 -- tree t is whole after these acts: it is born, and all that is to come of it has come
 abbrev pub is_whole_in : ScriptData → List Place → ℕ → Bool
 is_whole_in s xs t = was_born xs t && is_complete s xs t
+
+-- each tree of the script is whole after these acts
+abbrev pub AreAllWhole : ScriptData → List Place → Type 0
+AreAllWhole s xs = (t : ℕ) → t < length s.trees → IsTrue (is_whole_in s xs t)
 
 -- tree t is whole in a history
 abbrev pub is_whole : ScriptData → List Entry → ℕ → Bool
