@@ -1,7 +1,7 @@
 // The letters that a node keeps.
 ghost use Rattle.std.specs.Prelude.{◌≡◌, [], ◌∷◌, ◌++◌, length, IfErr, IfOk, IsSome, OnErr, OnOk};
 ghost use Rattle.std.specs.Option.{option_copied};
-ghost use Rattle.letter_types.specs.Kept.{brought, first_called, kept_without, wakes, wakes_by, with_called, without_called};
+ghost use Rattle.letter_types.specs.Kept.{brought, first_called, wakes, wakes_by, with_called, without_called};
 ghost use Rattle.node_keeping.specs.Again.{kept_again};
 
 use crate::arrivals::{called_letter, insert, insert_again, let_called_go};
@@ -69,15 +69,6 @@ impl KeptLetters {
                 called_letter(&self.letters, &self.places, self.next, *tree, *sub)
             }
             _ => Some(letter),
-        }
-    }
-
-    /// Lets the letter go that this one brought, if it was kept. Needs no memory.
-    pub fn let_go(&mut self, letter: &Letter)
-        ensures { self.new ≡ kept_without self.old letter.now.body }
-    {
-        if let Body::Wake { tree, sub } = &letter.body {
-            let_called_go(&mut self.letters, &mut self.places, self.next, *tree, *sub);
         }
     }
 

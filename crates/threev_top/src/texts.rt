@@ -64,7 +64,7 @@ rows of a script, comma separated (a transaction and its subtransactions form a 
 ";
 
 /// What `--version` writes.
-pub(crate) const VERSION: &[u8] = b"threev 0.1.0\n";
+pub(crate) const VERSION: &[u8] = b"threev 1.0.0\n";
 
 /// The line of a refused script, from plain parts.
 fn line_of(alloc: Global, row: u32, name: &str) -> Result<String, AllocError>
