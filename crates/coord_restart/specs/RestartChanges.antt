@@ -1,9 +1,11 @@
 -- How the coordinator changes in a step that is prepared, and when it may.
-use Rattle.std.specs.Prelude.{◌≡◌, ◌<◌, ⊤, length, Some}
+use Rattle.std.specs.Prelude.{ℕ, ◌≡◌, ◌<◌, ⊤, length, Some}
 use Rattle.tv_base.specs.Outside.{one_more}
 use Rattle.phase_out.specs.Counts.{MayKeep, count_with, count_begun, nudged}
+use Rattle.letter_types.specs.declared.bodies.Body.{Body}
 use Rattle.letter_types.specs.Steps.{Out, made}
-use Rattle.world_model.specs.Restarting.{Restarting, in_restart_phase, next_epoch, with_advances, with_told}
+use Rattle.world_model.specs.Restarting.{Restarting, in_restart_phase, next_epoch, restart_row_of, with_advances, with_told}
+use Rattle.world_model.specs.declared.restarting.RestartPhase.{RestartPhase}
 use Rattle.world_model.specs.declared.restarting.RestartPhase.TheVariants.{Counting}
 use Rattle.coord_restart.specs.declared.change.Taken.{Taken}
 use Rattle.coord_restart.specs.declared.change.Taken.TheVariants.{Nothing, Row, Nudge, Numbers, Sent}
