@@ -8,16 +8,13 @@ use Rattle.commute_ops.specs.declared.kinds.Op.{Op}
 use Rattle.commute_ops.specs.declared.value.Value.{Value}
 use Rattle.item_versions.specs.Item.{Held, IsHeld, touched, put_value, collected}
 use Rattle.item_versions.specs.History.{new_held}
-use Rattle.item_versions.specs.Table.{Table, IsHeldTable, IsTable, item_in, replaced, pending, updated, valued, touched_in, put_value_in}
+use Rattle.item_versions.specs.Table.{Table, IsHeldTable, IsTable, item_in, replaced, updated, valued, touched_in, put_value_in}
 use Rattle.item_versions.proofs.Halving.{IsAscending-replaced, IsAscending-set}
 use Rattle.item_versions.proofs.Order.{IsHeld-touched, IsHeld-put_value, IsHeld-collected}
-use Rattle.item_versions.proofs.Tables.{each-replaced, each-pending, each-append, each-item, pending-push}
+use Rattle.item_versions.proofs.Tables.{each-replaced, each-append, each-item, copied_over-push}
 
 pub IsHeldTable-replaced : (n : ItemNo) (h : Held) (t : Table) → IsHeld h → IsHeldTable t → IsHeldTable (replaced n h t)
 IsHeldTable-replaced n h t held all = each-replaced IsHeld n h t held all
-
-pub IsHeldTable-pending : (s t : Table) → IsHeldTable s → IsHeldTable t → IsHeldTable (pending s t)
-IsHeldTable-pending s t alls all = each-pending IsHeld s t alls all
 
 pub IsHeld-item_in : (n : ItemNo) (t : Table) (h : Held) → item_in n t ≡ Some h → IsHeldTable t → IsHeld h
 IsHeld-item_in n t h is all = each-item IsHeld n t h is all
@@ -88,6 +85,6 @@ pub IsTable-collected_at : (t new : Table) (p : ℕ) (f : Version) → p < lengt
     → IfSome (slice_get t p) (λ e. new ≡ set t p (e.0, collected f e.1)) → IsTable new
 IsTable-collected_at t new p f lt is put = collected-of t new p f (slice_get t p) refl lt is put
 
-pub ruleset putting = (pending-push, IsTable-replaced)
+pub ruleset putting = (copied_over-push, IsTable-replaced)
 
 pub ruleset adding = (IsHeldTable-added)

@@ -8,3 +8,5 @@ pub mod Seen
 pub mod Staging
 pub mod Tables
 pub mod Window
+pub mod WhereHeld
+pub mod StagedTables

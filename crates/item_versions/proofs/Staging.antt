@@ -10,9 +10,10 @@ use Rattle.tv_base.specs.declared.numbers.Version.{Version}
 use Rattle.commute_ops.specs.declared.kinds.Op.{Op}
 use Rattle.commute_ops.specs.declared.value.Value.{Value}
 use Rattle.item_versions.specs.Item.{Held, touched, may_touch, has_room, put_value}
-use Rattle.item_versions.specs.Table.{Table, item_in, replaced, pending, touched_in, may_touch_in, has_room_in, put_value_in}
+use Rattle.item_versions.specs.Table.{Table, item_in, replaced, touched_in, may_touch_in, has_room_in, put_value_in}
+use Rattle.item_versions.specs.inside.StagedOps.{copied_over}
 use Rattle.item_versions.specs.inside.Places.{item_place}
-use Rattle.item_versions.proofs.Tables.{pending-with_item, pending-staged, item_in-pending_absent, item_in-pending_none, set-place_of_with, with_item-absent}
+use Rattle.item_versions.proofs.Tables.{copied_over-with_item, copied_over-staged, item_in-copied_absent, item_in-copied_none, set-place_of_with, with_item-absent}
 
 -- an item that may be updated is there; and one that has room
 touch-of : (v : Version) (op : Op) (n : ItemNo) (t : Table) (o : Option Held) → item_in n t ≡ o
@@ -50,32 +51,32 @@ at-place n (e ∷ es) lt =
           rw (ne_eqb e.0.0 n.0 ne, add-one) (at-place n es within)
     ]
 
-there-of : (n : ItemNo) (s t : Table) (h : Held) (o : Option Held) → item_in n t ≡ o → item_in n (pending s t) ≡ Some h
+there-of : (n : ItemNo) (s t : Table) (h : Held) (o : Option Held) → item_in n t ≡ o → item_in n (copied_over s t) ≡ Some h
     → (k : Held) × (item_in n t ≡ Some k)
-there-of n s t h None is now = let none = item_in-pending_absent n s t is in cc
+there-of n s t h None is now = let none = item_in-copied_absent n s t is in cc
 there-of n s t h (Some k) is now = (k, is)
 
 -- what is pending of an item that is staged lies at its place
-pub staged-there : (n : ItemNo) (s t : Table) (h : Held) → item_in n (pending s t) ≡ Some h → item_place n s < length s
+pub staged-there : (n : ItemNo) (s t : Table) (h : Held) → item_in n (copied_over s t) ≡ Some h → item_place n s < length s
     → slice_get s (item_place n s) ≡ Some (n, h)
 staged-there n s t h now lt =
     let (k, at, is) = at-place n s lt in
     let (k', there) = there-of n s t h (item_in n t) refl now in
-    let pend : item_in n (pending s t) ≡ Some k = pending-staged n k k' s t there is in
+    let pend : item_in n (copied_over s t) ≡ Some k = copied_over-staged n k k' s t there is in
     let same : h ≡ k = cc in
     at ∙ ap (λ (z : Held). Some (n, z)) (sym same)
 
 -- what is put at its place is pending
-pub pending-set : (n : ItemNo) (s t : Table) (h : Held) → item_place n s < length s
-    → pending (set s (item_place n s) (n, h)) t ≡ replaced n h (pending s t)
-pending-set n s t h lt = ap (λ (z : Table). pending z t) (set-place_of_with n h s lt) ∙ pending-with_item n h s t
+pub copied_over-set : (n : ItemNo) (s t : Table) (h : Held) → item_place n s < length s
+    → copied_over (set s (item_place n s) (n, h)) t ≡ replaced n h (copied_over s t)
+copied_over-set n s t h lt = ap (λ (z : Table). copied_over z t) (set-place_of_with n h s lt) ∙ copied_over-with_item n h s t
 
 -- what is put at the end is pending
-pub pending-last : (n : ItemNo) (s t : Table) (h : Held) → length s ≤ item_place n s
-    → pending (s ++ (n, h) ∷ []) t ≡ replaced n h (pending s t)
-pending-last n s t h le = ap (λ (z : Table). pending z t) (sym (with_item-absent n h s le)) ∙ pending-with_item n h s t
+pub copied_over-last : (n : ItemNo) (s t : Table) (h : Held) → length s ≤ item_place n s
+    → copied_over (s ++ (n, h) ∷ []) t ≡ replaced n h (copied_over s t)
+copied_over-last n s t h le = ap (λ (z : Table). copied_over z t) (sym (with_item-absent n h s le)) ∙ copied_over-with_item n h s t
 
-if_made : {E P Q : Type 0} (r : Result Bool E) → (P → Q) → IfOk r (λ made. OnTrue made P) → IfOk r (λ made. OnTrue made Q)
+pub if_made : {E P Q : Type 0} (r : Result Bool E) → (P → Q) → IfOk r (λ made. OnTrue made P) → IfOk r (λ made. OnTrue made Q)
 if_made (Ok true) f p = f p
 if_made (Ok false) f p = tt
 if_made (Err e) f p = tt
@@ -83,40 +84,40 @@ if_made (Err e) f p = tt
 -- an item that is staged is changed at its place p
 module _ (v : Version) (n : ItemNo) (s u t : Table) (p : ℕ)
     (same : s ≡ u) (at : p ≡ item_place n s) (lt : p < length s) where
-  lies : (h : Held) → item_in n (pending u t) ≡ Some h → slice_get s p ≡ Some (n, h)
+  lies : (h : Held) → item_in n (copied_over u t) ≡ Some h → slice_get s p ≡ Some (n, h)
   lies h now =
-      let now' : item_in n (pending s t) ≡ Some h = rw same now in
+      let now' : item_in n (copied_over s t) ≡ Some h = rw same now in
       let lt' : item_place n s < length s = omega arith in
       rw at (staged-there n s t h now' lt')
 
-  put-there : (h : Held) (s' : Table) → s' ≡ set s p (n, h) → pending s' t ≡ replaced n h (pending u t)
+  put-there : (h : Held) (s' : Table) → s' ≡ set s p (n, h) → copied_over s' t ≡ replaced n h (copied_over u t)
   put-there h s' put =
       let lt' : item_place n s < length s = omega arith in
-      ap (λ (z : Table). pending z t) (put ∙ ap (λ (k : ℕ). set s k (n, h)) at)
-      ∙ pending-set n s t h lt' ∙ ap (λ (z : Table). replaced n h (pending z t)) same
+      ap (λ (z : Table). copied_over z t) (put ∙ ap (λ (k : ℕ). set s k (n, h)) at)
+      ∙ copied_over-set n s t h lt' ∙ ap (λ (z : Table). replaced n h (copied_over z t)) same
 
-  pub stage-room : has_room_in v n (pending u t) ≡ true → IfSome (slice_get s p) (λ e. IsTrue (has_room v e.1))
-  stage-room room = let (h, now, can) = room-there v n (pending u t) room in rw (lies h now) can
+  pub stage-room : has_room_in v n (copied_over u t) ≡ true → IfSome (slice_get s p) (λ e. IsTrue (has_room v e.1))
+  stage-room room = let (h, now, can) = room-there v n (copied_over u t) room in rw (lies h now) can
 
-  pub stage-put : (w : Value) (s' : Table) → has_room_in v n (pending u t) ≡ true
+  pub stage-put : (w : Value) (s' : Table) → has_room_in v n (copied_over u t) ≡ true
       → IfSome (slice_get s p) (λ e. s' ≡ set s p (e.0, put_value v w e.1))
-      → pending s' t ≡ put_value_in v n w (pending u t)
+      → copied_over s' t ≡ put_value_in v n w (copied_over u t)
   stage-put w s' room put =
-      let (h, now, can) = room-there v n (pending u t) room in
+      let (h, now, can) = room-there v n (copied_over u t) room in
       let put' : s' ≡ set s p (n, put_value v w h) = rw (lies h now) at put in
       put-there (put_value v w h) s' put' ∙ rw now refl
 
   -- of an item that the table has, what lies there is what is pending
   held-there : (k : Held) → item_in n t ≡ Some k
-      → (h : Held) × (slice_get s p ≡ Some (n, h)) × (item_in n (pending u t) ≡ Some h)
+      → (h : Held) × (slice_get s p ≡ Some (n, h)) × (item_in n (copied_over u t) ≡ Some h)
   held-there k there =
       let lt' : item_place n s < length s = omega arith in
       let (h, here, is) = at-place n s lt' in
-      (h, ap (λ (k : ℕ). slice_get s k) at ∙ here, ap (λ (z : Table). item_in n (pending z t)) (sym same) ∙ pending-staged n h k s t there is)
+      (h, ap (λ (k : ℕ). slice_get s k) at ∙ here, ap (λ (z : Table). item_in n (copied_over z t)) (sym same) ∙ copied_over-staged n h k s t there is)
 
   -- so whether the update may be made, and what it makes, is told there
   module _ (op : Op) (k : Held) (there : item_in n t ≡ Some k) where
-    pub touch-room : (IsTrue (may_touch_in v n op (pending u t)) → IsTrue (has_room_in v n (pending u t)))
+    pub touch-room : (IsTrue (may_touch_in v n op (copied_over u t)) → IsTrue (has_room_in v n (copied_over u t)))
         → IfSome (slice_get s p) (λ e. IsTrue (may_touch v op e.1) → IsTrue (has_room v e.1))
     touch-room room =
         let (h, here, now) = held-there k there in
@@ -124,12 +125,12 @@ module _ (v : Version) (n : ItemNo) (s u t : Table) (p : ℕ)
         rw here room'
 
     pub touch-may : {E : Type 0} (r : Result Bool E) → IfOk r (λ made. IfSome (slice_get s p) (λ e. made ≡ may_touch v op e.1))
-        → IfOk r (λ made. made ≡ may_touch_in v n op (pending u t))
+        → IfOk r (λ made. made ≡ may_touch_in v n op (copied_over u t))
     touch-may r may = let (h, here, now) = held-there k there in rw (now, may_touch_in) (rw here at may)
 
     pub touch-made : {E : Type 0} (r : Result Bool E) (s' : Table)
         → IfOk r (λ made. OnTrue made (IfSome (slice_get s p) (λ e. s' ≡ set s p (e.0, touched v op e.1))))
-        → IfOk r (λ made. OnTrue made (pending s' t ≡ touched_in v n op (pending u t)))
+        → IfOk r (λ made. OnTrue made (copied_over s' t ≡ touched_in v n op (copied_over u t)))
     touch-made r s' put =
         let (h, here, now) = held-there k there in
         let put' : IfOk r (λ made. OnTrue made (s' ≡ set s p (n, touched v op h))) = rw here at put in
@@ -141,18 +142,5 @@ absent n (e ∷ es) le =
     let rest : length es ≤ item_place n es → item_in n es ≡ None = absent n es in grind (arith, nat_tests)
 
 -- what is pending of an item that is not staged is the table's
-pub pending-absent : (n : ItemNo) (s t : Table) → length s ≤ item_place n s → item_in n (pending s t) ≡ item_in n t
-pending-absent n s t le = item_in-pending_none n s t (absent n s le)
-
--- an item that the table hasn't may not be updated; one that is not staged is updated as the table has it
-pub absent-may : (v : Version) (op : Op) (n : ItemNo) (s t : Table) → item_in n t ≡ None → false ≡ may_touch_in v n op (pending s t)
-absent-may v op n s t none = rw (item_in-pending_absent n s t none, may_touch_in) refl
-
-pub touched-last : (v : Version) (op : Op) (n : ItemNo) (s u s' t : Table) (k : Held) → s ≡ u → length s ≤ item_place n s
-    → item_in n t ≡ Some k → s' ≡ s ++ (n, touched v op k) ∷ [] → pending s' t ≡ touched_in v n op (pending u t)
-touched-last v op n s u s' t k same le there put =
-    let now : item_in n (pending u t) ≡ Some k = ap (λ (z : Table). item_in n (pending z t)) (sym same) ∙ pending-absent n s t le ∙ there in
-    ap (λ (z : Table). pending z t) put ∙ pending-last n s t (touched v op k) le
-    ∙ ap (λ (z : Table). replaced n (touched v op k) (pending z t)) same ∙ rw (now, touched_in) refl
-
-pub ruleset staging = (pending-last, pending-absent)
+pub copied_over-absent : (n : ItemNo) (s t : Table) → length s ≤ item_place n s → item_in n (copied_over s t) ≡ item_in n t
+copied_over-absent n s t le = item_in-copied_none n s t (absent n s le)

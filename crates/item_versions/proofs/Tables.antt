@@ -7,7 +7,8 @@ use Rattle.std.proofs.lemmas.Bool.Decides.{nat_tests}
 use Rattle.std.proofs.lemmas.Grind.{common_steps}
 use Rattle.tv_base.specs.declared.numbers.ItemNo.{ItemNo}
 use Rattle.item_versions.specs.Item.{Held}
-use Rattle.item_versions.specs.Table.{Table, item_in, replaced, table_with_item, pending}
+use Rattle.item_versions.specs.Table.{Table, item_in, replaced, table_with_item}
+use Rattle.item_versions.specs.inside.StagedOps.{copied_over}
 use Rattle.item_versions.specs.inside.Places.{item_place}
 
 pub item_place-le : (n : ItemNo) (t : Table) → item_place n t ≤ length t
@@ -46,68 +47,68 @@ pub item_in-replaced_other : (n m : ItemNo) (h : Held) (t : Table) → (n.0 ≡ 
 item_in-replaced_other n m h [] ne = refl
 item_in-replaced_other n m h (e ∷ es) ne = let rest = item_in-replaced_other n m h es ne in grind (arith, nat_tests)
 
-item_in-replaced_same : (n m : ItemNo) (h k : Held) (t : Table) → m.0 ≡ n.0 → item_in n t ≡ Some k → item_in n (replaced m h t) ≡ Some h
+pub item_in-replaced_same : (n m : ItemNo) (h k : Held) (t : Table) → m.0 ≡ n.0 → item_in n t ≡ Some k → item_in n (replaced m h t) ≡ Some h
 item_in-replaced_same n m h k [] eq is = cc
 item_in-replaced_same n m h k (e ∷ es) eq is =
     let rest : item_in n es ≡ Some k → item_in n (replaced m h es) ≡ Some h = item_in-replaced_same n m h k es eq in grind (arith, nat_tests)
 
-item_in-replaced_none : (n m : ItemNo) (h : Held) (t : Table) → item_in n t ≡ None → item_in n (replaced m h t) ≡ None
+pub item_in-replaced_none : (n m : ItemNo) (h : Held) (t : Table) → item_in n t ≡ None → item_in n (replaced m h t) ≡ None
 item_in-replaced_none n m h [] is = refl
 item_in-replaced_none n m h (e ∷ es) is =
     let rest : item_in n es ≡ None → item_in n (replaced m h es) ≡ None = item_in-replaced_none n m h es in grind (arith, nat_tests)
 
 -- what is pending after one more item
-pub pending-with_item : (n : ItemNo) (h : Held) (s t : Table) → pending (table_with_item n h s) t ≡ replaced n h (pending s t)
-pending-with_item n h [] t = refl
-pending-with_item n h (e ∷ es) t =
+pub copied_over-with_item : (n : ItemNo) (h : Held) (s t : Table) → copied_over (table_with_item n h s) t ≡ replaced n h (copied_over s t)
+copied_over-with_item n h [] t = refl
+copied_over-with_item n h (e ∷ es) t =
     elim (cases_eq e.0.0 n.0) [
-      | inl eq ↦ rw (eq-eqb e.0.0 n.0 eq) (sym (replaced-same n e.0 h e.1 (pending es t) eq))
+      | inl eq ↦ rw (eq-eqb e.0.0 n.0 eq) (sym (replaced-same n e.0 h e.1 (copied_over es t) eq))
       | inr ne ↦
-          rw (ne_eqb e.0.0 n.0 ne) (ap (replaced e.0 e.1) (pending-with_item n h es t) ∙ replaced-other e.0 n e.1 h (pending es t) ne)
+          rw (ne_eqb e.0.0 n.0 ne) (ap (replaced e.0 e.1) (copied_over-with_item n h es t) ∙ replaced-other e.0 n e.1 h (copied_over es t) ne)
     ]
 
-pub pending-push : (e : ItemNo × Held) (s t : Table) → pending (s ++ e ∷ []) t ≡ pending s (replaced e.0 e.1 t)
-pending-push e [] t = refl
-pending-push e (x ∷ s) t = ap (replaced x.0 x.1) (pending-push e s t)
+pub copied_over-push : (e : ItemNo × Held) (s t : Table) → copied_over (s ++ e ∷ []) t ≡ copied_over s (replaced e.0 e.1 t)
+copied_over-push e [] t = refl
+copied_over-push e (x ∷ s) t = ap (replaced x.0 x.1) (copied_over-push e s t)
 
 -- what is pending of one item
-pub item_in-pending_none : (n : ItemNo) (s t : Table) → item_in n s ≡ None → item_in n (pending s t) ≡ item_in n t
-item_in-pending_none n [] t is = refl
-item_in-pending_none n (e ∷ es) t is =
+pub item_in-copied_none : (n : ItemNo) (s t : Table) → item_in n s ≡ None → item_in n (copied_over s t) ≡ item_in n t
+item_in-copied_none n [] t is = refl
+item_in-copied_none n (e ∷ es) t is =
     elim (cases_eq e.0.0 n.0) [
       | inl eq ↦ absurd (let no : Some e.1 ≡ None = rw (eq-eqb e.0.0 n.0 eq) at is in cc)
       | inr ne ↦
-          item_in-replaced_other n e.0 e.1 (pending es t) (λ q. ne (sym q)) ∙ item_in-pending_none n es t (rw (ne_eqb e.0.0 n.0 ne) at is)
+          item_in-replaced_other n e.0 e.1 (copied_over es t) (λ q. ne (sym q)) ∙ item_in-copied_none n es t (rw (ne_eqb e.0.0 n.0 ne) at is)
     ]
 
-pub item_in-pending_absent : (n : ItemNo) (s t : Table) → item_in n t ≡ None → item_in n (pending s t) ≡ None
-item_in-pending_absent n [] t is = is
-item_in-pending_absent n (e ∷ es) t is = item_in-replaced_none n e.0 e.1 (pending es t) (item_in-pending_absent n es t is)
+pub item_in-copied_absent : (n : ItemNo) (s t : Table) → item_in n t ≡ None → item_in n (copied_over s t) ≡ None
+item_in-copied_absent n [] t is = is
+item_in-copied_absent n (e ∷ es) t is = item_in-replaced_none n e.0 e.1 (copied_over es t) (item_in-copied_absent n es t is)
 
-item_in-pending_there : (n : ItemNo) (k : Held) (s t : Table) → item_in n t ≡ Some k → (k' : Held) × (item_in n (pending s t) ≡ Some k')
-item_in-pending_there n k [] t is = (k, is)
-item_in-pending_there n k (e ∷ es) t is =
-    let (k', is') = item_in-pending_there n k es t is in
+item_in-copied_there : (n : ItemNo) (k : Held) (s t : Table) → item_in n t ≡ Some k → (k' : Held) × (item_in n (copied_over s t) ≡ Some k')
+item_in-copied_there n k [] t is = (k, is)
+item_in-copied_there n k (e ∷ es) t is =
+    let (k', is') = item_in-copied_there n k es t is in
     elim (cases_eq e.0.0 n.0) [
-      | inl eq ↦ (e.1, item_in-replaced_same n e.0 e.1 k' (pending es t) eq is')
-      | inr ne ↦ (k', item_in-replaced_other n e.0 e.1 (pending es t) (λ q. ne (sym q)) ∙ is')
+      | inl eq ↦ (e.1, item_in-replaced_same n e.0 e.1 k' (copied_over es t) eq is')
+      | inr ne ↦ (k', item_in-replaced_other n e.0 e.1 (copied_over es t) (λ q. ne (sym q)) ∙ is')
     ]
 
-item_in-pending_some : (n : ItemNo) (h k : Held) (s t : Table) → item_in n s ≡ Some h → item_in n t ≡ Some k → item_in n (pending s t) ≡ Some h
-item_in-pending_some n h k [] t is there = cc
-item_in-pending_some n h k (e ∷ es) t is there =
-    let (k', is') = item_in-pending_there n k es t there in
+item_in-copied_some : (n : ItemNo) (h k : Held) (s t : Table) → item_in n s ≡ Some h → item_in n t ≡ Some k → item_in n (copied_over s t) ≡ Some h
+item_in-copied_some n h k [] t is there = cc
+item_in-copied_some n h k (e ∷ es) t is there =
+    let (k', is') = item_in-copied_there n k es t there in
     elim (cases_eq e.0.0 n.0) [
       | inl eq ↦
           let same : Some e.1 ≡ Some h = rw (eq-eqb e.0.0 n.0 eq) at is in
-          item_in-replaced_same n e.0 e.1 k' (pending es t) eq is' ∙ same
+          item_in-replaced_same n e.0 e.1 k' (copied_over es t) eq is' ∙ same
       | inr ne ↦
-          item_in-replaced_other n e.0 e.1 (pending es t) (λ q. ne (sym q)) ∙ item_in-pending_some n h k es t (rw (ne_eqb e.0.0 n.0 ne) at is) there
+          item_in-replaced_other n e.0 e.1 (copied_over es t) (λ q. ne (sym q)) ∙ item_in-copied_some n h k es t (rw (ne_eqb e.0.0 n.0 ne) at is) there
     ]
 
 -- a pending item of the table is the staged one, or else the table's
-pub pending-staged : (n : ItemNo) (h k : Held) (s t : Table) → item_in n t ≡ Some k → item_in n s ≡ Some h → item_in n (pending s t) ≡ Some h
-pending-staged n h k s t there is = item_in-pending_some n h k s t is there
+pub copied_over-staged : (n : ItemNo) (h k : Held) (s t : Table) → item_in n t ≡ Some k → item_in n s ≡ Some h → item_in n (copied_over s t) ≡ Some h
+copied_over-staged n h k s t there is = item_in-copied_some n h k s t is there
 
 -- what holds of each item of a table
 module _ (P : Held → Type 0) where
@@ -120,10 +121,6 @@ module _ (P : Held → Type 0) where
       cond_both (e.0.0 == n.0) ((n, h) ∷ es) (e ∷ replaced n h es) Each
       (λ _. (one, all.1))
       (λ _. (all.0, each-replaced n h es one all.1))
-
-  pub each-pending : (s t : Table) → Each s → Each t → Each (pending s t)
-  each-pending [] t alls all = all
-  each-pending (e ∷ es) t alls all = each-replaced e.0 e.1 (pending es t) alls.0 (each-pending es t alls.1 all)
 
   pub each-append : (s t : Table) → Each s → Each t → Each (s ++ t)
   each-append [] t alls all = all
@@ -140,4 +137,4 @@ module _ (P : Held → Type 0) where
         | inr ne ↦ each-item n es h (rw (ne_eqb e.0.0 n.0 ne) at is) all.1
       ]
 
-pub ruleset finding = (pending-staged, item_in-pending_none, item_in-pending_absent)
+pub ruleset finding = (copied_over-staged, item_in-copied_none, item_in-copied_absent)

@@ -10,12 +10,12 @@ use Rattle.commute_ops.specs.declared.kinds.Op.{Op}
 use Rattle.commute_ops.specs.Ops.{applied}
 use Rattle.item_versions.specs.Item.{Held, AscendsAbove, IsHeld, below, above, applied_to_all, seen_after, touched, holds, has_room, put_value, collected, CanCollect}
 use Rattle.item_versions.specs.History.{new_held}
-use Rattle.item_versions.specs.Table.{Table, IsHeldTable, item_in, replaced, pending, updated, valued, touched_in, has_room_in, may_touch_in, put_value_in}
+use Rattle.item_versions.specs.Table.{Table, IsHeldTable, item_in, replaced, updated, valued, touched_in, has_room_in, may_touch_in, put_value_in}
 use Rattle.item_versions.specs.Window.{in_window, first_version, IsWindowed, IsWindowedTable}
 use Rattle.item_versions.proofs.Order.{below-nil}
 use Rattle.item_versions.proofs.Staging.{touch-there}
 use Rattle.item_versions.proofs.Holding.{IsHeld-item_in}
-use Rattle.item_versions.proofs.Tables.{each-replaced, each-pending, each-append, each-item}
+use Rattle.item_versions.proofs.Tables.{each-replaced, each-append, each-item}
 use Rattle.item_versions.specs.Collecting.{may_collect, may_collect_all}
 
 -- what the test says
@@ -141,10 +141,6 @@ IsWindowed-new w = record { least = (omega arith, refl); most = (omega arith, tt
 pub IsWindowedTable-replaced : (low : ℕ) (n : ItemNo) (h : Held) (t : Table) → IsWindowed low h
     → IsWindowedTable low t → IsWindowedTable low (replaced n h t)
 IsWindowedTable-replaced low n h t win all = each-replaced (IsWindowed low) n h t win all
-
-pub IsWindowedTable-pending : (low : ℕ) (s t : Table) → IsWindowedTable low s → IsWindowedTable low t
-    → IsWindowedTable low (pending s t)
-IsWindowedTable-pending low s t alls all = each-pending (IsWindowed low) s t alls all
 
 pub IsWindowed-item_in : (low : ℕ) (n : ItemNo) (t : Table) (h : Held) → item_in n t ≡ Some h
     → IsWindowedTable low t → IsWindowed low h

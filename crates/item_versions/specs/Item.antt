@@ -1,5 +1,5 @@
 -- What an item holds: its values by version.
-use Rattle.std.specs.Prelude.{ℕ, Bool, true, false, not, ◌&&◌, ◌||◌, ◌+◌, ◌<◌, ◌≤◌, ◌==◌, List, [], ◌∷◌, ◌++◌, length, map, if◌then◌else◌, nat_lt, nat_le, ⊤, Option, Some, None}
+use Rattle.std.specs.Prelude.{ℕ, Bool, true, false, not, ◌&&◌, ◌||◌, ◌<◌, ◌≤◌, ◌==◌, List, [], ◌∷◌, ◌++◌, length, map, if◌then◌else◌, nat_lt, nat_le, ⊤, Option, Some, None}
 use Rattle.std.specs.List.{filter}
 use Rattle.tv_base.specs.declared.numbers.Version.{Version}
 use Rattle.commute_ops.specs.declared.value.Value.{Value}
@@ -76,6 +76,18 @@ has_bag (x ∷ xs) = is_bag x.1 || has_bag xs
 -- what is held once version v has this value: v is made where it is not there, and all other versions stay
 abbrev pub put_value : Version → Value → Held → Held
 put_value v w xs = below v xs ++ (v, w) ∷ above v xs
+
+-- a sum or a top after an operation that may be applied to it; any other value stays
+abbrev pub value_in_place : Value → Op → Value
+value_in_place w op = if not (is_bag w) && may_apply w op then applied w op else w
+
+-- the same of the value of version v or of a later one
+abbrev pub entry_in_place : Version → Op → Version × Value → Version × Value
+entry_in_place v op x = if nat_le v.0 x.0.0 then (x.0, value_in_place x.1 op) else x
+
+-- what is held after an operation in version v, made where it is: to v, if it is held, and to each later version
+abbrev pub held_in_place : Version → Op → Held → Held
+held_in_place v op xs = map (λ x. entry_in_place v op x) xs
 
 -- what is held after a collection to version f
 abbrev pub collected : Version → Held → Held

@@ -5,7 +5,7 @@ use Rattle.tv_base.specs.declared.numbers.ItemNo.{ItemNo}
 use Rattle.tv_base.specs.declared.numbers.Version.{Version}
 use Rattle.commute_ops.specs.declared.kinds.Op.{Op}
 use Rattle.commute_ops.specs.declared.value.Value.{Value}
-use Rattle.item_versions.specs.Item.{Held, IsHeld, touched, may_touch, has_room, put_value}
+use Rattle.item_versions.specs.Item.{Held, IsHeld, held_in_place, touched, may_touch, has_room, put_value}
 
 -- items by number
 abbrev pub Table : Type 0
@@ -47,10 +47,29 @@ abbrev pub table_with_item : ItemNo → Held → Table → Table
 table_with_item n h [] = (n, h) ∷ []
 table_with_item n h (e ∷ es) = if e.0.0 == n.0 then (n, h) ∷ es else e ∷ table_with_item n h es
 
--- the table with every item of a list in its place; the first counts
-abbrev pub pending : Table → Table → Table
+-- an operation is made where an item is
+abbrev pub made_in_place : Version → Op → Option Held → ItemNo → Table → Table
+made_in_place v op None n t = t
+made_in_place v op (Some h) n t = replaced n (held_in_place v op h) t
+
+-- the table after an operation that is made where the item is
+abbrev pub table_in_place : Version → ItemNo → Op → Table → Table
+table_in_place v n op t = made_in_place v op (item_in n t) n t
+
+-- what is staged of an item: all that is to be held of it, or an operation that is to be made where it is
+pub data StagedItem : Type 0 where
+  Copied : ItemNo → Held → StagedItem
+  InPlace : ItemNo → Version → Op → StagedItem
+
+-- what is staged; what is made last comes first
+abbrev pub StagedItems : Type 0
+StagedItems = List StagedItem
+
+-- the table with all that is staged
+abbrev pub pending : StagedItems → Table → Table
 pending [] t = t
-pending (e ∷ es) t = replaced e.0 e.1 (pending es t)
+pending (Copied n h ∷ es) t = replaced n h (pending es t)
+pending (InPlace n v op ∷ es) t = table_in_place v n op (pending es t)
 
 -- what is held of an item goes through an update
 abbrev pub updated : Version → Op → Option Held → ItemNo → Table → Table

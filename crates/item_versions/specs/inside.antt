@@ -1,3 +1,4 @@
 pub mod Counted
 pub mod InPlace
 pub mod Places
+pub mod StagedOps

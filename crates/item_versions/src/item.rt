@@ -1,8 +1,9 @@
-ghost use Rattle.std.specs.Prelude.{◌≡◌, ◌+◌, ◌++◌, ◌∷◌, ◌<◌, ◌≤◌, [], drop, length, IfOk, OnOk, OnErr, Some, IsTrue};
+ghost use Rattle.std.specs.Prelude.{◌≡◌, ◌+◌, ◌++◌, ◌∷◌, ◌<◌, ◌≤◌, [], drop, is_some, length, IfOk, IfSome, OnOk, OnErr, Some, IsTrue};
 ghost use Rattle.arrayvec.specs.ArrayVec.{array_vec_len};
 ghost use Rattle.item_versions.specs.inside.InPlace.{raised_from};
-ghost use Rattle.item_versions.specs.Item.{IsHeld, seen, below, above, applied_to_all, touched, collected, may_apply_above, may_touch, holds, has_room, has_bag, put_value, CanCollect};
+ghost use Rattle.item_versions.specs.Item.{IsHeld, held_in_place, entry_in_place, value_in_place, seen, below, above, applied_to_all, touched, collected, may_apply_above, may_touch, holds, has_room, has_bag, put_value, CanCollect};
 ghost use Rattle.item_versions.specs.inside.Counted.{up_to};
+ghost use Rattle.item_versions.specs.inside.StagedOps.{all_take, takes_in_place, takes_op};
 
 use arrayvec::ArrayVec;
 use commute_ops::{Op, Value};
@@ -105,6 +106,42 @@ impl Item {
         Ok(Item { held })
     }
 
+    /// The item as it is after an update in version `v`, or none if the update may not be made.
+    pub(crate) fn touched_if_may(
+        &self,
+        alloc: Global,
+        v: Version,
+        op: &Op,
+    ) -> Result<Option<Item>, NoMemory>
+        requires room { IsTrue (may_touch v op.now self.now) → IsTrue (has_room v self.now) }
+        ensures may { IfOk result (λ next. is_some next ≡ may_touch v op.now self.now) }
+        ensures made { IfOk result (λ next. IfSome next (λ i. i ≡ touched v op.now self.now)) }
+    {
+        if !self.may_touch(v, op) {
+            return Ok(None);
+        }
+        let next = self.touched(alloc, v, op)?;
+        Ok(Some(next))
+    }
+
+    /// Whether version `v` is held, and it and every later version are tops, or sums of at most this magnitude, of the
+    /// operation's kind.
+    pub(crate) fn takes_in_place(&self, v: Version, op: &Op, most: u128) -> bool
+        ensures takes { result ≡ takes_in_place v op.now most self.now }
+        ensures ascending { IsHeld self.now }
+    {
+        holds(self.held.as_slice(), v) && all_take(self.held.as_slice(), v, op, most)
+    }
+
+    /// Applies the operation to the sums and tops of version `v`, if it is held, and of every later version, to each if
+    /// it may be applied to it. It needs no memory.
+    #[tactic(auto, using(crate::proofs::Order::kept))]
+    pub(crate) fn touch_in_place(&mut self, v: Version, op: &Op)
+        ensures { self.new ≡ held_in_place v op.now self.old }
+    {
+        touch_where_held(&mut self.held, v, op);
+    }
+
     /// An equal item. Only a bag needs memory.
     pub(crate) fn copy(&self, alloc: Global) -> Result<Item, NoMemory>
         ensures { IfOk result (λ i. i ≡ self.now) }
@@ -169,6 +206,79 @@ fn holds(items: &[(Version, Value)], v: Version) -> bool
         }
     }
     false
+}
+
+/// Whether the value is a top, or a sum of at most this magnitude, and the operation is of its kind.
+#[inline(always)]
+fn takes_op(value: &Value, op: &Op, most: u128) -> bool
+    ensures { result ≡ takes_op value.now op.now most }
+{
+    match (value, op) {
+        (Value::Sum(sum), Op::Add(_)) => sum.0.unsigned_abs() <= most,
+        (Value::Top(_), Op::Top(_)) => true,
+        _ => false,
+    }
+}
+
+/// Whether each of `items` whose version is at least `v` takes the operation.
+fn all_take(items: &[(Version, Value)], v: Version, op: &Op, most: u128) -> bool
+    ensures { result ≡ all_take v op.now most items.now }
+{
+    for entry in items {
+        if v <= entry.0 && !takes_op(&entry.1, op, most) {
+            return false;
+        }
+    }
+    true
+}
+
+/// Applies the operation to a sum or a top, if it may be applied.
+#[inline(always)]
+fn apply_in_place(value: &mut Value, op: &Op)
+    ensures { value.new ≡ value_in_place value.old op.now }
+{
+    if !value.may_apply(op) {
+        return;
+    }
+    match value {
+        Value::Sum(sum) => {
+            if let Op::Add(amount) = op {
+                sum.0 += *amount;
+            }
+        }
+        Value::Top(top) => {
+            if let Op::Top(amount) = op {
+                top.0 = top.0.max(*amount);
+            }
+        }
+        Value::Bag(_) => {}
+    }
+}
+
+/// Applies the operation to a version that is at least `v`.
+#[inline(always)]
+fn touch_entry_in_place(entry: &mut (Version, Value), v: Version, op: &Op)
+    ensures { entry.new ≡ entry_in_place v op.now entry.old }
+{
+    if v <= entry.0 {
+        apply_in_place(&mut entry.1, op);
+    }
+}
+
+/// Applies the operation to each of `items` whose version is at least `v`.
+fn touch_all_in_place(items: &mut [(Version, Value)], v: Version, op: &Op)
+    ensures { items.new ≡ held_in_place v op.now items.old }
+{
+    for entry in items.iter_mut() {
+        touch_entry_in_place(entry, v, op);
+    }
+}
+
+/// Applies the operation to each version held that is at least `v`.
+fn touch_where_held(held: &mut Places, v: Version, op: &Op)
+    ensures { held.new.items ≡ held_in_place v op.now held.old.items }
+{
+    touch_all_in_place(held.as_mut_slice(), v, op);
 }
 
 /// An update in version `v`. All that needs memory is made first, so an error leaves the places as they were.

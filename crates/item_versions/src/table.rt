@@ -1,13 +1,14 @@
-ghost use Rattle.std.specs.Prelude.{◌≡◌, ◌++◌, ◌∷◌, ◌<◌, [], length, slice_get, slice_index_or, IfOk, IfSome, IfNone, IsTrue, OnOk, OnErr, Some};
+ghost use Rattle.std.specs.Prelude.{◌≡◌, ◌+◌, ◌++◌, ◌∷◌, ◌<◌, ◌≤◌, [], is_some, length, slice_get, slice_index_or, IfOk, IfSome, IfNone, IsTrue, OnOk, OnErr, Some};
 ghost use Rattle.std.specs.Bool.{OnFalse, OnTrue};
 ghost use Rattle.std.specs.Option.{option_copied};
 ghost use Rattle.std.specs.List.{All};
-ghost use Rattle.item_versions.specs.Item.{CanCollect, collected, has_room, may_touch, put_value, touched};
-ghost use Rattle.item_versions.specs.Table.{HasAscendingItems, IsAfter, IsHeldTable, item_in, replaced, pending, touched_in, may_touch_in, has_room_in, put_value_in, ChangesAt};
+ghost use Rattle.item_versions.specs.Item.{CanCollect, IsHeld, collected, has_room, held_in_place, may_touch, put_value, touched};
+ghost use Rattle.item_versions.specs.Table.{HasAscendingItems, IsAfter, IsHeldTable, IsTable, item_in, replaced, pending, table_in_place, touched_in, may_touch_in, has_room_in, put_value_in, ChangesAt};
+ghost use Rattle.item_versions.specs.inside.StagedOps.{amounts_of, copied_over, has_op, held_after_staged, op_amount, table_after_staged, takes_in_place};
 ghost use Rattle.item_versions.specs.inside.Places.{item_place};
 
 use crate::item::Item;
-use commute_ops::{Op, Value};
+use commute_ops::{MOST_AMOUNT, Op, Value};
 use std::alloc::Global;
 use std::marker::Model;
 use tv_base::{ItemNo, NoMemory, Version};
@@ -28,19 +29,36 @@ impl Model for ItemTable {
     ghost invariant = { λ t. IsTable t.entries.items };
 }
 
-/// Changed copies of items, which a table has yet to take. It is searched from end to end, so it serves for a few
-/// items. Each item is copied once, when it is first staged, and then changed in place.
+/// An operation that is to be made where its item is.
+#[derive(Clone, Copy)]
+struct StagedOp {
+    item: ItemNo,
+    version: Version,
+    op: Op,
+}
+
+/// What a table has yet to take: operations on sums and tops, which are made where the items are, and changed copies of
+/// items. It is searched from end to end, so it serves for a few. An item is copied at most once, and then changed in
+/// place.
 #[derive(Drop)]
 pub struct Staged {
     entries: Vec<(ItemNo, Item)>,
+    ops: Vec<StagedOp>,
+    /// How much the magnitudes of further operations may add up to.
+    left: u128,
 }
 
 impl Model for Staged {
-    ghost use Rattle.item_versions.specs.Table.{Table};
+    ghost use Rattle.std.specs.Prelude.{◌+◌, ◌≤◌};
+    ghost use Rattle.commute_ops.specs.declared.kinds.TheConstants.{MOST_AMOUNT};
+    ghost use Rattle.item_versions.specs.Table.{StagedItems};
+    ghost use Rattle.item_versions.specs.inside.StagedOps.{amounts_of, staged_items};
 
-    ghost Value = { Table };
+    ghost Value = { StagedItems };
 
-    ghost view = { λ t. t.entries.items };
+    ghost view = { λ s. staged_items s.entries.items s.ops.items };
+
+    ghost invariant = { λ s. s.left + amounts_of s.ops.items ≤ MOST_AMOUNT };
 }
 
 impl Staged {
@@ -50,22 +68,28 @@ impl Staged {
     {
         Staged {
             entries: Vec::new(alloc),
+            ops: Vec::new(alloc),
+            left: MOST_AMOUNT,
         }
     }
 
-    /// Nothing staged, with room for `room` items.
+    /// Nothing staged, with room for `room` operations that are made where their items are.
     pub fn with_capacity(alloc: Global, room: usize) -> Result<Staged, NoMemory>
         ensures { IfOk result (λ staged. staged ≡ []) }
     {
-        let entries = Vec::with_capacity(alloc, room)?;
-        Ok(Staged { entries })
+        let ops = Vec::with_capacity(alloc, room)?;
+        Ok(Staged {
+            entries: Vec::new(alloc),
+            ops,
+            left: MOST_AMOUNT,
+        })
     }
 
-    /// Makes room for `room` more items.
+    /// Makes room for `room` more operations that are made where their items are.
     pub fn make_room(&mut self, room: usize) -> Result<(), NoMemory>
         ensures { self.new ≡ self.old }
     {
-        self.entries.reserve(room)?;
+        self.ops.reserve(room)?;
         Ok(())
     }
 
@@ -74,6 +98,8 @@ impl Staged {
         ensures { self.new ≡ [] }
     {
         self.entries.clear();
+        self.ops.clear();
+        self.left = MOST_AMOUNT;
     }
 }
 
@@ -139,25 +165,17 @@ impl ItemTable {
         collect_entry(&mut self.entries, place, f);
     }
 
-    /// What is pending of an item.
-    #[tactic(auto, using(crate::proofs::Tables::finding))]
-    fn current<'a>(&'a self, staged: &'a Staged, item: ItemNo) -> Option<&'a Item>
-        ensures { option_copied result ≡ item_in item (pending staged.now self.now) }
-    {
-        let held = self.item(item)?;
-        match find(&staged.entries, item) {
-            Some(found) => Some(found),
-            None => Some(held),
-        }
-    }
-
     /// Whether the table has the item and, with what is staged, the item has room for version `v`.
     pub fn has_room(&self, staged: &Staged, v: Version, item: ItemNo) -> bool
         ensures { result ≡ has_room_in v item (pending staged.now self.now) }
     {
-        match self.current(staged, item) {
-            Some(current) => current.has_room(v),
-            None => false,
+        let Some(held) = self.item(item) else {
+            return false;
+        };
+        match find(&staged.entries, item) {
+            Some(found) => found.has_room(v),
+            // Operations that are made where the item is leave its versions as they are.
+            None => held.has_room(v),
         }
     }
 
@@ -165,9 +183,9 @@ impl ItemTable {
     /// the table hasn't the item or the update may not be made; then nothing changes. The table never changes. If no
     /// memory is found, what is staged doesn't change either.
     ///
-    /// An item that is staged already is changed in place, and needs memory only for bags: each from version `v` up is
-    /// copied once. Any other is copied.
-    #[tactic(auto, using(crate::proofs::Staging::staging))]
+    /// A sum or a top that has version `v` and isn't copied yet is changed where it is, once the table takes what is
+    /// staged. A copied item is changed in place, and needs memory only for bags: each from version `v` up is copied
+    /// once. Any other is copied.
     pub fn stage_if_may(
         &self,
         staged: &mut Staged,
@@ -191,10 +209,12 @@ impl ItemTable {
         if place < staged.entries.len() {
             return touch_entry(&mut staged.entries, place, alloc, v, op);
         }
-        if !held.may_touch(v, op) {
-            return Ok(false);
+        if note_op(&mut staged.ops, &mut staged.left, held, v, item, op)? {
+            return Ok(true);
         }
-        let next = held.touched(alloc, v, op)?;
+        let Some(next) = touched_after(held, &staged.ops, alloc, v, item, op)? else {
+            return Ok(false);
+        };
         staged.entries.push((item, next))?;
         Ok(true)
     }
@@ -202,8 +222,7 @@ impl ItemTable {
     /// Stages an update of one item in version `v`, made to the item with what is staged. The table never changes. If
     /// no memory is found, what is staged doesn't change either.
     ///
-    /// An item that is staged already is changed in place, and needs memory only for bags: each from version `v` up is
-    /// copied once. Any other is copied.
+    /// Which items are copied is as in `stage_if_may`.
     pub fn stage(
         &self,
         staged: &mut Staged,
@@ -224,8 +243,7 @@ impl ItemTable {
     /// Stages that version `v` of one item has this value. All its other versions stay as they are with what is staged.
     /// The table never changes. If no memory is found, what is staged doesn't change either, and the value is dropped.
     ///
-    /// An item that is staged already is changed in place, and needs no memory. Any other is copied.
-    #[tactic(auto, using(crate::proofs::Staging::staging))]
+    /// A copied item is changed in place, and needs no memory. Any other is copied.
     pub fn stage_value(
         &self,
         staged: &mut Staged,
@@ -245,25 +263,24 @@ impl ItemTable {
             return Ok(());
         }
         let mut next = self.item(item).unwrap().copy(alloc)?;
+        make_ops(&mut next, item, &staged.ops);
         next.put_value(v, value);
         staged.entries.push((item, next))?;
         Ok(())
     }
 
-    /// Puts every staged item in its place. Then nothing is staged; the room for it stays. It needs no memory.
-    #[tactic(auto, using(crate::proofs::Holding::putting))]
+    /// Makes all that is staged. Then nothing is staged; the room for it stays. It needs no memory.
     pub fn put_from(&mut self, staged: &mut Staged)
         ensures table { self.new ≡ pending staged.old self.old }
         ensures staged { staged.new ≡ [] }
     {
-        while let Some((item, next)) = staged.entries.pop() {
-            // The reader says that the versions ascend.
-            let _held = next.held();
-            replace(&mut self.entries, item, next);
-        }
+        make_all(&mut self.entries, &staged.ops);
+        put_copies(&mut self.entries, &mut staged.entries);
+        staged.ops.clear();
+        staged.left = MOST_AMOUNT;
     }
 
-    /// Puts every staged item in its place. It needs no memory.
+    /// Makes all that is staged. It needs no memory.
     pub fn put_staged(&mut self, staged: Staged)
         ensures { self.new ≡ pending staged self.old }
     {
@@ -305,6 +322,153 @@ fn collect_entry(entries: &mut Vec<(ItemNo, Item)>, place: usize, f: Version)
 {
     let entry = &mut entries[place];
     entry.1.collect(f);
+}
+
+/// Makes the operation on the item at a place.
+#[inline(always)]
+fn touch_in_place_at(entries: &mut Vec<(ItemNo, Item)>, place: usize, v: Version, op: &Op)
+    requires { place < length entries.old.items }
+    ensures { ChangesAt place (held_in_place v op.now) entries.old.items entries.new.items }
+{
+    let entry = &mut entries[place];
+    entry.1.touch_in_place(v, op);
+}
+
+/// Makes an operation where its item is, if the entries, whose numbers ascend, have the item.
+#[tactic(auto, using(crate::proofs::StagedTables::making))]
+fn make_op(entries: &mut Vec<(ItemNo, Item)>, staged: &StagedOp)
+    requires { HasAscendingItems entries.old.items }
+    ensures { entries.new.items ≡ table_in_place staged.now.version staged.now.item staged.now.op entries.old.items }
+{
+    if let Some(place) = place(entries, staged.item) {
+        touch_in_place_at(entries, place, staged.version, &staged.op);
+    }
+}
+
+/// Makes the operations where their items are.
+#[tactic(auto, using(crate::proofs::StagedTables::making))]
+fn make_all(entries: &mut Vec<(ItemNo, Item)>, ops: &[StagedOp])
+    requires { IsTable entries.old.items }
+    ensures made { entries.new.items ≡ table_after_staged ops.now entries.old.items }
+    ensures table { IsTable entries.new.items }
+{
+    for op in ops {
+        make_op(entries, op);
+    }
+}
+
+/// Makes those of the operations that are on the item.
+fn make_ops(next: &mut Item, item: ItemNo, ops: &[StagedOp])
+    ensures { next.new ≡ held_after_staged item ops.now next.old }
+{
+    for op in ops {
+        if op.item == item {
+            next.touch_in_place(op.version, &op.op);
+        }
+    }
+}
+
+/// Whether one of the operations is on the item.
+fn has_op(ops: &[StagedOp], item: ItemNo) -> bool
+    ensures { result ≡ has_op item ops.now }
+{
+    for op in ops {
+        if op.item == item {
+            return true;
+        }
+    }
+    false
+}
+
+/// What is left once the operation's magnitude is taken off, if it isn't too large.
+#[inline(always)]
+fn left_after(left: u128, op: &Op) -> Option<u128>
+    ensures { IfSome result (λ rest. rest + op_amount op.now ≤ left) }
+{
+    match op {
+        Op::Add(amount) => {
+            let size = amount.unsigned_abs();
+            if left < size {
+                return None;
+            }
+            Some(left - size)
+        }
+        _ => Some(left),
+    }
+}
+
+/// Adds an operation that is to be made where its item is, if the item is known to take it after all of them. False if
+/// it isn't; then nothing changes.
+fn note_op(
+    ops: &mut Vec<StagedOp>,
+    left: &mut u128,
+    held: &Item,
+    v: Version,
+    item: ItemNo,
+    op: &Op,
+) -> Result<bool, NoMemory>
+    requires { left.old + amounts_of ops.old.items ≤ MOST_AMOUNT }
+    ensures left { left.new + amounts_of ops.new.items ≤ MOST_AMOUNT }
+    ensures takes { IfOk result (λ noted. OnTrue noted (IsTrue (takes_in_place v op.now left.new held.now))) }
+    ensures held { IfOk result (λ noted. OnTrue noted (IsHeld held.now)) }
+    ensures noted { IfOk result (λ noted. OnTrue noted
+        (ops.new.items ≡ ops.old.items ++ record { item = item; version = v; op = op.now } ∷ [])) }
+    ensures not_noted { IfOk result (λ noted. OnFalse noted (ops.new.items ≡ ops.old.items)) }
+    ensures err { OnErr result (ops.new.items ≡ ops.old.items) }
+{
+    let Some(rest) = left_after(*left, op) else {
+        return Ok(false);
+    };
+    if !held.takes_in_place(v, op, rest) {
+        return Ok(false);
+    }
+    ops.push(StagedOp {
+        item,
+        version: v,
+        op: *op,
+    })?;
+    *left = rest;
+    Ok(true)
+}
+
+/// What an item, which may have operations staged and isn't copied yet, is after an update, or none if the update may
+/// not be made.
+fn touched_after(
+    held: &Item,
+    ops: &[StagedOp],
+    alloc: Global,
+    v: Version,
+    item: ItemNo,
+    op: &Op,
+) -> Result<Option<Item>, NoMemory>
+    requires { IsTrue (may_touch v op.now (held_after_staged item ops.now held.now))
+        → IsTrue (has_room v (held_after_staged item ops.now held.now)) }
+    ensures may { IfOk result (λ next.
+        is_some next ≡ may_touch v op.now (held_after_staged item ops.now held.now)) }
+    ensures made { IfOk result (λ next. IfSome next
+        (λ i. i ≡ touched v op.now (held_after_staged item ops.now held.now))) }
+{
+    if !has_op(ops, item) {
+        return held.touched_if_may(alloc, v, op);
+    }
+    let mut now = held.copy(alloc)?;
+    make_ops(&mut now, item, ops);
+    now.touched_if_may(alloc, v, op)
+}
+
+/// Puts the copies in their places.
+#[tactic(auto, using(crate::proofs::Holding::putting))]
+fn put_copies(entries: &mut Vec<(ItemNo, Item)>, copies: &mut Vec<(ItemNo, Item)>)
+    requires { IsTable entries.old.items }
+    ensures put { entries.new.items ≡ copied_over copies.old.items entries.old.items }
+    ensures none { copies.new.items ≡ [] }
+    ensures table { IsTable entries.new.items }
+{
+    while let Some((item, next)) = copies.pop() {
+        // The reader says that the versions ascend.
+        let _held = next.held();
+        replace(entries, item, next);
+    }
 }
 
 /// Puts the item in place of what the entries, whose numbers ascend, have of it.
