@@ -9,7 +9,7 @@ use Rattle.letter_types.specs.declared.bodies.Body.TheVariants.{Root, Sub as Sub
 use Rattle.letter_types.specs.declared.bodies.Notice.{Notice}
 use Rattle.letter_types.specs.declared.entries.StepOut.{StepOut}
 use Rattle.letter_types.specs.Steps.{Out, made}
-use Rattle.item_versions.specs.Table.{Table, pending, replaced}
+use Rattle.item_versions.specs.Table.{Copied, InPlace, StagedItems, Table, pending, replaced, table_in_place}
 use Rattle.node_versions.specs.declared.turns.Turns.{Turns}
 use Rattle.pair_counters.specs.Rows.{CounterRows}
 use Rattle.tree_home.specs.Homes.{HomesData}
@@ -63,9 +63,10 @@ with_items items out = record { state = record out.state { items = items }; sent
 abbrev with_table : Table → Node → Node
 with_table items st = record st { items = items }
 
-pub pending_none : (staged : Table) → pending staged [] ≡ []
+pub pending_none : (staged : StagedItems) → pending staged [] ≡ []
 pending_none [] = refl
-pending_none (x ∷ xs) = ap (λ (t : Table). replaced x.0 x.1 t) (pending_none xs)
+pending_none (Copied n h ∷ xs) = ap (λ (t : Table). replaced n h t) (pending_none xs)
+pending_none (InPlace n v op ∷ xs) = ap (λ (t : Table). table_in_place v n op t) (pending_none xs)
 
 -- the row doesn't look at the items, it only passes on those of its effect
 passes_on : (s : ScriptData) (p from : ℕ) (v : Version) (notice : Notice) (body : Body) (none items : Table) (st : Node)
@@ -83,7 +84,7 @@ turns_stay s p from v e _ st = refl
 
 -- a row that was made of a node without items is that of the node with its items
 pub read_apart : (s : ScriptData) (p from : ℕ) (v : Version) (body : Body) (turns : Turns) (items : Table)
-    (counters : CounterRows) (homes : HomesData) (staged : Table) (notice : Notice)
+    (counters : CounterRows) (homes : HomesData) (staged : StagedItems) (notice : Notice)
     (after : NodeParts) (out : StepOut)
     → made (data_of after) out ≡ read_done s p from v (record { items = pending staged []; notice = notice })
     body (data_of (state_of turns [] counters homes))
@@ -105,7 +106,7 @@ read_apart s p from v body turns items counters homes staged notice after out ro
 -- the same of a step that may need memory
 pub read_face : (s : ScriptData) (p from : ℕ) (body : Body) (turns : Turns) (items : Table) (counters : CounterRows)
     (homes : HomesData) (v : Version) (ops : List SubOp)
-    (staged : Table) (notice : Notice) (after : NodeParts) (r : Result Step NoMemory)
+    (staged : StagedItems) (notice : Notice) (after : NodeParts) (r : Result Step NoMemory)
     → v ≡ asked_version turns.read body → ops ≡ asked_ops s body → true ≡ can_get v ops items
     → record { items = pending staged items; notice = notice } ≡ getting v ops items
     → IfOk r (λ step. made (data_of after) step.given ≡ read_done s p from v

@@ -8,7 +8,7 @@ use Rattle.tv_base.specs.declared.numbers.NodeNo.{NodeNo}
 use Rattle.tv_base.specs.declared.numbers.TreeNo.{TreeNo}
 use Rattle.tv_base.specs.declared.numbers.Version.{Version}
 use Rattle.commute_ops.specs.declared.value.Value.{Value}
-use Rattle.item_versions.specs.Table.{IsHeldTable, Table, pending}
+use Rattle.item_versions.specs.Table.{IsHeldTable, StagedItems, Table, pending}
 use Rattle.item_versions.specs.Window.{in_window, IsWindowedTable}
 use Rattle.item_versions.proofs.Holding.{IsHeldTable-put_value_in}
 use Rattle.item_versions.proofs.Window.{IsWindowedTable-put_value_in}
@@ -221,7 +221,7 @@ acked_step s from t v n x answered ready near free letters acts none =
         parts = record {
           fits = record {
             counting = none_counted s n v from x.sent ready.parts near;
-            items = subst (λ (staged : Table). IsWindowedTable n.parts.turns.low.0 (pending staged n.parts.items))
+            items = subst (λ (staged : StagedItems). IsWindowedTable n.parts.turns.low.0 (pending staged n.parts.items))
                 (sym none) ready.parts.window.items;
             home = tt;
           };

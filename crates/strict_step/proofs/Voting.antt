@@ -6,7 +6,7 @@ use Rattle.std.proofs.lemmas.Bool.Decides.{nat_tests}
 use Rattle.tv_base.specs.declared.numbers.SubNo.{SubNo}
 use Rattle.tv_base.specs.declared.numbers.TreeNo.{TreeNo}
 use Rattle.tv_base.specs.declared.numbers.Version.{Version}
-use Rattle.item_versions.specs.Table.{Table, pending}
+use Rattle.item_versions.specs.Table.{StagedItems, pending}
 use Rattle.item_versions.specs.Window.{in_window}
 use Rattle.letter_types.specs.declared.bodies.Body.{Body}
 use Rattle.letter_types.specs.declared.bodies.Body.TheVariants.{Root, Sub as SubLetter}
@@ -163,7 +163,7 @@ voted_vote t vote ops body c = λ i. record c {
 
 -- a vote that was planned, by its parts
 pub vote_row : (s : ScriptData) (p from : ℕ) (t : TreeNo) (body : Body) (n : NodeCore) (part : TreePrepared)
-    (v : Version) (raises : Bool) (staged : Table) (notice : Notice) (vote : Vote) (ops : List SubOp)
+    (v : Version) (raises : Bool) (staged : StagedItems) (notice : Notice) (vote : Vote) (ops : List SubOp)
     (change : VoteChange)
     → part_row part (data_of n.parts)
     ≡ tree_part s p from v raises (record { items = pending staged n.parts.items; notice = notice }) body (data_of n.parts)

@@ -12,7 +12,7 @@ use Rattle.tree_step.specs.declared.change.Change.TheVariants.{Tree}
 use Rattle.tree_step.specs.declared.change.HomeChange.{HomeChange}
 use Rattle.tree_step.specs.declared.change.HomeChange.TheVariants.{Stay}
 use Rattle.tree_step.specs.inside.Sent.{MOST_SENT}
-use Rattle.item_versions.specs.Table.{Table, pending}
+use Rattle.item_versions.specs.Table.{StagedItems, Table, pending}
 use Rattle.node_versions.specs.declared.turns.Turns.{Turns}
 use Rattle.pair_counters.specs.Rows.{counts_of}
 use Rattle.pair_counters.specs.Numbers.{Numbers}
@@ -48,7 +48,7 @@ pub all_requests : (n : ℕ) (os : List Outgoing) → n ≡ length os → take n
 all_requests n os count = rw count (take-length os)
 
 -- a root that was prepared, by its parts
-pub root_ready : (s : ScriptData) (p : NodeNo) (t : TreeNo) (v : Version) (n : ℕ) (notice : Notice) (staged : Table)
+pub root_ready : (s : ScriptData) (p : NodeNo) (t : TreeNo) (v : Version) (n : ℕ) (notice : Notice) (staged : StagedItems)
     (home : HomeChange) (answer : Option Answered) (st : NodeParts) (asked : List Outgoing) (acts : List Act)
     (xs : List Sub)
     → xs ≡ subs_at s t.0 → asked ≡ sub_letters t.0 v.0 0 0 xs → n ≡ length asked
@@ -85,7 +85,7 @@ root_ready s p t v n notice staged home answer st asked acts xs is letters count
 
 -- another subtransaction that was prepared, by its parts
 pub sub_ready : (s : ScriptData) (q : NodeNo) (t : TreeNo) (k : SubNo) (v : Version) (home n : ℕ) (raises : Bool)
-    (notice : Notice) (staged : Table) (st : NodeParts) (out : StepOut) (xs : List Sub)
+    (notice : Notice) (staged : StagedItems) (st : NodeParts) (out : StepOut) (xs : List Sub)
     → xs ≡ subs_at s t.0 → home ≡ home_of s t.0 → n ≡ length out.sent
     → out.sent ≡ sub_letters t.0 v.0 k.0 0 xs ++ done_letter home t.0 k.0 v.0 notice ∷ []
     → out.acts ≡ turned_if raises v.0 ++ act_of t k notice ∷ []

@@ -1,7 +1,7 @@
 use Rattle.std.proofs.Common.{◌≡◌, ◌∙◌, true, ap, subst, sym}
 use Rattle.tv_base.specs.declared.numbers.Version.{Version}
 use Rattle.item_versions.proofs.Window.{in_window-is}
-use Rattle.item_versions.specs.Table.{Table, pending}
+use Rattle.item_versions.specs.Table.{StagedItems, pending}
 use Rattle.item_versions.specs.Window.{in_window, IsWindowedTable}
 use Rattle.letter_types.specs.Steps.{Out}
 use Rattle.tree_home.specs.HeldAnswers.{held_answers}
@@ -23,7 +23,7 @@ plan_tree-requires-clause-fits c =
     let n = c.args.core.now.parts in
     let none = ap (λ (x : Scratch). x.staged) c.in_ok-votes.ensures.rest
     ∙ ap (λ (x : Scratch). x.staged) c.requires.empty in
-    subst (λ (staged : Table). IsWindowedTable n.turns.low.0 (pending staged n.items)) (sym none)
+    subst (λ (staged : StagedItems). IsWindowedTable n.turns.low.0 (pending staged n.items)) (sym none)
     c.requires.ready.parts.window.items
 
 pub plan_tree-requires-clause-no_values : goal.plan_tree-requires-clause-no_values
