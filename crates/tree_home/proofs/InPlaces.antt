@@ -62,14 +62,19 @@ entry-ascends k (Some h) es all up = λ i j d lt within. cons-at (record { 0 = k
 entry-all : (k : ℕ) (o : Option OpenTree) (es : List (TreeNo × OpenTree)) → All (λ f. k < f.0.0) es
     → All (λ f. k ≤ f.0.0) (with_entry k o es)
 entry-all k None es all =
-    All-weaker (λ (f : TreeNo × OpenTree). k < f.0.0) (λ (f : TreeNo × OpenTree). k ≤ f.0.0) (λ f lt. omega arith) es all
+    let P : (TreeNo × OpenTree) → Type 0 = λ f. k < f.0.0 in
+    let Q : (TreeNo × OpenTree) → Type 0 = λ f. k ≤ f.0.0 in
+    All-weaker P Q (λ f lt. omega arith) es all
 entry-all k (Some h) es all =
-    All-cons (λ (f : TreeNo × OpenTree). k ≤ f.0.0) (record { 0 = k }, h) es (omega arith)
-    (All-weaker (λ (f : TreeNo × OpenTree). k < f.0.0) (λ (f : TreeNo × OpenTree). k ≤ f.0.0) (λ f lt. omega arith) es all)
+    let P : (TreeNo × OpenTree) → Type 0 = λ f. k < f.0.0 in
+    let Q : (TreeNo × OpenTree) → Type 0 = λ f. k ≤ f.0.0 in
+    All-cons Q (record { 0 = k }, h) es (omega arith) (All-weaker P Q (λ f lt. omega arith) es all)
 
 all-above : (k : ℕ) (es : List (TreeNo × OpenTree)) → All (λ f. suc k ≤ f.0.0) es → All (λ f. k < f.0.0) es
 all-above k es all =
-    All-weaker (λ (f : TreeNo × OpenTree). suc k ≤ f.0.0) (λ (f : TreeNo × OpenTree). k < f.0.0) (λ f le. omega arith) es all
+    let P : (TreeNo × OpenTree) → Type 0 = λ f. suc k ≤ f.0.0 in
+    let Q : (TreeNo × OpenTree) → Type 0 = λ f. k < f.0.0 in
+    All-weaker P Q (λ f le. omega arith) es all
 
 all-from : (k : ℕ) (is : List ℕ) (ps : List TreePlace) → All (λ f. k ≤ f.0.0) (table_entries k is ps)
 all-from k [] ps = All-nil (λ (f : TreeNo × OpenTree). k ≤ f.0.0)
@@ -86,8 +91,13 @@ ascends-from k (i ∷ is) ps =
 pub table-ascends : (is : List ℕ) (ps : List TreePlace) → AreAscending (table_entries 0 is ps)
 table-ascends is ps = ascends-from 0 is ps
 
+pub view-ascends : (is : List ℕ) (ps : List TreePlace) (es : List (TreeNo × OpenTree)) → table_entries 0 is ps ≡ es
+    → AreAscending es
+view-ascends is ps es view =
+    subst (λ (es : List (TreeNo × OpenTree)). AreAscending es) view (table-ascends is ps)
+
 -- if the same is open of each tree, the entries are the same
-pub same_table : (is js : List ℕ) (ps qs : List TreePlace) → opened_by js qs ≡ opened_by is ps
+same_table : (is js : List ℕ) (ps qs : List TreePlace) → opened_by js qs ≡ opened_by is ps
     → table_entries 0 js qs ≡ table_entries 0 is ps
 same_table is js ps qs same =
     same_entries (table_entries 0 js qs) (table_entries 0 is ps) (table-ascends js qs) (table-ascends is ps)
@@ -98,7 +108,7 @@ place-here : (o : Option TreePlace) (t : ℕ) → tree_of_place o ≡ Some t →
 place-here None t is = absurd (let no : None ≡ Some t = is in cc)
 place-here (Some x) t is = (x, refl)
 
-pub same_tree : (o : Option ℕ) (t u : ℕ) → o ≡ Some t → o ≡ Some u → t ≡ u
+same_tree : (o : Option ℕ) (t u : ℕ) → o ≡ Some t → o ≡ Some u → t ≡ u
 same_tree o t u a b = same_Some t u (sym a ∙ b)
 
 -- what isn't open has no place
@@ -109,7 +119,7 @@ absent-by is ps n t (suc p) table at none =
     let (x, here) = place-here (slice_get ps p) t (table.placed t p at).1 in
     absurd (let no : Some x.opened ≡ None = sym (ap opened_in here) ∙ none in cc)
 
-pub absent_number : (is : List ℕ) (ps : List TreePlace) (n t : ℕ) → IsTreeTable is ps n → opened_by is ps t ≡ None
+absent_number : (is : List ℕ) (ps : List TreePlace) (n t : ℕ) → IsTreeTable is ps n → opened_by is ps t ≡ None
     → get_or is t 0 ≡ 0
 absent_number is ps n t table none = absent-by is ps n t (get_or is t 0) table refl none
 
@@ -119,7 +129,7 @@ there-by : (is : List ℕ) (ps : List TreePlace) (t k : ℕ) → get_or is t 0 �
 there-by is ps t zero at some = absurd (let no : false ≡ true = some in cc)
 there-by is ps t (suc p) at some = (p, at)
 
-pub there_number : (is : List ℕ) (ps : List TreePlace) (t : ℕ) → IsSome (opened_by is ps t)
+there_number : (is : List ℕ) (ps : List TreePlace) (t : ℕ) → IsSome (opened_by is ps t)
     → (p : ℕ) × (get_or is t 0 ≡ suc p)
 there_number is ps t some = there-by is ps t (get_or is t 0) refl some
 
@@ -140,24 +150,31 @@ same-at : (is js : List ℕ) (ps qs : List TreePlace) (n t k : ℕ) → IsTreeTa
 same-at is js ps qs n t zero table same at = refl
 same-at is js ps qs n t (suc p) table same at = ap opened_in (same.places p (table.placed t p at).0)
 
-pub same_in_use : (is js : List ℕ) (ps qs : List TreePlace) (n : ℕ) → IsTreeTable is ps n → SameInUse is js ps qs n
+same_in_use : (is js : List ℕ) (ps qs : List TreePlace) (n : ℕ) → IsTreeTable is ps n → SameInUse is js ps qs n
     → IsTreeTable js qs n × (opened_by js qs ≡ opened_by is ps)
-same_in_use is js ps qs n table same =
-    (record {
-      within = same.long;
-      placed = λ t p at.
-          let (lt, tree) = table.placed t p (sym (same.numbers t) ∙ at) in
-          (lt, ap tree_of_place (same.places p lt) ∙ tree);
-      listed = λ t p lt tree.
-          same.numbers t ∙ table.listed t p lt (sym (ap tree_of_place (same.places p lt)) ∙ tree);
-    },
-    fun_ext (λ t. ap (opened_at qs) (same.numbers t) ∙ same-at is js ps qs n t (get_or is t 0) table same refl))
+same_in_use is js ps qs n table same = (
+  record {
+    within = same.long;
+    placed = λ t p at.
+        let (lt, tree) = table.placed t p (sym (same.numbers t) ∙ at) in
+        (lt, ap tree_of_place (same.places p lt) ∙ tree);
+    listed = λ t p lt tree.
+        same.numbers t ∙ table.listed t p lt (sym (ap tree_of_place (same.places p lt)) ∙ tree);
+  },
+  fun_ext (λ t. ap (opened_at qs) (same.numbers t) ∙ same-at is js ps qs n t (get_or is t 0) table same refl),
+)
+
+pub kept_all : (is js : List ℕ) (ps qs : List TreePlace) (n : ℕ) (es : List (TreeNo × OpenTree)) → IsTreeTable is ps n
+    → SameInUse is js ps qs n → table_entries 0 is ps ≡ es → IsTreeTable js qs n × (table_entries 0 js qs ≡ es)
+kept_all is js ps qs n es table same view =
+    let both = same_in_use is js ps qs n table same in
+    (both.0, same_table is js ps qs both.1 ∙ view)
 
 put_at-here : {X : Type 0} (k j : ℕ) (x : X) (f : ℕ → X) → j ≡ k → put_at k x f j ≡ x
 put_at-here k j x f eq = rw (eq-eqb j k eq) refl
 
 -- a tree is opened in the first place that isn't in use
-pub record IsFilled (is js : List ℕ) (ps qs : List TreePlace) (n : ℕ) (t : TreeNo) (h : OpenTree) : Type 0 where
+record IsFilled (is js : List ℕ) (ps qs : List TreePlace) (n : ℕ) (t : TreeNo) (h : OpenTree) : Type 0 where
   pub absent : get_or is t.0 0 ≡ 0
   pub number : get_or js t.0 0 ≡ suc n
   pub numbers : (u : ℕ) → (u ≡ t.0 → ⊥) → get_or js u 0 ≡ get_or is u 0
@@ -192,7 +209,7 @@ filled-listed is js ps qs n t h table f u p lt tree =
           let was : get_or is u 0 ≡ suc p = table.listed u p lt' (sym (ap tree_of_place (f.places p lt')) ∙ tree) in
           let none = f.absent in
           let other : u ≡ t.0 → ⊥ = λ eq.
-              let no : get_or is t.0 0 ≡ suc p = sym (ap (λ v. get_or is v 0) eq) ∙ was in omega arith in
+          let no : get_or is t.0 0 ≡ suc p = sym (ap (λ v. get_or is v 0) eq) ∙ was in omega arith in
           f.numbers u other ∙ was
     ]
 
@@ -213,18 +230,20 @@ filled-opened is js ps qs n t h table f u =
           ∙ sym (put_at-other t.0 u (Some h) (opened_by is ps) ne)
     ]
 
-pub filled : (is js : List ℕ) (ps qs : List TreePlace) (n : ℕ) (t : TreeNo) (h : OpenTree) → IsTreeTable is ps n
+filled : (is js : List ℕ) (ps qs : List TreePlace) (n : ℕ) (t : TreeNo) (h : OpenTree) → IsTreeTable is ps n
     → IsFilled is js ps qs n t h
     → IsTreeTable js qs (suc n) × (opened_by js qs ≡ put_at t.0 (Some h) (opened_by is ps))
-filled is js ps qs n t h table f =
-    (record {
-      within = f.long;
-      placed = filled-placed is js ps qs n t h table f;
-      listed = filled-listed is js ps qs n t h table f;
-    }, fun_ext (filled-opened is js ps qs n t h table f))
+filled is js ps qs n t h table f = (
+  record {
+    within = f.long;
+    placed = filled-placed is js ps qs n t h table f;
+    listed = filled-listed is js ps qs n t h table f;
+  },
+  fun_ext (filled-opened is js ps qs n t h table f),
+)
 
 -- a tree is closed, and the last place that was in use takes the stead of its place
-pub record IsClosed (is js : List ℕ) (ps qs : List TreePlace) (n t p m : ℕ) : Type 0 where
+record IsClosed (is js : List ℕ) (ps qs : List TreePlace) (n t p m : ℕ) : Type 0 where
   pub at : get_or is t 0 ≡ suc p
   pub last : tree_at ps n ≡ Some m
   pub gone : get_or js t 0 ≡ 0
@@ -269,9 +288,9 @@ closed-placed is js ps qs n t p m table c u q at =
             | inr ne' ↦
                 let (within, tree) = table.placed u q (sym (c.numbers u ne ne') ∙ at) in
                 let first : q ≡ p → ⊥ = λ eq.
-                    ne (same_tree (tree_at ps q) u t tree (ap (tree_at ps) eq ∙ (table.placed t p c.at).1)) in
+                ne (same_tree (tree_at ps q) u t tree (ap (tree_at ps) eq ∙ (table.placed t p c.at).1)) in
                 let last : q ≡ n → ⊥ = λ eq.
-                    ne' (same_tree (tree_at ps q) u m tree (ap (tree_at ps) eq ∙ c.last)) in
+                ne' (same_tree (tree_at ps q) u m tree (ap (tree_at ps) eq ∙ c.last)) in
                 (omega arith, ap tree_of_place (c.places q first last) ∙ tree)
           ]
     ]
@@ -289,13 +308,13 @@ closed-listed is js ps qs n t p m table c u q lt tree =
           let apart : q ≡ n → ⊥ = λ is. omega arith in
           let was = table.listed u q (omega arith) (sym (ap tree_of_place (c.places q ne apart)) ∙ tree) in
           let first : u ≡ t → ⊥ = λ eq.
-              let no : get_or is t 0 ≡ suc q = sym (ap (λ v. get_or is v 0) eq) ∙ was in
-              let at = c.at in
-              ne (omega arith) in
+          let no : get_or is t 0 ≡ suc q = sym (ap (λ v. get_or is v 0) eq) ∙ was in
+          let at = c.at in
+          ne (omega arith) in
           let last : u ≡ m → ⊥ = λ eq.
-              let no : get_or is m 0 ≡ suc q = sym (ap (λ v. get_or is v 0) eq) ∙ was in
-              let number = table.listed m n (omega arith) c.last in
-              apart (omega arith) in
+          let no : get_or is m 0 ≡ suc q = sym (ap (λ v. get_or is v 0) eq) ∙ was in
+          let number = table.listed m n (omega arith) c.last in
+          apart (omega arith) in
           c.numbers u first last ∙ was
     ]
 
@@ -306,7 +325,7 @@ closed-at is js ps qs n t p m u zero table c ne ne' at = refl
 closed-at is js ps qs n t p m u (suc q) table c ne ne' at =
     let tree = (table.placed u q at).1 in
     let first : q ≡ p → ⊥ = λ eq.
-        ne (same_tree (tree_at ps q) u t tree (ap (tree_at ps) eq ∙ (table.placed t p c.at).1)) in
+    ne (same_tree (tree_at ps q) u t tree (ap (tree_at ps) eq ∙ (table.placed t p c.at).1)) in
     let last : q ≡ n → ⊥ = λ eq. ne' (same_tree (tree_at ps q) u m tree (ap (tree_at ps) eq ∙ c.last)) in
     ap opened_in (c.places q first last)
 
@@ -332,15 +351,17 @@ closed-opened is js ps qs n t p m table c u =
           ]
     ]
 
-pub closed : (is js : List ℕ) (ps qs : List TreePlace) (n t p m : ℕ) → IsTreeTable is ps (suc n)
+closed : (is js : List ℕ) (ps qs : List TreePlace) (n t p m : ℕ) → IsTreeTable is ps (suc n)
     → IsClosed is js ps qs n t p m
     → IsTreeTable js qs n × (opened_by js qs ≡ put_at t None (opened_by is ps))
-closed is js ps qs n t p m table c =
-    (record {
-      within = c.long;
-      placed = closed-placed is js ps qs n t p m table c;
-      listed = closed-listed is js ps qs n t p m table c;
-    }, fun_ext (closed-opened is js ps qs n t p m table c))
+closed is js ps qs n t p m table c = (
+  record {
+    within = c.long;
+    placed = closed-placed is js ps qs n t p m table c;
+    listed = closed-listed is js ps qs n t p m table c;
+  },
+  fun_ext (closed-opened is js ps qs n t p m table c),
+)
 
 -- what is open in a place changes
 pub record IsChangedIn (ps qs : List TreePlace) (p : ℕ) (o : Option OpenTree) : Type 0 where
@@ -363,7 +384,7 @@ changed-at : (is : List ℕ) (ps qs : List TreePlace) (n t p u k : ℕ) (o : Opt
 changed-at is ps qs n t p u zero o table at c ne here = refl
 changed-at is ps qs n t p u (suc q) o table at c ne here =
     let first : q ≡ p → ⊥ = λ eq.
-        ne (same_tree (tree_at ps q) u t (table.placed u q here).1 (ap (tree_at ps) eq ∙ (table.placed t p at).1)) in
+    ne (same_tree (tree_at ps q) u t (table.placed u q here).1 (ap (tree_at ps) eq ∙ (table.placed t p at).1)) in
     ap opened_in (c.places q first)
 
 changed-opened : (is : List ℕ) (ps qs : List TreePlace) (n t p : ℕ) (o : Option OpenTree) → IsTreeTable is ps n
@@ -382,12 +403,14 @@ changed-opened is ps qs n t p o table at c u =
 pub changed_in : (is : List ℕ) (ps qs : List TreePlace) (n t p : ℕ) (o : Option OpenTree) → IsTreeTable is ps n
     → get_or is t 0 ≡ suc p → IsChangedIn ps qs p o
     → IsTreeTable is qs n × (opened_by is qs ≡ put_at t o (opened_by is ps))
-changed_in is ps qs n t p o table at c =
-    (record {
-      within = let within = table.within in let long = c.long in omega arith;
-      placed = λ u q here. let (lt, tree) = table.placed u q here in (lt, trees-stay ps qs p o c q ∙ tree);
-      listed = λ u q lt tree. table.listed u q lt (sym (trees-stay ps qs p o c q) ∙ tree);
-    }, fun_ext (changed-opened is ps qs n t p o table at c))
+changed_in is ps qs n t p o table at c = (
+  record {
+    within = let within = table.within in let long = c.long in omega arith;
+    placed = λ u q here. let (lt, tree) = table.placed u q here in (lt, trees-stay ps qs p o c q ∙ tree);
+    listed = λ u q lt tree. table.listed u q lt (sym (trees-stay ps qs p o c q) ∙ tree);
+  },
+  fun_ext (changed-opened is ps qs n t p o table at c),
+)
 
 -- by what contracts see of a table, a tree that is open has a place in use
 pub view_by : (is : List ℕ) (ps : List TreePlace) (es : List (TreeNo × OpenTree)) → table_entries 0 is ps ≡ es

@@ -1,5 +1,5 @@
 -- A mask of the notices that are missing, with the values of the others: which are missing, and what is gathered.
-use Rattle.std.proofs.Common.{◌≡◌, ℕ, zero, suc, ◌+◌, ◌-◌, ◌*◌, ◌/◌, ◌%◌, ◌<◌, ◌≤◌, ◌^◌, List, [], ◌∷◌, ◌++◌, length, set, get_or, take, drop, map, replicate, refl, ap, sym, ◌∙◌, arith, append_assoc, append-nil, Bool, true, false, not, eqb, Option, Some, None, inl, inr}
+use Rattle.std.proofs.Common.{◌≡◌, ℕ, zero, suc, ◌+◌, ◌-◌, ◌*◌, ◌/◌, ◌%◌, ◌<◌, ◌≤◌, ◌^◌, List, [], ◌∷◌, ◌++◌, length, set, get_or, take, drop, map, replicate, refl, ap, subst, sym, ◌∙◌, arith, append_assoc, append-nil, Bool, true, false, not, eqb, Option, Some, None, inl, inr}
 use Rattle.std.specs.Prelude.{if◌then◌else◌, IsTrue, bit_and, nat_lt, slice_get}
 use Rattle.std.specs.Int.{bit_at, bit_not, w64}
 use Rattle.std.proofs.lemmas.Bool.{cases_eq, cases_lt, eq-eqb, eqb-false, eqb-true, le-ltb, lt-ltb, ne_eqb}
@@ -9,7 +9,8 @@ use Rattle.std.proofs.lemmas.List.FromFn.{fill_by_all, get_or-map-range_with_len
 use Rattle.std.proofs.lemmas.Nat.{pow_below}
 use Rattle.std.proofs.lemmas.Nat.Bits.{bit_at-lt, bit_at-pow_other, bit_at-pow_same, bit_at_clear_other, bit_at_clear_same, bit_at_ones, ones_shr, same_from_bits_below}
 use Rattle.std.proofs.lemmas.Option.{slice_get-get_or, slice_get_past}
-use Rattle.tree_home.specs.Notices.{Gets, joined_gets, notice_at, notices_of}
+use Rattle.tv_base.specs.declared.numbers.Version.{Version}
+use Rattle.tree_home.specs.Notices.{Gets, OpenTreeData, joined_gets, joined_with, notice_at, notices_of}
 use Rattle.tree_home.specs.Homes.{gathered, is_missing, missing_count}
 use Rattle.tree_home.proofs.Always.{gathered-in_order}
 
@@ -26,7 +27,8 @@ tested : (b : Bool) (vs : Gets) → is_missing (Some (if b then None else Some v
 tested true vs = refl
 tested false vs = refl
 
-pub missing-in : (n m k : ℕ) (vss : List Gets) → k < n → is_missing (slice_get (notices_of n m vss) k) ≡ eqb (bit_at m k) 1
+pub missing-in : (n m k : ℕ) (vss : List Gets) → k < n
+    → is_missing (slice_get (notices_of n m vss) k) ≡ eqb (bit_at m k) 1
 missing-in n m k vss lt = ap is_missing (notice-in n m k vss lt) ∙ tested (eqb (bit_at m k) 1) (get_or vss k [])
 
 pub missing-past : (n m k : ℕ) (vss : List Gets) → n ≤ k → is_missing (slice_get (notices_of n m vss) k) ≡ false
@@ -40,6 +42,14 @@ missing-bit n m k vss is =
       | inl lt ↦ (lt, eqb-true (bit_at m k) 1 (sym (missing-in n m k vss lt) ∙ is))
       | inr le ↦ absurd (let no : false ≡ true = sym (missing-past n m k vss le) ∙ is in cc)
     ]
+
+-- what contracts see misses the notice, so the fields do
+pub missing-inside : (n m k : ℕ) (vss : List Gets) (v : Version) (h : OpenTreeData)
+    → record { version = v; notices = notices_of n m vss } ≡ h → IsTrue (is_missing (slice_get h.notices k))
+    → IsTrue (is_missing (slice_get (notices_of n m vss) k))
+missing-inside n m k vss v h view is =
+    let P : OpenTreeData → Type 0 = λ h. IsTrue (is_missing (slice_get h.notices k)) in
+    subst P (sym view) is
 
 -- a notice by its bit and its values
 notice-same : (m q i : ℕ) (vss wss : List Gets) → bit_at q i ≡ bit_at m i → get_or wss i [] ≡ get_or vss i []
@@ -71,7 +81,7 @@ noted-at n m q k i vss wss ws lt bit bits here others within =
           ∙ sym (notice-same m q i vss wss (bits i within ne) (others i ne))
     ]
 
-pub noted-notices : (n m q k : ℕ) (vss wss : List Gets) (ws : Gets) → k < n → bit_at q k ≡ 0
+noted-notices : (n m q k : ℕ) (vss wss : List Gets) (ws : Gets) → k < n → bit_at q k ≡ 0
     → ((i : ℕ) → i < n → (i ≡ k → ⊥) → bit_at q i ≡ bit_at m i) → get_or wss k [] ≡ ws
     → ((i : ℕ) → (i ≡ k → ⊥) → get_or wss i [] ≡ get_or vss i [])
     → notices_of n q wss ≡ set (notices_of n m vss) k (Some ws)
@@ -139,7 +149,7 @@ zero-bit : (b : ℕ) → b < 2 → eqb b 1 ≡ false → b ≡ 0
 zero-bit b lt is = let ne = eqb-false b 1 is in omega arith
 
 -- beside the notice of k no other is missing: the other bits are 0
-pub other-bits : (n m k i : ℕ) (vss : List Gets) → IsTrue (is_missing (slice_get (notices_of n m vss) k))
+other-bits : (n m k i : ℕ) (vss : List Gets) → IsTrue (is_missing (slice_get (notices_of n m vss) k))
     → missing_count (notices_of n m vss) ≤ 1 → i < n → (i ≡ k → ⊥) → bit_at m i ≡ 0
 other-bits n m k i vss is few lt ne =
     zero-bit (bit_at m i) (bit_at-lt m i)
@@ -171,12 +181,12 @@ mask-others n m k j vss eq ne =
     ]
 
 -- another is missing exactly if the mask isn't that of k alone
-pub none-beside : (n m k : ℕ) (vss : List Gets) → m ≡ 2 ^ k → nat_lt 1 (missing_count (notices_of n m vss)) ≡ false
+none-beside : (n m k : ℕ) (vss : List Gets) → m ≡ 2 ^ k → nat_lt 1 (missing_count (notices_of n m vss)) ≡ false
 none-beside n m k vss eq =
     le-ltb 1 (missing_count (notices_of n m vss))
     (only-count (notices_of n m vss) k (λ j ne. mask-others n m k j vss eq ne))
 
-pub another-beside : (n m k : ℕ) (vss : List Gets) → m < 2 ^ n
+another-beside : (n m k : ℕ) (vss : List Gets) → m < 2 ^ n
     → IsTrue (is_missing (slice_get (notices_of n m vss) k)) → (m ≡ 2 ^ k → ⊥)
     → nat_lt 1 (missing_count (notices_of n m vss)) ≡ true
 another-beside n m k vss below is ne =
@@ -293,7 +303,7 @@ joined-set r k vss ws lt =
 pub gathered-lists : (n m k : ℕ) (vss : List Gets) (ws : Gets)
     → IsTrue (is_missing (slice_get (notices_of n m vss) k)) → missing_count (notices_of n m vss) ≤ 1 → length vss ≤ n
     → gathered (set (notices_of n m vss) k (Some ws))
-    ≡ Some (joined_gets (take k vss) ++ ws ++ joined_gets (drop (k + 1) vss))
+    ≡ Some (joined_with k ws vss)
 gathered-lists n m k vss ws is few short =
     let lt = (missing-bit n m k vss is).0 in
     let r = n - length vss in
@@ -310,21 +320,21 @@ pub counted-missing : (ns : List (Option Gets)) (k : ℕ) → is_missing (slice_
 counted-missing ns k is =
     let next : suc k ≡ k + 1 = omega arith in
     step ns k is ∙ ap (λ j. missing_count (drop j ns) + 1) next where
-  step : (ns : List (Option Gets)) (k : ℕ) → is_missing (slice_get ns k) ≡ true
-      → missing_count (drop k ns) ≡ missing_count (drop (suc k) ns) + 1
-  step [] k is = absurd (let no : false ≡ true = is in cc)
-  step (None ∷ ns) zero is = refl
-  step (Some vs ∷ ns) zero is = absurd (let no : false ≡ true = is in cc)
-  step (n ∷ ns) (suc k) is = step ns k is
+      step : (ns : List (Option Gets)) (k : ℕ) → is_missing (slice_get ns k) ≡ true
+          → missing_count (drop k ns) ≡ missing_count (drop (suc k) ns) + 1
+      step [] k is = absurd (let no : false ≡ true = is in cc)
+      step (None ∷ ns) zero is = refl
+      step (Some vs ∷ ns) zero is = absurd (let no : false ≡ true = is in cc)
+      step (n ∷ ns) (suc k) is = step ns k is
 
 pub counted-there : (ns : List (Option Gets)) (k : ℕ) → k < length ns → is_missing (slice_get ns k) ≡ false
     → missing_count (drop k ns) ≡ missing_count (drop (k + 1) ns)
 counted-there ns k lt is =
     let next : suc k ≡ k + 1 = omega arith in
     step ns k lt is ∙ ap (λ j. missing_count (drop j ns)) next where
-  step : (ns : List (Option Gets)) (k : ℕ) → k < length ns → is_missing (slice_get ns k) ≡ false
-      → missing_count (drop k ns) ≡ missing_count (drop (suc k) ns)
-  step [] k lt is = absurd (omega arith)
-  step (None ∷ ns) zero lt is = absurd (let no : true ≡ false = is in cc)
-  step (Some vs ∷ ns) zero lt is = refl
-  step (n ∷ ns) (suc k) lt is = step ns k (omega arith) is
+      step : (ns : List (Option Gets)) (k : ℕ) → k < length ns → is_missing (slice_get ns k) ≡ false
+          → missing_count (drop k ns) ≡ missing_count (drop (suc k) ns)
+      step [] k lt is = absurd (omega arith)
+      step (None ∷ ns) zero lt is = absurd (let no : true ≡ false = is in cc)
+      step (Some vs ∷ ns) zero lt is = refl
+      step (n ∷ ns) (suc k) lt is = step ns k (omega arith) is

@@ -1,5 +1,5 @@
 -- The notices of a tree that is open at its home: a mask of those that are missing, and the values of the others.
-use Rattle.std.specs.Prelude.{if◌then◌else◌, ℕ, ◌<◌, ◌≤◌, ◌^◌, ◌==◌, List, [], map, Option, Some, None, slice_index_or}
+use Rattle.std.specs.Prelude.{if◌then◌else◌, ℕ, ◌+◌, ◌<◌, ◌≤◌, ◌^◌, ◌==◌, List, [], ◌++◌, take, drop, map, Option, Some, None, slice_index_or}
 use Rattle.std.specs.Int.{bit_at}
 use Rattle.std.specs.List.{flat_map, range_with_len}
 use Rattle.tv_base.specs.declared.numbers.ItemNo.{ItemNo}
@@ -18,6 +18,10 @@ pub record OpenTreeData : Type 0 where
 -- the values of lists, one list after another
 abbrev pub joined_gets : List Gets → Gets
 joined_gets vss = flat_map (λ vs. vs) vss
+
+-- the values of lists, with others in the place of k's
+abbrev pub joined_with : ℕ → Gets → List Gets → Gets
+joined_with k ws vss = joined_gets (take k vss) ++ ws ++ joined_gets (drop (k + 1) vss)
 
 -- the notice of subtransaction k, by a mask m of those that are missing
 abbrev pub notice_at : ℕ → List Gets → ℕ → Option Gets

@@ -2,7 +2,7 @@ ghost use Rattle.std.specs.Prelude.{ℕ, ◌≡◌, ◌≢◌, ◌++◌, ◌+◌
 ghost use Rattle.std.specs.Option.{option_copied, is_some};
 ghost use Rattle.tree_home.specs.Maps.{AreAscending, by_tree, put_at};
 ghost use Rattle.tree_home.specs.HeldAnswers.{acked, answer_when_acked, held_answers, held_for, held_in, holding, waits_for_more};
-ghost use Rattle.tree_home.specs.Notices.{Gets, joined_gets};
+ghost use Rattle.tree_home.specs.Notices.{Gets, joined_gets, joined_with};
 ghost use Rattle.tree_home.specs.Homes.{no_homes, open_trees, home_in, new_tree, begun, with_notice, noted, forgotten, gathered, missing_count, missing_in, misses, is_missing, after_notice, answer_in, answer_of, last_version, outcome, prospect, prospect_of, IsNotedAmong, MissesSome, completed_version};
 
 use crate::table::TreeTable;
@@ -13,8 +13,8 @@ use std::collections::BTreeMap;
 use std::marker::Model;
 use tv_base::{ItemNo, NoMemory, Seq, SubNo, TreeNo, Version};
 
-/// A tree that is open at its home: its notices are gathered. Contracts see its version, and for each subtransaction the
-/// values of its notice, or None if it is missing.
+/// A tree that is open at its home: its notices are gathered. Contracts see its version, and for each subtransaction
+/// the values of its notice, or None if it is missing.
 #[derive(Drop)]
 pub struct OpenTree {
     /// The version that the tree runs in.
@@ -177,12 +177,14 @@ pub struct Held {
     pub waits: u32,
 }
 
-/// The trees that have their home here and aren't answered yet, each in a place of a table, and the answers that are held
-/// here, by tree number. To look for a tree or one of its notices, to note one and to forget a tree takes constant time,
-/// whatever is open here, and so it does to begin one, but when the table grows. An answer takes time linear in its
-/// values. To hold an answer and to note an acknowledgement takes time logarithmic in how many are held. The table takes
-/// four bytes for each tree number up to the greatest that was begun here, and as many places as trees were open at a
-/// time. A place that is used again keeps its room for the values of notices, so no memory is asked for then.
+/// The trees that have their home here and aren't answered yet, each in a place of a table, and the answers that are
+/// held here, by tree number. To look for a tree or one of its notices, to note one and to forget a tree takes constant
+/// time, whatever is open here, and so it does to begin one, but when the table grows. An answer takes time linear in
+/// its values. To hold an answer and to note an acknowledgement takes time logarithmic in how many are held.
+///
+/// The table takes four bytes for each tree number up to the greatest that was begun here, and as many places as trees
+/// were open at a time. A place that is used again keeps its room for the values of notices, so a tree that has no more
+/// subtransactions than one before it there is begun without asking for memory.
 #[derive(Drop)]
 pub struct Homes {
     alloc: Global,
@@ -544,7 +546,7 @@ fn gather_lists(
     sub: usize,
     values: &[(ItemNo, Value)],
 ) -> Result<Values, NoMemory>
-    ensures { IfOk result (λ all. all ≡ joined_gets (take sub lists.now) ++ values.now ++ joined_gets (drop (sub + 1) lists.now)) }
+    ensures { IfOk result (λ all. all ≡ joined_with sub values.now lists.now) }
 {
     let mut all = Seq::new(alloc);
     append_lists(&mut all, alloc, before(lists, sub))?;

@@ -1,16 +1,15 @@
-use Rattle.std.proofs.Common.{◌≡◌, ◌∙◌, ◌<◌, List, Option, ap, arith, bit_and, set, subst, sym}
-use Rattle.std.specs.Prelude.{IsTrue, slice_get}
+use Rattle.std.proofs.Common.{◌∙◌, List, Option, ap, arith}
 use Rattle.std.proofs.lemmas.Nat.{and_le_l}
-use Rattle.tree_home.specs.Homes.{is_missing, with_notice}
+use Rattle.tree_home.specs.Homes.{with_notice}
 use Rattle.tree_home.specs.Notices.{Gets, OpenTreeData}
-use Rattle.tree_home.proofs.Masks.{missing-bit, noted-mask}
+use Rattle.tree_home.proofs.Masks.{missing-inside, missing-bit, noted-mask}
 use Rattle.tree_home.proofs.homes.OpenTree.note.Goals as goal
 
 pub overflow_shl-self : goal.overflow_shl-self
 overflow_shl-self c =
     let o = c.self.inside in
     let k = c.args.sub.0 in
-    let is = subst (λ (h : OpenTreeData). IsTrue (is_missing (slice_get h.notices k))) (sym c.self.view_is) c.requires in
+    let is = missing-inside o.subs o.missing k o.values.items o.version c.args.self.now c.self.view_is c.requires in
     let lt = (missing-bit o.subs o.missing k o.values.items is).0 in
     let few = c.self.invariant.few in
     omega arith
@@ -19,7 +18,7 @@ pub put_values-requires : goal.put_values-requires
 put_values-requires c =
     let o = c.self.inside in
     let k = c.args.sub.0 in
-    let is = subst (λ (h : OpenTreeData). IsTrue (is_missing (slice_get h.notices k))) (sym c.self.view_is) c.requires in
+    let is = missing-inside o.subs o.missing k o.values.items o.version c.args.self.now c.self.view_is c.requires in
     let lt = (missing-bit o.subs o.missing k o.values.items is).0 in
     let room = c.self.invariant.room in
     omega arith
@@ -28,7 +27,7 @@ pub invariant_of-self : goal.invariant_of-self
 invariant_of-self c =
     let o = c.self.inside in
     let k = c.args.sub.0 in
-    let is = subst (λ (h : OpenTreeData). IsTrue (is_missing (slice_get h.notices k))) (sym c.self.view_is) c.requires in
+    let is = missing-inside o.subs o.missing k o.values.items o.version c.args.self.now c.self.view_is c.requires in
     let lt = (missing-bit o.subs o.missing k o.values.items is).0 in
     let mask = c.self.invariant.mask in
     let lists = c.self.invariant.lists in
@@ -46,7 +45,7 @@ pub returns : goal.returns
 returns c =
     let o = c.self.inside in
     let k = c.args.sub.0 in
-    let is = subst (λ (h : OpenTreeData). IsTrue (is_missing (slice_get h.notices k))) (sym c.self.view_is) c.requires in
+    let is = missing-inside o.subs o.missing k o.values.items o.version c.args.self.now c.self.view_is c.requires in
     let of : List (Option Gets) → OpenTreeData = λ ns. record { version = o.version; notices = ns } in
     ap of
     (noted-mask o.subs o.missing k o.values.items c.put_values.new.lists.items c.args.values c.self.invariant.few is

@@ -1,4 +1,4 @@
-use Rattle.std.proofs.Common.{◌≡◌, ◌∙◌, ◌-◌, ◌<◌, ℕ, suc, List, Option, None, ap, arith, get_or, length, set, sym}
+use Rattle.std.proofs.Common.{◌≡◌, ◌∙◌, ◌-◌, ◌<◌, ℕ, suc, List, Option, None, ap, arith, get_or, set, sym}
 use Rattle.tree_home.specs.declared.homes.OpenTree.{OpenTree}
 use Rattle.tree_home.specs.Maps.{put_at}
 use Rattle.tree_home.proofs.InPlaces.{close_all, found_by, in_index, table-ascends, there, view_by}
