@@ -49,8 +49,8 @@ impl OpenTree {
         }
     }
 
-    /// Becomes a tree of `subs` subtransactions, whose notices are all missing. It asks for memory only if it had room
-    /// for the values of fewer notices before.
+    /// Becomes a tree of `subs` subtransactions, at most 64, whose notices are all missing. It asks for memory only if it
+    /// had room for the values of fewer notices before.
     pub(crate) fn renew(&mut self, subs: u32, version: Version) -> Result<(), NoMemory>
         requires some { 0 < subs }
         requires few { subs ≤ 64 }
@@ -124,7 +124,8 @@ impl OpenTree {
         Some(self.version())
     }
 
-    /// All values by subtransaction, with those of `sub` in their place.
+    /// All values by subtransaction, with those of `sub` in their place: those of the tree's answer, if no other notice is
+    /// missing.
     fn gather(
         &self,
         alloc: Global,

@@ -24,13 +24,22 @@ pub(crate) struct TreePlace {
 
 /// The trees that are open, each in a place. The first places are in use, and the others are kept to be used again.
 /// Contracts see an entry for each tree that is open, by ascending numbers.
-#[derive(Drop)]
 pub(crate) struct TreeTable {
     /// By tree number one more than the tree's place, or 0 if the tree isn't open.
     index: Vec<u32>,
     places: Vec<TreePlace>,
     /// How many places are in use.
     used: usize,
+}
+
+impl Drop for TreeTable {
+    fn drop(self) {
+        let TreeTable {
+            index: _,
+            places: _,
+            used: _,
+        } = self;
+    }
 }
 
 impl Model for TreeTable {
