@@ -2,9 +2,7 @@
 use Rattle.std.specs.Prelude.{if◌then◌else◌, ℕ, ◌+◌, ◌<◌, ◌≤◌, nat_le, Bool, true, false, List, [], ◌∷◌, ◌++◌, replicate, slice_set, slice_get, ⊤, Option, Some, None}
 use Rattle.tv_base.specs.declared.numbers.TreeNo.{TreeNo}
 use Rattle.tv_base.specs.declared.numbers.SubNo.{SubNo}
-use Rattle.tv_base.specs.declared.numbers.ItemNo.{ItemNo}
 use Rattle.tv_base.specs.declared.numbers.Version.{Version}
-use Rattle.commute_ops.specs.declared.value.Value.{Value}
 use Rattle.tree_home.specs.declared.homes.OpenTree.{OpenTree}
 use Rattle.tree_home.specs.declared.homes.Answered.{Answered}
 use Rattle.tree_home.specs.declared.homes.Held.{Held}
@@ -13,10 +11,7 @@ use Rattle.tree_home.specs.declared.homes.Noted.TheVariants.{Missing, Answered a
 use Rattle.tree_home.specs.declared.homes.Prospect.{Prospect}
 use Rattle.tree_home.specs.declared.homes.Prospect.TheVariants.{NotMissing, Noted as WouldBeNoted, Answered as WouldBeAnswered}
 use Rattle.tree_home.specs.Maps.{AreAscending, by_tree, put_at}
-
--- the values of gets, in order
-abbrev pub Gets : Type 0
-Gets = List (ItemNo × Value)
+pub use Rattle.tree_home.specs.Notices.{Gets}
 
 -- the trees that are open here, by number
 abbrev pub OpenTrees : Type 0

@@ -1,9 +1,11 @@
-ghost use Rattle.std.specs.Prelude.{◌≡◌, ◌++◌, ◌-◌, ◌<◌, length, replicate, IfOk, IfErr, IsNone, IsSome, IsTrue, OnErr, OnOk, Some, None, slice_set, slice_get, ◌↔◌};
+ghost use Rattle.std.specs.Prelude.{ℕ, ◌≡◌, ◌≢◌, ◌++◌, ◌+◌, ◌-◌, ◌<◌, ◌≤◌, max, nat_lt, [], length, take, drop, IfOk, IfErr, IsNone, IsSome, IsTrue, OnErr, OnOk, Some, None, slice_set, slice_get, slice_index_or, vec_capacity, ◌↔◌};
 ghost use Rattle.std.specs.Option.{option_copied, is_some};
 ghost use Rattle.tree_home.specs.Maps.{AreAscending, by_tree, put_at};
 ghost use Rattle.tree_home.specs.HeldAnswers.{acked, answer_when_acked, held_answers, held_for, held_in, holding, waits_for_more};
-ghost use Rattle.tree_home.specs.Homes.{Gets, no_homes, open_trees, home_in, begun, with_notice, noted, forgotten, gathered, missing_count, missing_in, misses, is_missing, after_notice, answer_in, answer_of, last_version, outcome, prospect, prospect_of, IsNotedAmong, MissesSome, completed_version};
+ghost use Rattle.tree_home.specs.Notices.{Gets, joined_gets, joined_with};
+ghost use Rattle.tree_home.specs.Homes.{no_homes, open_trees, home_in, new_tree, begun, with_notice, noted, forgotten, gathered, missing_count, missing_in, misses, is_missing, after_notice, answer_in, answer_of, last_version, outcome, prospect, prospect_of, IsNotedAmong, MissesSome, completed_version};
 
+use crate::table::TreeTable;
 use crate::tree_map::{find, insert, remove};
 use commute_ops::{Value, Values};
 use std::alloc::Global;
@@ -11,16 +13,131 @@ use std::collections::BTreeMap;
 use std::marker::Model;
 use tv_base::{ItemNo, NoMemory, Seq, SubNo, TreeNo, Version};
 
-/// The notices of a tree, by subtransaction: the values that its gets gave, or None if it is missing.
-pub type Notices = Seq<Option<Values>, 0xffff_ffff>;
-
-/// A tree that is open at its home: its notices are gathered.
+/// A tree that is open at its home: its notices are gathered. Contracts see its version, and for each subtransaction
+/// the values of its notice, or None if it is missing.
 #[derive(Drop)]
 pub struct OpenTree {
     /// The version that the tree runs in.
-    pub version: Version,
-    /// One place for each subtransaction, the root's first.
-    pub notices: Notices,
+    version: Version,
+    /// A bit for each subtransaction whose notice is missing, the root's lowest.
+    missing: u64,
+    /// How many subtransactions the tree has.
+    subs: u32,
+    /// The values of notices by subtransaction, with room for all of them. A notice past its end has none.
+    values: Vec<Values>,
+}
+
+impl Model for OpenTree {
+    ghost use Rattle.std.specs.Prelude.{length, vec_capacity};
+    ghost use Rattle.tree_home.specs.Notices.{OpenTreeData, IsOpenTree, notices_of};
+
+    ghost Value = { OpenTreeData };
+
+    ghost view = { λ o. record { version = o.version; notices = notices_of o.subs o.missing o.values.items } };
+
+    ghost invariant = { λ o. IsOpenTree o.subs o.missing (length o.values.items) (vec_capacity o.values) };
+}
+
+impl OpenTree {
+    /// No tree yet, to be opened.
+    pub(crate) fn new(alloc: Global) -> OpenTree {
+        OpenTree {
+            version: Version(0),
+            missing: 0,
+            subs: 0,
+            values: Vec::new(alloc),
+        }
+    }
+
+    /// Becomes a tree of `subs` subtransactions, at most 64, whose notices are all missing. It asks for memory only if it
+    /// had room for the values of fewer notices before.
+    pub(crate) fn renew(&mut self, subs: u32, version: Version) -> Result<(), NoMemory>
+        requires some { 0 < subs }
+        requires few { subs ≤ 64 }
+        ensures { OnOk result (self.new ≡ new_tree subs version) }
+    {
+        self.values.clear();
+        self.values.reserve_exact(subs as usize)?;
+        self.version = version;
+        self.missing = u64::MAX >> (64 - subs);
+        self.subs = subs;
+        Ok(())
+    }
+
+    /// Gives the values back, and keeps the room for them.
+    pub(crate) fn clear(&mut self) {
+        self.values.clear();
+    }
+
+    /// Notes the values of `sub` as its notice. It needs no memory.
+    #[inline(always)]
+    pub(crate) fn note(&mut self, alloc: Global, sub: SubNo, values: Values)
+        requires { IsTrue (is_missing (slice_get self.old.notices sub.0)) }
+        ensures { self.new ≡ with_notice sub values self.old }
+    {
+        self.missing = self.missing & !(1u64 << sub.0);
+        put_values(&mut self.values, alloc, sub.0 as usize, values);
+    }
+
+    /// How many subtransactions the tree has.
+    fn subs(&self) -> u32
+        ensures { result ≡ length self.now.notices }
+    {
+        self.subs
+    }
+
+    /// The version that the tree runs in.
+    fn version(&self) -> Version
+        ensures { result ≡ self.now.version }
+    {
+        self.version
+    }
+
+    /// Whether `sub` is one of the tree's subtransactions, and its notice is missing.
+    #[inline(always)]
+    fn misses(&self, sub: SubNo) -> bool
+        ensures { result ≡ is_missing (slice_get self.now.notices sub.0) }
+    {
+        if self.subs <= sub.0 {
+            return false;
+        }
+        (self.missing >> sub.0) & 1 == 1
+    }
+
+    /// Whether another notice is missing beside that of `sub`.
+    #[inline(always)]
+    fn misses_another(&self, sub: SubNo) -> bool
+        requires { IsTrue (is_missing (slice_get self.now.notices sub.0)) }
+        ensures { result ≡ nat_lt 1 (missing_count self.now.notices) }
+    {
+        self.missing != 1u64 << sub.0
+    }
+
+    /// The version that the tree runs in. None exactly if another notice is missing beside that of `sub`.
+    fn last_version(&self, sub: SubNo) -> Option<Version>
+        requires { IsTrue (is_missing (slice_get self.now.notices sub.0)) }
+        ensures { result ≡ last_version self.now }
+    {
+        if self.misses_another(sub) {
+            return None;
+        }
+        Some(self.version())
+    }
+
+    /// All values by subtransaction, with those of `sub` in their place: those of the tree's answer, if no other notice is
+    /// missing.
+    fn gather(
+        &self,
+        alloc: Global,
+        sub: SubNo,
+        values: &[(ItemNo, Value)],
+    ) -> Result<Values, NoMemory>
+        requires { IsTrue (is_missing (slice_get self.now.notices sub.0)) }
+        ensures { IfOk result (λ all. missing_count self.now.notices ≤ 1
+            → gathered (slice_set self.now.notices sub.0 (Some values.now)) ≡ Some all) }
+    {
+        gather_lists(alloc, self.values.as_slice(), sub.0 as usize, values)
+    }
 }
 
 /// The answer to a tree.
@@ -61,13 +178,18 @@ pub struct Held {
     pub waits: u32,
 }
 
-/// The trees that have their home here and aren't answered yet, and the answers that are held here, by tree number. To
-/// begin, note or forget a tree, to hold an answer, and to note an acknowledgement takes time logarithmic in how many
-/// there are.
+/// The trees that have their home here and aren't answered yet, each in a place of a table, and the answers that are
+/// held here, by tree number. To look for a tree or one of its notices, to note one and to forget a tree takes constant
+/// time, whatever is open here, and so it does to begin one, but when the table grows. An answer takes time linear in
+/// its values. To hold an answer and to note an acknowledgement takes time logarithmic in how many are held.
+///
+/// The table takes four bytes for each tree number up to the greatest that was begun here, and as many places as trees
+/// were open at a time. A place that is used again keeps its room for the values of notices, so a tree that has no more
+/// subtransactions than one before it there is begun without asking for memory.
 #[derive(Drop)]
 pub struct Homes {
     alloc: Global,
-    trees: BTreeMap<TreeNo, OpenTree>,
+    table: TreeTable,
     held: BTreeMap<TreeNo, Held>,
 }
 
@@ -78,9 +200,9 @@ impl Model for Homes {
 
     ghost use Rattle.tree_home.specs.Homes.{AreMaps};
 
-    ghost view = { λ h. record { opened = h.trees.entries; held = h.held.entries } };
+    ghost view = { λ h. record { opened = h.table; held = h.held.entries } };
 
-    ghost invariant = { λ h. AreMaps (record { opened = h.trees.entries; held = h.held.entries }) };
+    ghost invariant = { λ h. AreMaps (record { opened = h.table; held = h.held.entries }) };
 }
 
 impl Homes {
@@ -90,40 +212,43 @@ impl Homes {
     {
         Homes {
             alloc,
-            trees: BTreeMap::new(alloc),
+            table: TreeTable::new(alloc),
             held: BTreeMap::new(alloc),
         }
     }
 
     /// Whether the tree is open here.
+    #[inline(always)]
     pub fn has(&self, tree: TreeNo) -> bool
         ensures { result ≡ is_some (home_in tree (open_trees self.now)) }
     {
-        find(&self.trees, tree).is_some()
+        self.table.find(tree).is_some()
     }
 
     /// Whether the tree is open here, `sub` is one of its subtransactions, and the notice of `sub` is missing.
+    #[inline(always)]
     pub fn misses(&self, tree: TreeNo, sub: SubNo) -> bool
         ensures { result ≡ misses tree sub (open_trees self.now) }
     {
-        match find(&self.trees, tree) {
-            Some(opened) => is_missing(opened.notices.items(), sub),
+        match self.table.find(tree) {
+            Some(opened) => opened.misses(sub),
             None => false,
         }
     }
 
-    /// Adds a tree of `subs` subtransactions, whose notices are all missing. If no memory is found, the homes are
-    /// unchanged.
+    /// Adds a tree of `subs` subtransactions, at most 64, whose notices are all missing. If no memory is found, the
+    /// homes are unchanged.
     pub fn begin(&mut self, tree: TreeNo, subs: u32, version: Version) -> Result<(), NoMemory>
         requires some { 0 < subs }
+        requires few { subs ≤ 64 }
         requires absent { home_in tree (open_trees self.old) ≡ None }
         ensures ok { OnOk result (open_trees self.new ≡ begun tree subs version (open_trees self.old)) }
         ensures held { self.new.held ≡ self.old.held }
         ensures err { OnErr result (self.new ≡ self.old) }
         ensures was_ascending { AreAscending self.old.opened }
     {
-        let notices = no_notices(self.alloc, subs)?;
-        insert(&mut self.trees, tree, OpenTree { version, notices })?;
+        let alloc = self.alloc;
+        self.table.begin(alloc, tree, subs, version)?;
         Ok(())
     }
 
@@ -162,6 +287,7 @@ impl Homes {
     /// What would come of the notice of `sub` with these values, found in one search. A tree that would be answered has
     /// the answer that `note` would give.
     #[tactic(auto, using(crate::proofs::Gathered::answering))]
+    #[inline(always)]
     pub fn would_answer(
         &self,
         tree: TreeNo,
@@ -171,8 +297,8 @@ impl Homes {
         ensures prospect { IfOk result (λ found. found ≡ prospect tree sub values.now (open_trees self.now)) }
         ensures among { IfOk result (IsNotedAmong (missing_in tree (open_trees self.now))) }
     {
-        match find(&self.trees, tree) {
-            Some(opened) if is_missing(opened.notices.items(), sub) => {
+        match self.table.find(tree) {
+            Some(opened) if opened.misses(sub) => {
                 let answer = answer(self.alloc, tree, opened, sub, values.items())?;
                 Ok(prospect_of(answer))
             }
@@ -186,8 +312,8 @@ impl Homes {
     pub fn would_answer_in(&self, tree: TreeNo, sub: SubNo) -> Option<Version>
         ensures { (values : Gets) → result ≡ completed_version tree sub values (open_trees self.now) }
     {
-        match find(&self.trees, tree) {
-            Some(opened) if is_missing(opened.notices.items(), sub) => last_version(opened),
+        match self.table.find(tree) {
+            Some(opened) if opened.misses(sub) => opened.last_version(sub),
             _ => None,
         }
     }
@@ -196,30 +322,33 @@ impl Homes {
     fn still_missing(&self, tree: TreeNo) -> u32
         ensures { result ≡ missing_in tree (open_trees self.now) }
     {
-        match find(&self.trees, tree) {
-            Some(opened) => count_missing(&opened.notices),
+        match self.table.find(tree) {
+            Some(opened) => count_missing(opened),
             None => 0,
         }
     }
 
     /// Removes a tree. The others stay. It needs no memory.
+    #[inline(always)]
     pub fn forget(&mut self, tree: TreeNo)
         requires { IsSome (home_in tree (open_trees self.old)) }
         ensures forgotten { open_trees self.new ≡ forgotten tree (open_trees self.old) }
         ensures held { self.new.held ≡ self.old.held }
         ensures ascending { AreAscending self.new.opened }
     {
-        remove(&mut self.trees, tree);
+        self.table.forget(tree);
     }
 
     /// Notes the values of `sub` as its notice. Another notice of the tree is missing too. It needs no memory.
+    #[inline(always)]
     pub fn put_notice(&mut self, tree: TreeNo, sub: SubNo, values: Values)
         requires misses { IsTrue (misses tree sub (open_trees self.old)) }
         requires another { 1 < missing_in tree (open_trees self.old) }
         ensures noted { open_trees self.new ≡ noted tree sub values (open_trees self.old) }
         ensures held { self.new.held ≡ self.old.held }
     {
-        put(&mut self.trees, tree, sub, values);
+        let alloc = self.alloc;
+        self.table.note(alloc, tree, sub, values);
     }
 
     /// Holds an answer until `waits` acknowledgements have come. The open trees and the other answers stay. If no
@@ -267,26 +396,36 @@ impl Homes {
     }
 }
 
-/// As many notices as the tree has subtransactions, all missing.
-#[tactic(auto, using(std::proofs::lemmas::Grind::replicate_next))]
-fn no_notices(alloc: Global, subs: u32) -> Result<Notices, NoMemory>
-    ensures { IfOk result (λ notices. notices ≡ replicate subs None) }
+/// Puts the values of `sub` at their place. It needs no memory.
+fn put_values(lists: &mut Vec<Values>, alloc: Global, sub: usize, values: Values)
+    requires { sub < vec_capacity lists.old }
+    ensures at { slice_index_or lists.new.items sub [] ≡ values }
+    ensures others { (k : ℕ) → k ≢ sub → slice_index_or lists.new.items k [] ≡ slice_index_or lists.old.items k [] }
+    ensures length { length lists.new.items ≤ max (length lists.old.items) (sub + 1) }
+    ensures room { vec_capacity lists.new ≡ vec_capacity lists.old }
 {
-    let mut notices = Seq::with_capacity(alloc, subs as usize)?;
-    for _ in 0..subs {
-        notices.push(None)?;
+    if sub < lists.len() {
+        lists[sub] = values;
+        return;
     }
-    Ok(notices)
+    if values.items().is_empty() {
+        return;
+    }
+    pad(lists, alloc, sub);
+    lists.push_reserved(values);
 }
 
-/// Puts the values of `sub` at the place of its notice, in what is open of its tree.
-fn put(trees: &mut BTreeMap<TreeNo, OpenTree>, tree: TreeNo, sub: SubNo, values: Values)
-    requires { IsTrue (misses tree sub (by_tree trees.old.entries)) }
-    ensures noted { by_tree trees.new.entries ≡ noted tree sub values (by_tree trees.old.entries) }
-    ensures ascending { AreAscending trees.new.entries }
+/// Adds empty lists up to `sub`. It needs no memory.
+fn pad(lists: &mut Vec<Values>, alloc: Global, sub: usize)
+    requires long { length lists.old.items ≤ sub }
+    requires room { sub < vec_capacity lists.old }
+    ensures same { (k : ℕ) → slice_index_or lists.new.items k [] ≡ slice_index_or lists.old.items k [] }
+    ensures length { length lists.new.items ≡ sub }
+    ensures room { vec_capacity lists.new ≡ vec_capacity lists.old }
 {
-    let opened = trees.get_mut(&tree).unwrap();
-    add_notice(opened, sub, values);
+    'padding: while lists.len() < sub {
+        lists.push_reserved(Values::new(alloc));
+    }
 }
 
 /// Puts an answer under its tree's number. If no memory is found, the map is unchanged and the answer comes back.
@@ -353,48 +492,18 @@ fn acknowledge(held: &mut BTreeMap<TreeNo, Held>, tree: TreeNo) -> Option<Answer
     }
 }
 
-/// Whether there is a place for the notice of `sub`, and it is missing.
-fn is_missing(notices: &[Option<Values>], sub: SubNo) -> bool
-    ensures { result ≡ is_missing (slice_get notices.now sub.0) }
-{
-    match notices.get(sub.0 as usize) {
-        Some(notice) => notice.is_none(),
-        None => false,
-    }
-}
-
-/// Puts the values of `sub` at the place of its notice.
-fn add_notice(opened: &mut OpenTree, sub: SubNo, values: Values)
-    requires { sub.0 < length opened.old.notices }
-    ensures { opened.new ≡ with_notice sub values opened.old }
-{
-    opened.notices.put(sub.0 as usize, Some(values));
-}
-
 /// How many notices are missing.
-fn count_missing(notices: &Notices) -> u32
-    ensures { result ≡ missing_count notices.now }
+fn count_missing(opened: &OpenTree) -> u32
+    ensures { result ≡ missing_count opened.now.notices }
 {
-    let items = notices.items();
+    let subs = opened.subs();
     let mut missing = 0;
-    for notice in items {
-        match notice {
-            None => missing += 1,
-            Some(_) => {}
+    for k in 0..subs {
+        if opened.misses(SubNo(k)) {
+            missing += 1;
         }
     }
     missing
-}
-
-/// The version of a tree that misses one notice at most. None exactly if it misses more.
-fn last_version(opened: &OpenTree) -> Option<Version>
-    ensures { result ≡ last_version opened.now }
-{
-    if count_missing(&opened.notices) <= 1 {
-        Some(opened.version)
-    } else {
-        None
-    }
 }
 
 /// What would come of a notice that is missing, by the answer that it gives.
@@ -420,41 +529,63 @@ fn answer(
     ensures answer { IfOk result (λ answer. answer ≡ answer_of tree sub values.now (Some opened.now)) }
     ensures none { IfOk result (λ answer. IsNone answer ↔ (1 < missing_count opened.now.notices)) }
 {
-    if 1 < count_missing(&opened.notices) {
+    if opened.misses_another(sub) {
         return Ok(None);
     }
-    match gather(alloc, opened.notices.items(), sub.0 as usize, values)? {
-        None => Ok(None),
-        Some(values) => Ok(Some(Answered {
-            tree,
-            version: opened.version,
-            values,
-        })),
+    let values = opened.gather(alloc, sub, values)?;
+    Ok(Some(Answered {
+        tree,
+        version: opened.version(),
+        values,
+    }))
+}
+
+/// All values of these lists, with others in the place of `sub`'s.
+fn gather_lists(
+    alloc: Global,
+    lists: &[Values],
+    sub: usize,
+    values: &[(ItemNo, Value)],
+) -> Result<Values, NoMemory>
+    ensures { IfOk result (λ all. all ≡ joined_with sub values.now lists.now) }
+{
+    let mut all = Seq::new(alloc);
+    append_lists(&mut all, alloc, before(lists, sub))?;
+    append(&mut all, alloc, values)?;
+    append_lists(&mut all, alloc, after(lists, sub))?;
+    Ok(all)
+}
+
+/// The lists before that of `sub`.
+fn before(lists: &[Values], sub: usize) -> &[Values]
+    ensures { result.now ≡ take sub lists.now }
+{
+    if sub < lists.len() {
+        &lists[..sub]
+    } else {
+        lists
     }
 }
 
-/// All values by subtransaction, those of `sub` in their place, or None if another notice is missing.
-#[tactic(auto, using(crate::proofs::Gathered::gathering))]
-fn gather(
-    alloc: Global,
-    notices: &[Option<Values>],
-    sub: usize,
-    values: &[(ItemNo, Value)],
-) -> Result<Option<Values>, NoMemory>
-    ensures { IfOk result (λ all. all ≡ gathered (slice_set notices.now sub (Some values.now))) }
+/// The lists after that of `sub`.
+fn after(lists: &[Values], sub: usize) -> &[Values]
+    ensures { result.now ≡ drop (sub + 1) lists.now }
 {
-    let mut all = Seq::new(alloc);
-    for (k, notice) in notices.iter().enumerate() {
-        if k == sub {
-            append(&mut all, alloc, values)?;
-        } else {
-            match notice {
-                None => return Ok(None),
-                Some(values) => append(&mut all, alloc, values.items())?,
-            }
-        }
+    if sub < lists.len() {
+        &lists[sub + 1..]
+    } else {
+        &lists[lists.len()..]
     }
-    Ok(Some(all))
+}
+
+/// Adds copies of the values of lists.
+fn append_lists(all: &mut Values, alloc: Global, lists: &[Values]) -> Result<(), NoMemory>
+    ensures { OnOk result (all.new ≡ all.old ++ joined_gets lists.now) }
+{
+    for list in lists {
+        append(all, alloc, list.items())?;
+    }
+    Ok(())
 }
 
 /// Adds copies of values.

@@ -1,9 +1,8 @@
-use Rattle.std.proofs.Common.{◌∙◌, Some}
-use Rattle.tree_home.specs.Maps.{put_at}
-use Rattle.tree_home.specs.Homes.{open_trees}
+use Rattle.std.proofs.Common.{◌∙◌, ap}
+use Rattle.tree_home.specs.Homes.{HomesData, begun, open_trees}
 use Rattle.tree_home.proofs.homes.Homes.begin.Goals as goal
 
 pub returns-clause-ok : goal.returns-clause-ok
 returns-clause-ok c =
-    c.in_ok-insert.ensures.ok ∙ (λ i. put_at c.args.tree.0
-    (Some (record { version = c.args.version; notices = c.in_ok-notices.ensures i })) (open_trees (c.self.view_is i)))
+    c.in_ok-begin.ensures.ok
+    ∙ ap (λ (h : HomesData). begun c.args.tree c.args.subs c.args.version (open_trees h)) c.self.view_is

@@ -4,4 +4,4 @@ use Rattle.tree_home.proofs.homes.Homes.forget.Goals as goal
 
 pub returns-clause-forgotten : goal.returns-clause-forgotten
 returns-clause-forgotten c =
-    c.remove.ensures.removed ∙ ap (λ (h : HomesData). forgotten c.args.tree (open_trees h)) c.self.view_is
+    c.forget.ensures.forgotten ∙ ap (λ (h : HomesData). forgotten c.args.tree (open_trees h)) c.self.view_is

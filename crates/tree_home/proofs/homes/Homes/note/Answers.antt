@@ -1,5 +1,5 @@
 use Rattle.std.specs.Prelude.{◌<◌}
-use Rattle.std.proofs.Common.{◌≡◌, ◌∙◌, ap, arith, subst, sym}
+use Rattle.std.proofs.Common.{◌∙◌, ap, arith, subst, sym}
 use Rattle.tree_home.specs.Homes.{OpenTrees, IsNotedAmong, open_trees, noted, misses, missing_in, answer_in}
 use Rattle.tree_home.proofs.Gathered.{missing_in-noted, told-missing, noted-none, prospect-missing}
 use Rattle.tree_home.proofs.homes.Homes.note.Goals as goal
