@@ -1,4 +1,4 @@
--- What a node does by an order, whichever coordinator gave it.
+-- What a node does by an order, whichever coordinator gives it.
 use Rattle.std.specs.Prelude.{if◌then◌else◌, ℕ, []}
 use Rattle.tv_base.specs.declared.numbers.Version.{Version}
 use Rattle.letter_types.specs.declared.bodies.Body.{Body}
@@ -7,11 +7,16 @@ use Rattle.letter_types.specs.declared.bodies.What.{What}
 use Rattle.letter_types.specs.declared.bodies.What.TheVariants as whats
 use Rattle.letter_types.specs.Steps.{Out}
 use Rattle.tx_trees.specs.ScriptData.{ScriptData}
-use Rattle.tree_step.specs.Node.{Node}
+use Rattle.tree_step.specs.Changes.{IsNodeStepOf}
+use Rattle.tree_step.specs.Meant.{parts_meant}
+use Rattle.tree_step.specs.Node.{Node, data_of}
+use Rattle.tree_step.specs.declared.node.NodeParts.{NodeParts}
+use Rattle.tree_step.specs.declared.plan.Doing.{Doing}
+use Rattle.tree_step.specs.declared.plan.Scratch.{Scratch}
 use Rattle.world_model.specs.Advancing.{show_row, sweep_row, to_coordinator, turn_row}
 use Rattle.world_model.specs.Epochs.{was_obeyed}
 
--- the answer that a coordinator that remembers gets
+-- the answer to an order of a coordinator that keeps its state
 abbrev pub plain_answer : What → Version → Body
 plain_answer whats.Turn v = Turned v
 plain_answer whats.Show v = Shown v
@@ -31,11 +36,15 @@ ordered_row s what v answer st = record {
   acts = (plain_row s what v st).acts;
 }
 
--- a node stays as it is, and tells the coordinator this
+-- a node stays as it is, and sends the coordinator this answer
 abbrev pub told_row : ScriptData → Body → Node → Out Node
 told_row s answer st = record { state = st; sent = to_coordinator s answer; acts = [] }
 
--- a node obeys an order of this epoch, unless it did before, and answers
+-- a node obeys an order of this epoch, unless it has done so before, and answers
 abbrev pub obeyed_row : ScriptData → ℕ → What → Version → Node → Out Node
 obeyed_row s e what v st =
     if was_obeyed what v st then told_row s (Obeyed e what v) st else ordered_row s what v (Obeyed e what v) st
+
+-- with a scratch, what a node's parts do is this row of it, and it may do it
+abbrev pub IsDoingPlan : (Node → Out Node) → NodeParts → Scratch → Doing → Type 0
+IsDoingPlan row n x d = IsNodeStepOf (row (data_of n)) n (parts_meant d x)

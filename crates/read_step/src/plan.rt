@@ -1,9 +1,8 @@
 // A subtransaction of a read tree is planned.
-ghost use Rattle.std.specs.Prelude.{◌≡◌, [], is_some, IfNone, IfOk, IfSome, OnOk};
+ghost use Rattle.std.specs.Prelude.{◌≡◌, [], is_some, IfOk, IfSome};
 ghost use Rattle.std.specs.Option.{option_copied};
-ghost use Rattle.tree_step.specs.Meant.{out_in, part_meant};
 ghost use Rattle.tree_step.specs.Node.{data_of, IsReady};
-ghost use Rattle.read_step.specs.Rows.{can_get, can_read, gets, got_by_deed, IsReadPart};
+ghost use Rattle.read_step.specs.Rows.{can_get, can_read, gets, got_by_deed, IsReadPartPlan};
 ghost use Rattle.tree_step.specs.AtNode.{IsDueAt};
 
 use commute_ops::{Value, Values};

@@ -1,12 +1,10 @@
-// No run makes this call: a run plans a step of a whole node and does it apart.
-ghost use Rattle.std.specs.Prelude.{◌≡◌, [], IfOk, IsTrue, OnErr, OnOk};
+// No run makes this call: a run plans the step of a whole node, and does it by another call.
+ghost use Rattle.std.specs.Prelude.{◌≡◌, IfOk, IsTrue, OnErr, OnOk};
 ghost use Rattle.item_versions.specs.Window.{in_window};
-ghost use Rattle.letter_types.specs.declared.bodies.Notice.TheVariants.{Did};
-ghost use Rattle.letter_types.specs.Steps.{made};
 ghost use Rattle.tree_step.specs.Changes.{IsDoneTwice};
-ghost use Rattle.tree_step.specs.Node.{data_of, IsInWindow, IsOf, IsReady, state_of};
+ghost use Rattle.tree_step.specs.Node.{IsInWindow, IsOf, IsReady, state_of};
 ghost use Rattle.tree_step.specs.AtNode.{IsDueAt};
-ghost use Rattle.read_step.specs.Rows.{read_at, read_done_at};
+ghost use Rattle.read_step.specs.Rows.{HasRead, read_done_at};
 
 use crate::plan::get_values;
 use commute_ops::Values;

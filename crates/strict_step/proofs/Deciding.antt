@@ -75,7 +75,7 @@ pub visited_some : (xs : List Sub) (n : ℕ) → AllByRecursion (λ (x : Sub). x
 visited_some [] n all some = absurd (omega arith)
 visited_some (x ∷ xs) n all some = visited_first x xs n all.0
 
--- so many are named as are numbered
+-- as many nodes are named as there are numbers
 pub as_many : (qs : List NodeNo) (rs : List ℕ) → numbers_of_nodes qs ≡ rs → length qs ≡ length rs
 as_many qs rs is = omega (arith, length-map qs (λ (q : NodeNo). q.0), ap (λ (ns : List ℕ). length ns) is)
 

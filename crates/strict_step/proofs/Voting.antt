@@ -45,7 +45,7 @@ use Rattle.tree_step.specs.declared.node_core.NodeCore.{NodeCore}
 use Rattle.strict_step.specs.Answering.{MayDecide}
 use Rattle.strict_step.specs.inside.Voting.{change_by, refusal_there}
 
--- the noes after a notice
+-- the negative votes after a notice
 noes_noted : (b : Bool) (t : TreeNo) (k : SubNo) (notice : Notice) (rs : Refusals)
     → refusals_with (refusal_there b t k notice rs) rs ≡ (if b then refused_by t k notice rs else rs)
 noes_noted true t k (notices.Did values) rs = refl
@@ -94,7 +94,7 @@ note_decided s from t k v notice c o change kind row is =
     ∙ sym (ap (λ (b : Bool). if b then decided s (record c { refusals = refused_there t k notice c }) out out.answered
     else answered s c out) kind)
 
--- where a notice is missing its tree is open
+-- if a notice is missing, its tree is open
 misses_some : (k : SubNo) (o : Option OpenTree) → misses_of k o ≡ true → IsSome o
 misses_some k None is = cc
 misses_some k (Some h) is = refl

@@ -1,11 +1,10 @@
 // A subtransaction of an update tree is planned.
-ghost use Rattle.std.specs.Prelude.{◌≡◌, [], is_some, IfNone, IfOk, IfSome, IsTrue, OnOk};
+ghost use Rattle.std.specs.Prelude.{◌≡◌, [], is_some, IfOk, IfSome, IsTrue, OnOk};
 ghost use Rattle.std.specs.Bool.{OnTrue};
-ghost use Rattle.item_versions.specs.Table.{pending};
 ghost use Rattle.item_versions.specs.Window.{in_window, IsWindowedTable};
-ghost use Rattle.tree_step.specs.Meant.{out_in, part_meant};
+ghost use Rattle.tree_step.specs.Meant.{ChangesPart};
 ghost use Rattle.tree_step.specs.Node.{data_of, IsReady};
-ghost use Rattle.update_step.specs.Rows.{can_touch, can_update, IsUpdatePart, table_after_ops};
+ghost use Rattle.update_step.specs.Rows.{can_touch, can_update, FitsStaged, IsStagedBy, IsUpdatePartPlan};
 ghost use Rattle.tree_step.specs.AtNode.{IsDueAt};
 
 use commute_ops::Values;

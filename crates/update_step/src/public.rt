@@ -1,10 +1,9 @@
-// No run makes this call: a run plans a step of a whole node and does it apart.
+// No run makes this call: a run plans the step of a whole node, and does it by another call.
 ghost use Rattle.std.specs.Prelude.{◌≡◌, IfOk, OnErr, OnOk};
-ghost use Rattle.letter_types.specs.Steps.{made};
 ghost use Rattle.tree_step.specs.Changes.{IsDoneTwice};
-ghost use Rattle.tree_step.specs.Node.{data_of, IsInWindow, IsOf, IsReady, state_of};
+ghost use Rattle.tree_step.specs.Node.{IsInWindow, IsOf, IsReady, state_of};
 ghost use Rattle.tree_step.specs.AtNode.{IsDueAt};
-ghost use Rattle.update_step.specs.Rows.{update_at};
+ghost use Rattle.update_step.specs.Rows.{update_at, Updated};
 
 use crate::plan::plan_update;
 use item_versions::ItemTable;
