@@ -1,4 +1,4 @@
--- A decision and an acknowledgement, as they are planned, are their rows, and the node may do them.
+-- The plans of a decision that comes to a node and of an acknowledgement are their rows, and the node may do them.
 use Rattle.std.proofs.Common.{◌≡◌, ℕ, ◌<◌, Bool, true, false, List, [], ◌∷◌, take, refl, ap, sym, subst, ◌∙◌, arith, Option, Some, None, inl, inr}
 use Rattle.std.proofs.Math.Path.{fun_ext}
 use Rattle.std.specs.Prelude.{IsSome, if◌then◌else◌}
@@ -119,7 +119,7 @@ none_counted s n v from sent ready near =
     may_count s n.parts v false from 0 sent [] ready near (omega arith) refl
     (All-from_recursion (λ (o : Outgoing). o.to.0 < s.nodes) [] tt) (omega arith)
 
--- a function with what is there put in
+-- to put in what is there changes nothing
 put_own-at : (k j : ℕ) (x : Option Held) (f : HeldAnswers) → f k ≡ x → put_at k x f j ≡ f j
 put_own-at k j x f here =
     elim (cases_eq j k) [

@@ -124,7 +124,7 @@ decided_ready s part votes n a commit nodes out counted known names letters told
       acts = done i;
     }
 
--- of no tree that is open an answer is held then
+-- then, too, no open tree has a held answer
 apart_holding : (opened : OpenTrees) (a : Answered) (k : ℕ) (hs : HeldAnswers) → home_in a.tree opened ≡ None
     → AreApart opened hs → AreApart opened (holding a k hs)
 apart_holding opened a k hs gone apart = λ u there.

@@ -1,4 +1,4 @@
--- A tree is answered, or decided, as is planned: the step is its row, and the node may do it.
+-- The plans of an answer and of a decision are their rows, and the node may do them.
 use Rattle.std.proofs.Common.{◌≡◌, ◌<◌, ◌≤◌, Bool, List, [], ◌∷◌, ◌++◌, length, refl, ap, sym, subst, ◌∙◌, append_assoc, Option, Some, None}
 use Rattle.tv_base.specs.declared.numbers.NodeNo.{NodeNo}
 use Rattle.letter_types.specs.declared.acts.Act.{Act}

@@ -1,4 +1,4 @@
--- A vote and a notice, as they are planned, are their rows, and the tree may be decided.
+-- The plans of a vote and of a notice are their rows, and the tree may be decided.
 use Rattle.std.proofs.Common.{◌≡◌, ℕ, ◌<◌, ◌==◌, Bool, true, false, List, [], ◌∷◌, length, refl, ap, sym, subst, ◌∙◌, arith, Option, Some, None}
 use Rattle.std.specs.Prelude.{IsSome, nat_lt, not, ◌||◌, slice_get, if◌then◌else◌}
 use Rattle.std.proofs.lemmas.Bool.{and_parts}
@@ -161,7 +161,7 @@ voted_vote t vote ops body c = λ i. record c {
   refusals = noes_voted t vote ops body c.refusals i;
 }
 
--- a vote that was planned, by its parts
+-- the plan of a vote, by its parts
 pub vote_row : (s : ScriptData) (p from : ℕ) (t : TreeNo) (body : Body) (n : NodeCore) (part : TreeStep)
     (v : Version) (raises : Bool) (staged : Table) (notice : Notice) (vote : Vote) (ops : List SubOp)
     (change : VoteChange)
@@ -189,7 +189,7 @@ vote_row s p from t body n part v raises staged notice vote ops change row none 
     (cast ∙ ap (λ (os : List SubOp). vote_of n.locks items t v os) asked)
     ∙ ap (λ (w : Version). voted_core s p from t w (vote_of n.locks items t w (asked_ops s body)) body c) at
 
--- a root that a node takes has a tree
+-- the tree of a root that a node takes is there
 rooted : (xs : List Sub) (m p : ℕ) → ((elim (slice_get xs 0) [ Some sub ↦ sub.node.0 | None ↦ m ]) == p) ≡ true → p < m
     → 0 < length xs
 rooted [] m p is lt = grind (arith, nat_tests)

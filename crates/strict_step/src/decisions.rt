@@ -1,5 +1,5 @@
 // What a node does with a decision, with an acknowledgement of one, and with a message that lets marks go.
-ghost use Rattle.std.specs.Prelude.{◌≡◌, ◌<◌, ◌++◌, length, IfOk, IsTrue, OnOk, Some};
+ghost use Rattle.std.specs.Prelude.{◌≡◌, ◌<◌, ◌++◌, [], length, IfOk, IsTrue, OnOk, Some};
 ghost use Rattle.item_versions.specs.Window.{in_window};
 ghost use Rattle.tree_home.specs.HeldAnswers.{answer_when_acked, held_answers, held_in, last_answer};
 ghost use Rattle.tree_home.specs.Maps.{by_tree};
@@ -38,7 +38,8 @@ pub(crate) fn plan_with(doing: Doing, votes: VotePlan, holds: HoldPlan) -> Plan
 /// Plans that a node lets the marks of an update tree go.
 pub fn plan_release(core: &NodeCore, tree: TreeNo, scratch: &mut Scratch) -> Result<Plan, NoMemory>
     requires can { CanCoreStep core.now }
-    requires empty { IsEmpty scratch.old }
+    requires none_sent { scratch.old.sent ≡ [] }
+    requires no_acts { scratch.old.acts ≡ [] }
     ensures { IfOk result (λ plan. IsReleaseStep tree core.now (core_meant plan scratch.new)) }
 {
     scratch.acts.push(Act::Freed { tree })?;
