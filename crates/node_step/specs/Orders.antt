@@ -7,12 +7,7 @@ use Rattle.letter_types.specs.declared.bodies.What.{What}
 use Rattle.letter_types.specs.declared.bodies.What.TheVariants as whats
 use Rattle.letter_types.specs.Steps.{Out}
 use Rattle.tx_trees.specs.ScriptData.{ScriptData}
-use Rattle.tree_step.specs.Changes.{IsNodeStepOf}
-use Rattle.tree_step.specs.Meant.{parts_meant}
-use Rattle.tree_step.specs.Node.{Node, data_of}
-use Rattle.tree_step.specs.declared.node.NodeParts.{NodeParts}
-use Rattle.tree_step.specs.declared.plan.Doing.{Doing}
-use Rattle.tree_step.specs.declared.plan.Scratch.{Scratch}
+use Rattle.tree_step.specs.Node.{Node}
 use Rattle.world_model.specs.Advancing.{show_row, sweep_row, to_coordinator, turn_row}
 use Rattle.world_model.specs.Epochs.{was_obeyed}
 
@@ -44,7 +39,3 @@ told_row s answer st = record { state = st; sent = to_coordinator s answer; acts
 abbrev pub obeyed_row : ScriptData → ℕ → What → Version → Node → Out Node
 obeyed_row s e what v st =
     if was_obeyed what v st then told_row s (Obeyed e what v) st else ordered_row s what v (Obeyed e what v) st
-
--- with a scratch, what a node's parts do is this row of it, and it may do it
-abbrev pub IsDoingPlan : (Node → Out Node) → NodeParts → Scratch → Doing → Type 0
-IsDoingPlan row n x d = IsNodeStepOf (row (data_of n)) n (parts_meant d x)

@@ -4,9 +4,9 @@ ghost use Rattle.world_model.specs.Advancing.{asked_row, done_row, to_coordinato
 ghost use Rattle.world_model.specs.Done.{turned_if};
 ghost use Rattle.world_model.specs.Epochs.{was_obeyed};
 ghost use Rattle.tree_step.specs.Due.{can_obey};
-ghost use Rattle.tree_step.specs.Meant.{ChangesOut};
+ghost use Rattle.tree_step.specs.Meant.{ChangesOut, IsDoingPlan};
 ghost use Rattle.tree_step.specs.Node.{data_of, CanStep};
-ghost use Rattle.node_step.specs.Orders.{IsDoingPlan, obeyed_row, ordered_row, plain_answer, told_row};
+ghost use Rattle.node_step.specs.Orders.{obeyed_row, ordered_row, plain_answer, told_row};
 ghost use Rattle.node_step.specs.inside.Advancing.{acts_if, order_acts, order_doing};
 
 use letter_types::{Act, Acts, Body, Letters, Outgoing, What};

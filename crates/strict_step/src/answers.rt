@@ -3,7 +3,7 @@
 ghost use Rattle.std.specs.Prelude.{◌≡◌, ◌<◌, ◌++◌, length, [], IfOk, OnOk};
 ghost use Rattle.tx_trees.specs.ScriptData.{subs_at, updates, visited_by};
 ghost use Rattle.world_model.specs.Strict.{marks, none_refuses, release_letters};
-ghost use Rattle.tree_step.specs.Changes.{MayDo, SendsRequests};
+ghost use Rattle.tree_step.specs.Changes.{MayDo};
 ghost use Rattle.tree_step.specs.CoreChanges.{numbers_of_nodes};
 ghost use Rattle.tree_step.specs.Meant.{doing_meant, part_meant, refusals_meant};
 ghost use Rattle.strict_step.specs.Answering.{IsAnsweredPlan, IsApartAfter, IsDecidedPlan, MayDecide, tree_releases};
@@ -95,7 +95,6 @@ pub fn plan_answered(
 ) -> Result<Plan, NoMemory>
     // What the caller knows.
     requires may { MayDo (doing_meant part.doing scratch.old) scratch.old.sent core.now.parts }
-    requires counted { SendsRequests (doing_meant part.doing scratch.old) scratch.old.sent }
     requires apart { IsApartAfter (part_meant part scratch.old) core.now }
     // What is planned.
     ensures { IfOk result (IsAnsweredPlan script.now votes part core.now scratch.old scratch.new) }
@@ -148,7 +147,6 @@ pub(crate) fn plan_decided(
 ) -> Result<Plan, NoMemory>
     // What the caller knows.
     requires may { MayDo (doing_meant part.doing scratch.old) scratch.old.sent core.now.parts }
-    requires counted { SendsRequests (doing_meant part.doing scratch.old) scratch.old.sent }
     requires apart { IsApartAfter (part_meant part scratch.old) core.now }
     requires decide { MayDecide script.now (part_meant part scratch.old) core.now part.answered }
     requires none_told { scratch.old.told ≡ [] }

@@ -8,8 +8,8 @@ ghost use Rattle.world_model.specs.Notices.{values_of};
 ghost use Rattle.world_model.specs.Strict.{notice_by};
 ghost use Rattle.tree_step.specs.AtNode.{answers_near, IsDueAt, IsNoteStep, IsUnheldAt, IsVoteStep};
 ghost use Rattle.tree_step.specs.Core.{IsCoreReady};
-ghost use Rattle.tree_step.specs.Meant.{ChangesNo, ChangesVotes, core_meant, IsEmpty, votes_meant};
-ghost use Rattle.strict_step.specs.inside.Voting.{change_by, MeansVotes, no_by, no_in_notice, noted_no, refusal_at};
+ghost use Rattle.tree_step.specs.Meant.{ChangesNo, ChangesVotes, core_meant, IsEmpty, MeansVotes, votes_meant};
+ghost use Rattle.strict_step.specs.inside.Voting.{change_by, no_by, no_in_notice, noted_no, refusal_at};
 
 use crate::answers::{plan_answered, plan_decided};
 use commute_ops::Values;
@@ -159,7 +159,8 @@ fn change_by(
     scratch: &mut Scratch,
 ) -> Result<VotePlan, NoMemory>
     requires { scratch.old.wanted ≡ [] }
-    ensures votes { IfOk result (MeansVotes (change_by tree vote.now ops.now body.now (by_tree refusals.now)) scratch.new) }
+    ensures votes { IfOk result (MeansVotes (change_by tree vote.now ops.now body.now (by_tree refusals.now))
+        scratch.new) }
     ensures rest { OnOk result (ChangesVotes scratch.old scratch.new) }
 {
     match vote {

@@ -1,5 +1,5 @@
 -- What a vote changes. Private code alone cites these definitions.
-use Rattle.std.specs.Prelude.{◌≡◌, Bool, List, if◌then◌else◌}
+use Rattle.std.specs.Prelude.{Bool, List, if◌then◌else◌}
 use Rattle.tv_base.specs.declared.numbers.SubNo.{SubNo}
 use Rattle.tv_base.specs.declared.numbers.TreeNo.{TreeNo}
 use Rattle.letter_types.specs.declared.bodies.Body.{Body}
@@ -14,12 +14,9 @@ use Rattle.tree_home.specs.Maps.{by_tree}
 use Rattle.tx_trees.specs.declared.parts.SubOp.{SubOp}
 use Rattle.world_model.specs.Core.{Refusals, lesser}
 use Rattle.script_parts.specs.Wants.{wanted_by}
-use Rattle.tree_step.specs.Meant.{votes_meant}
 use Rattle.tree_step.specs.declared.asked.Request.{Request}
 use Rattle.tree_step.specs.steps.VoteChange.{VoteChange, Stay, Take, Note}
 use Rattle.tree_step.specs.declared.node_core.NodeCore.{NodeCore}
-use Rattle.tree_step.specs.declared.plan.Scratch.{Scratch}
-use Rattle.tree_step.specs.declared.plan.VotePlan.{VotePlan}
 
 -- a negative vote of subtransaction k of tree t comes to the tree's home
 abbrev pub noted_no : TreeNo → SubNo → Cause → Refusals → VoteChange
@@ -47,7 +44,3 @@ change_by t (votes.No cause) ops body rs = no_by cause body rs
 -- a notice of this request comes to the tree's home
 abbrev pub refusal_at : Request → Notice → NodeCore → VoteChange
 refusal_at r notice n = refusal_there (misses r.tree r.sub (open_trees n.parts.homes)) r.tree r.sub notice (by_tree n.refusals)
-
--- with a scratch, this is what becomes of locks or negative votes
-abbrev pub MeansVotes : VoteChange → Scratch → VotePlan → Type 0
-MeansVotes change x v = votes_meant v x ≡ change

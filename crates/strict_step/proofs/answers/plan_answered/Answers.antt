@@ -16,8 +16,7 @@ returns c =
     let y : Scratch = record x { sent = c.push_reply.new.sent } in
     let a = c.args.part.answered in
     subst (λ (p : Plan). IsAnsweredPlan s c.args.votes c.args.part c.args.core.now x y p) (sym c.plan_with.ensures)
-    (answered_planned s c.args.part c.args.votes c.args.core.now x c.push_reply.new.sent c.requires.may
-    c.requires.counted c.requires.apart
+    (answered_planned s c.args.part c.args.votes c.args.core.now x c.push_reply.new.sent c.requires.may c.requires.apart
     (c.in_ok-push_reply.ensures.ok
     ∙ ap (λ (os : List Outgoing). os ++ reply_letters c.client_of.result.0 a) c.in_ok-push_releases.ensures
     ∙ ap (λ (to : ActorNo). x.sent ++ release_letters s a ++ reply_letters to.0 a) c.client_of.ensures))

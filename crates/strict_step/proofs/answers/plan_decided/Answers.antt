@@ -25,7 +25,7 @@ returns c =
     let y = deciding x a told c.push_decides.new.sent c.push.new.self in
     subst (λ (p : Plan). IsDecidedPlan s c.args.votes c.args.part c.args.core.now x y p) (sym c.plan_with-2.ensures)
     (decided_planned s c.args.part c.args.votes c.args.core.now a commit x told c.push_decides.new.sent
-    c.push.new.self c.requires.may c.requires.counted c.requires.apart c.requires.decide c.in-Some.is
+    c.push.new.self c.requires.may c.requires.apart c.requires.decide c.in-Some.is
     c.items.ensures.limit c.in_ok-push_visited.ensures.some c.commits-commit.ensures c.in_ok-push_visited.ensures.nodes
     (c.in_ok-push_decides.ensures ∙ ap (λ (qs : List NodeNo). x.sent
     ++ to_each (Decide a.tree a.version commit) (numbers_of_nodes qs)) c.items.ensures.items)
