@@ -22,8 +22,7 @@ use tx_trees::{Script, TreeKind};
 
 /// Adds the nodes that a tree visits, in order.
 fn push_visited(told: &mut Visited, script: &Script, tree: TreeNo) -> Result<(), NoMemory>
-    requires { told.old ≡ [] }
-    ensures nodes { OnOk result (numbers_of_nodes told.new ≡ visited_by script.now tree.0) }
+    ensures nodes { OnOk result (numbers_of_nodes told.new ≡ numbers_of_nodes told.old ++ visited_by script.now tree.0) }
     ensures some { OnOk result (0 < length (subs_at script.now tree.0) → 0 < length told.new) }
 {
     let subs = script.subs_of(tree);
