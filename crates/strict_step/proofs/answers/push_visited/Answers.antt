@@ -1,8 +1,10 @@
-use Rattle.std.proofs.Common.{◌≡◌, ℕ, ◌<◌, List, length, subst, sym, arith}
+use Rattle.std.proofs.Common.{◌≡◌, ℕ, ◌<◌, List, ◌++◌, length, subst, sym, arith}
 use Rattle.std.specs.List.{AllByRecursion}
+use Rattle.std.proofs.lemmas.List.{length-append}
 use Rattle.std.proofs.lemmas.List.Elements.{recursion_from_All}
 use Rattle.tx_trees.specs.ScriptData.{visited}
 use Rattle.tx_trees.specs.declared.parts.Sub.{Sub}
+use Rattle.tree_step.specs.CoreChanges.{numbers_of_nodes}
 use Rattle.strict_step.proofs.Deciding.{as_many, visited_some}
 use Rattle.strict_step.proofs.answers.push_visited.Goals as goal
 
@@ -15,4 +17,6 @@ returns-clause-some c = λ some.
     (recursion_from_All (λ (x : Sub). x.node.0 < c.args.script.now.nodes) subs c.subs_of-subs.ensures.nodes) in
     let here : 0 < length subs = subst (λ (ys : List Sub). 0 < length ys) (sym c.subs_of-subs.ensures.subs) some in
     let many = visited_some subs c.loop-node.node all here in
-    omega (arith, many, as_many c.loop-node.told (visited subs c.loop-node.node) c.loop-node.invariant)
+    let old = numbers_of_nodes c.args.told.now in
+    let now = visited subs c.loop-node.node in
+    omega (arith, many, length-append old now, as_many c.loop-node.told (old ++ now) c.loop-node.invariant)
