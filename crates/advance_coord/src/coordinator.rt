@@ -63,7 +63,8 @@ impl Coordinator {
         }
     }
 
-    /// Prepares what the coordinator's table says of a message. It takes all memory that the step needs, and changes nothing.
+    /// Prepares what the coordinator's table says of a message. It takes all memory that the step needs, and changes
+    /// nothing.
     pub fn prepare(&self, alloc: Global, letter: &Letter) -> Result<CoordinatorPrepared, NoMemory>
         ensures { IfOk result (IsCoordinatorStepOf (coordinator_row self.now letter.now.from.0 letter.now.body) self.now) }
     {
@@ -202,7 +203,7 @@ impl Coordinator {
         Ok(CoordinatorPrepared::silent(alloc, Next::Acknowledge))
     }
 
-    /// A node has swept, in phase sweeping.
+    /// A node has collected, in phase sweeping.
     fn on_swept(&self, alloc: Global) -> Result<CoordinatorPrepared, NoMemory>
         ensures { IfOk result (IsCoordinatorStepOf (acknowledged (end_advance self.now) self.now) self.now) }
     {

@@ -15,7 +15,7 @@ use Rattle.coord_restart.specs.declared.change.RestartNext.TheVariants.{Stay, Wa
 use Rattle.coord_restart.specs.declared.change.RestartChange.{RestartChange}
 use Rattle.coord_restart.specs.declared.change.RestartPrepared.{RestartPrepared}
 
--- the coordinator with what it keeps of a letter
+-- the coordinator with what it keeps of a message
 abbrev pub with_taken : Taken → Restarting → Restarting
 with_taken Nothing c = c
 with_taken (Row row) c = record c { count = count_with row c.count }

@@ -1,10 +1,10 @@
 // The coordinator that may forget: what it keeps, and its row for each message.
-ghost use Rattle.std.specs.Prelude.{◌≡◌, ◌≤◌, ◌+◌, ◌++◌, replicate, max, true, false, Some, None, IfOk};
+ghost use Rattle.std.specs.Prelude.{◌≡◌, ◌≤◌, ◌+◌, ◌++◌, replicate, None, IfOk};
 ghost use Rattle.letter_types.specs.declared.bodies.Body.TheVariants.{Numbers, Wanted, Obeyed};
 ghost use Rattle.world_model.specs.declared.restarting.RestartPhase.TheVariants.{Recovering, Doing};
 ghost use Rattle.advance_coord.specs.Rounds.{told_numbers};
 ghost use Rattle.coord_restart.specs.RestartChanges.{IsRestartStepOf, MayTakeUp, after_restart_change, after_restart_next, after_row_kept, begin_wanted, caught_up, with_taken, IsRestartRow};
-ghost use Rattle.world_model.specs.Restarting.{start_restarting, restarting_row, forget, enter, enter_telling, orders, target, next_advance, with_wanted, with_advances, version_counted, begin_counting, ask_all_requests, end_counting, by_count, by_counted, end_advancing, after_doing, same_what, is_answer, resume, recover, in_restart_phase};
+ghost use Rattle.world_model.specs.Restarting.{start_restarting, restarting_row, forget, enter_telling, orders, target, version_counted, begin_counting, ask_all_requests, end_counting, by_count, end_advancing, after_doing, same_what, is_answer, resume, recover, in_restart_phase};
 
 use crate::change::{AllTold, RestartNext, RestartPrepared, Taken};
 use crate::tellings::{Tellings, next_advance};
@@ -75,7 +75,8 @@ impl Restarting {
         }
     }
 
-    /// Prepares what the coordinator's table says of a message. It takes all memory that the step needs, and changes nothing.
+    /// Prepares what the coordinator's table says of a message. It takes all memory that the step needs, and changes
+    /// nothing.
     pub fn prepare(&self, alloc: Global, letter: &Letter) -> Result<RestartPrepared, NoMemory>
         ensures { IfOk result (IsRestartStepOf (restarting_row self.now letter.now.from.0 letter.now.body) self.now) }
     {

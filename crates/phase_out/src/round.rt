@@ -1,4 +1,4 @@
-ghost use Rattle.std.specs.Prelude.{ℕ, ◌≡◌, ◌<◌, ◌↔◌, List, length, replicate, slice_set, if◌then◌else◌, ◌&&◌, false, IfOk, IsTrue, Some, None};
+ghost use Rattle.std.specs.Prelude.{ℕ, ◌≡◌, ◌<◌, ◌↔◌, List, length, replicate, slice_set, if◌then◌else◌, ◌&&◌, IfOk, IsTrue, Some, None};
 ghost use Rattle.phase_out.specs.Rounds.{AreRows, IsMissing, new_round, is_of, all_in, number_at, kept_number, pair_agrees, all_below, agrees, verdict_of};
 
 use pair_counters::Row;
