@@ -62,11 +62,7 @@ pub fn ask_requests(alloc: Global, count: &Count, nodes: u8) -> Result<Letters, 
 
 /// Takes a node's row of completions or of requests out of a message. None if the message has none, or if the row would
 /// change nothing: it isn't one of this round, or it is of requests and a row of completions is missing.
-pub fn take_row(
-    alloc: Global,
-    count: &Count,
-    letter: &Letter,
-) -> Result<Option<RowTaken>, NoMemory>
+pub fn take_row(alloc: Global, count: &Count, letter: &Letter) -> Result<Option<RowTaken>, NoMemory>
     ensures { IfOk result (IsLookAtRow (told_numbers letter.now count.now) count.now) }
 {
     let from = NodeNo(letter.from.0);

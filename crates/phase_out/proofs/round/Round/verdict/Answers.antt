@@ -2,7 +2,7 @@ use Rattle.std.proofs.Common.{rules, ◌≡◌, Some}
 use Rattle.std.specs.Prelude.{slice_get}
 use Rattle.phase_out.proofs.Verdicts.{verdict-missing, verdict-differs}
 use Rattle.phase_out.proofs.With.{own-verdict}
-use Rattle.phase_out.proofs.public.Round.verdict.Goals as goal
+use Rattle.phase_out.proofs.round.Round.verdict.Goals as goal
 
 pub returns-in-Some-Some-clause-missing : goal.returns-in-Some-Some-clause-missing
 returns-in-Some-Some-clause-missing c =
