@@ -94,7 +94,7 @@ set_born t xs x born o so is =
 
 keep_born : (t : ℕ) (xs : List Place) (x : Place) (born : Option Version) → born_as t x.act ≡ None → born ≡ version_in t xs
     → born ≡ version_in t (xs ++ x ∷ [])
-keep_born t xs x born so is = sym (or_none born) ∙ set_born t xs x born None so is
+keep_born t xs x born so is = sym (option_or_none born) ∙ set_born t xs x born None so is
 
 -- the act tells nothing of tree t
 pub record IsAside (t : ℕ) (act : Act) : Type 0 where
