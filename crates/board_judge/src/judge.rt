@@ -11,7 +11,7 @@ ghost use Rattle.board_judge.specs.Judged.{HasJudged, IsRefusal, HasTakenEntry, 
 ghost use Rattle.board_judge.specs.declared.noting.NotedStep.{NotedStep};
 ghost use Rattle.board_judge.specs.inside.Rewriting.{AreOfKinds, unaltered};
 ghost use Rattle.board_judge.specs.inside.Steps.{restored};
-ghost use Rattle.board_judge.specs.inside.Trying.{judge_of, refused_for, IsTriedBy};
+ghost use Rattle.board_judge.specs.inside.Trying.{refused_for, IsTriedFrom};
 
 use crate::at_once::does_at_once;
 use crate::noting::{NotedStep, note_acts, restore};
@@ -158,8 +158,8 @@ fn try_entry(
     requires steps { steps.old.items ≡ [] }
     requires trail { trail.old.items ≡ [] }
     requires kinds { AreOfKinds basis.now.script.now worths.old.items }
-    ensures tried { IfOk result (IsTriedBy (judge_of basis.now board.old worths.old.items) entry.now
-        board.new worths.new.items) }
+    ensures tried { IfOk result
+        (IsTriedFrom basis.now board.old worths.old.items entry.now board.new worths.new.items) }
     ensures board { restored steps.new.items board.new ≡ board.old }
     ensures worths { unaltered trail.new.items worths.new.items ≡ worths.old.items }
     ensures kinds { IfOk result (λ broken. IsNone broken → AreOfKinds basis.now.script.now worths.new.items) }
