@@ -1,5 +1,5 @@
 -- What a worker has on its desk.
-use Rattle.std.specs.Prelude.{ℕ, List, [], ◌∷◌, ◌++◌, drop, replicate, slice_index_or, slice_set}
+use Rattle.std.specs.Prelude.{◌≡◌, ℕ, List, [], ◌∷◌, ◌++◌, drop, replicate, slice_index_or, slice_set}
 use Rattle.letter_types.specs.declared.entries.Letter.{Letter}
 use Rattle.letter_types.specs.Postal.{letters_sent}
 use Rattle.stamp_post.specs.Shown.{EnvelopeData, OutboxData, PostId, envelope_data}
@@ -35,3 +35,7 @@ left_in o = drop o.next (letters_sent o.posting)
 abbrev pub letters_held : InHand → List Letter
 letters_held (Unplaced e rest) = e.letter ∷ left_in rest
 letters_held _ = []
+
+-- what is held goes where it belongs: sorted in, it makes of the trays what all of these letters make of the old ones
+abbrev pub WouldGo : PostId → List Letter → List (List EnvelopeData) → List (List EnvelopeData) → InHand → Type 0
+WouldGo post letters old new held = all_sorted_in post (letters_held held) new ≡ all_sorted_in post letters old

@@ -1,6 +1,6 @@
 // What a worker has on its desk.
 ghost use Rattle.std.specs.Prelude.{◌≡◌, [], ◌++◌, option_to_list, IfErr, IfOk, IfSome, IsNone, OnErr, OnOk};
-ghost use Rattle.actor_schedule.specs.Desks.{all_sorted_in, desk_data, empty_trays, left_in, letters_held, sorted_in};
+ghost use Rattle.actor_schedule.specs.Desks.{WouldGo, all_sorted_in, desk_data, empty_trays, left_in, sorted_in};
 ghost use Rattle.actor_schedule.specs.Stops.{KeepsRest};
 
 use crate::stop::InHand;
@@ -82,9 +82,7 @@ impl<P: PostName> Desk<P> {
         ensures hand { self.new.hand ≡ self.old.hand }
         ensures sorted { OnOk result (self.new.trays ≡ all_sorted_in P.post (left_in out) self.old.trays) }
         ensures held { IfErr result (KeepsRest P.post out.posting) }
-        // what is held would go where it belongs
-        ensures rest { IfErr result (λ held. all_sorted_in P.post (letters_held held) self.new.trays
-            ≡ all_sorted_in P.post (left_in out) self.old.trays) }
+        ensures rest { IfErr result (WouldGo P.post (left_in out) self.old.trays self.new.trays) }
     {
         let mut left = out;
         while let Some(envelope) = left.next(post) {

@@ -15,7 +15,7 @@ pub enum Next {
     Stay,
     /// One more advance waits.
     Wait,
-    /// A tree was answered since the round began.
+    /// A transaction was answered since the round began.
     Nudge,
     /// One acknowledgement more.
     Acknowledge,
@@ -49,7 +49,7 @@ impl CoordinatorPrepared {
         &self.out
     }
 
-    /// A change with these letters, and no act.
+    /// A change with these messages, and no act.
     pub(crate) fn sending(
         alloc: Global,
         row: RowChange,
@@ -67,7 +67,7 @@ impl CoordinatorPrepared {
         }
     }
 
-    /// What comes next, with no row and no letter.
+    /// What comes next, with no row and no message.
     pub(crate) fn silent(alloc: Global, next: Next) -> CoordinatorPrepared
         ensures { result ≡ record { change = record { row = NoRow; next = next }; out = letters_alone [] } }
     {

@@ -1,19 +1,18 @@
-// The coordinator: what it keeps, and its row for each letter.
-ghost use Rattle.std.specs.Prelude.{◌≡◌, ◌≤◌, ◌==◌, false, true, IfOk, OnErr};
+// The coordinator: what it keeps, and its row for each message.
+ghost use Rattle.std.specs.Prelude.{◌≡◌, ◌≤◌, ◌==◌, false, true, IfOk};
 ghost use Rattle.tv_base.specs.Outside.{one_more};
-ghost use Rattle.letter_types.specs.Steps.{made};
-ghost use Rattle.letter_types.specs.declared.bodies.Body.TheVariants.{Turn, DoneRow, AskedRow};
-ghost use Rattle.world_model.specs.declared.phase.Phase.TheVariants.{Turning, Counting};
-ghost use Rattle.advance_coord.specs.Changes.{IsCoordinatorStepOf, CoordinatorMayDo, MayKeep, after_coordinator_change, after_next_phase, with_kept_row, IsCoordinatorRow};
-ghost use Rattle.world_model.specs.Coordinator.{start_coordinator, coordinator_row, begin_phase, begin_round, counted_version, in_phase, version, acknowledged, ask_requests, as_counted, end_count, end_advance};
+ghost use Rattle.advance_coord.specs.Changes.{IsCoordinatorStepOf, CoordinatorMayDo, MayKeep, after_coordinator_change, after_next_phase, after_row_taken, begin_turning, with_kept_row};
+ghost use Rattle.advance_coord.specs.Rounds.{told_numbers};
+ghost use Rattle.world_model.specs.Coordinator.{start_coordinator, coordinator_row, begin_phase, begin_round, counted_version, in_phase, acknowledged, ask_requests, end_count, end_advance, go_by};
 
 use crate::change::{CoordinatorPrepared, Next};
 use crate::letters::{to_nodes, with_nodes};
-use letter_types::{Body, Letter, Letters, Row, Step, StepOut, copy_row, one_letter};
+use crate::rounds::{RoundStart, RowTaken, ask_requests, start_round, take_row};
+use letter_types::{Body, Letter, Letters, StepOut, one_letter};
 use phase_out::{Count, Counted, RowChange};
 use std::alloc::Global;
 use std::marker::Model;
-use tv_base::{ActorNo, NoMemory, NodeNo, Version};
+use tv_base::{ActorNo, NoMemory, Version};
 use world_model::Phase;
 
 /// The greatest number of nodes of a coordinator.
@@ -64,45 +63,18 @@ impl Coordinator {
         }
     }
 
-    /// Does with a letter what its row of the coordinator's table says. The result has what goes out twice, as `given`
-    /// and as `kept`. If memory runs out, the coordinator is as it was.
-    pub fn on(&mut self, alloc: Global, letter: &Letter) -> Result<Step, NoMemory>
-        ensures row { IfOk result
-            (λ step. made self.new step.given ≡ coordinator_row self.old letter.now.from.0 letter.now.body) }
-        ensures kept { IfOk result (λ step. step.kept ≡ step.given) }
-        ensures err { OnErr result (self.new ≡ self.old) }
-    {
-        let prepared = self.prepare(alloc, letter)?;
-        let kept = prepared.out().copy(alloc)?;
-        let given = self.done(prepared);
-        Ok(Step { given, kept })
-    }
-
-    /// Prepares what `on` does with a letter. It takes all memory that the step needs, and changes nothing.
+    /// Prepares what the coordinator's table says of a message. It takes all memory that the step needs, and changes
+    /// nothing.
     pub fn prepare(&self, alloc: Global, letter: &Letter) -> Result<CoordinatorPrepared, NoMemory>
         ensures { IfOk result (IsCoordinatorStepOf (coordinator_row self.now letter.now.from.0 letter.now.body) self.now) }
     {
-        let from = NodeNo(letter.from.0);
         match (&letter.body, self.phase) {
             (Body::Advance, Phase::Idle) => self.turn(alloc),
             (Body::Advance, _) => Ok(CoordinatorPrepared::silent(alloc, Next::Wait)),
             (Body::Turned { .. }, Phase::Turning) => self.on_turned(alloc),
-            (
-                Body::DoneRow {
-                    version,
-                    round,
-                    row,
-                },
-                Phase::Counting { reads },
-            ) => self.on_done_row(alloc, reads, from, *version, *round, row),
-            (
-                Body::AskedRow {
-                    version,
-                    round,
-                    row,
-                },
-                Phase::Counting { reads },
-            ) => self.on_asked_row(alloc, reads, from, *version, *round, row),
+            (Body::DoneRow { .. } | Body::AskedRow { .. }, Phase::Counting { reads }) => {
+                self.on_row(alloc, reads, letter)
+            }
             (Body::Nudge, Phase::Counting { .. }) => {
                 Ok(CoordinatorPrepared::silent(alloc, Next::Nudge))
             }
@@ -155,7 +127,7 @@ impl Coordinator {
         self.acks = 0;
     }
 
-    /// A phase begins with a letter to every node.
+    /// A phase begins with a message to every node.
     fn begin_phase(
         &self,
         alloc: Global,
@@ -172,8 +144,7 @@ impl Coordinator {
 
     /// An advancement begins: every node is to turn.
     fn turn(&self, alloc: Global) -> Result<CoordinatorPrepared, NoMemory>
-        ensures { IfOk result (IsCoordinatorStepOf
-            (begin_phase Turning (Turn (version (one_more self.now.update))) self.now) self.now) }
+        ensures { IfOk result (IsCoordinatorStepOf (begin_turning self.now) self.now) }
     {
         let version = Version(self.update.saturating_add(1));
         self.begin_phase(
@@ -199,19 +170,10 @@ impl Coordinator {
     fn begin_round(&self, alloc: Global, reads: bool) -> Result<CoordinatorPrepared, NoMemory>
         ensures { IfOk result (IsCoordinatorStepOf (begin_round reads self.now) self.now) }
     {
-        let version = self.counted(reads);
-        let round = self.count.next_round(alloc, version, self.nodes)?;
-        let body = Body::AskDone {
-            version,
-            round: round.number(),
-        };
-        let sent = to_nodes(alloc, self.nodes, &body)?;
-        Ok(CoordinatorPrepared::sending(
-            alloc,
-            RowChange::NoRow,
-            Next::Count { reads, round },
-            sent,
-        ))
+        let start = start_round(alloc, &self.count, self.counted(reads), self.nodes)?;
+        let RoundStart { round, sent } = start;
+        let next = Next::Count { reads, round };
+        Ok(CoordinatorPrepared::sending(alloc, RowChange::NoRow, next, sent))
     }
 
     /// Whether the next acknowledgement is the phase's last.
@@ -241,7 +203,7 @@ impl Coordinator {
         Ok(CoordinatorPrepared::silent(alloc, Next::Acknowledge))
     }
 
-    /// A node has swept, in phase sweeping.
+    /// A node has collected, in phase sweeping.
     fn on_swept(&self, alloc: Global) -> Result<CoordinatorPrepared, NoMemory>
         ensures { IfOk result (IsCoordinatorStepOf (acknowledged (end_advance self.now) self.now) self.now) }
     {
@@ -279,42 +241,20 @@ impl Coordinator {
         Ok(CoordinatorPrepared::sending(alloc, RowChange::NoRow, next, sent))
     }
 
-    /// A node's row of completions came in, while a round is counted.
-    fn on_done_row(
+    /// A node's row came in, while a round is counted.
+    fn on_row(
         &self,
         alloc: Global,
         reads: bool,
-        from: NodeNo,
-        version: Version,
-        round: u64,
-        row: &Row,
+        letter: &Letter,
     ) -> Result<CoordinatorPrepared, NoMemory>
-        ensures { IfOk result (IsCoordinatorRow (DoneRow version round row.now) (Counting reads) from.0 self.now) }
+        ensures { IfOk result
+            (IsCoordinatorStepOf (go_by reads (told_numbers letter.now self.now.count) self.now) self.now) }
     {
-        let Some(counted) = self.count.look_done(from, version, round, row) else {
+        let Some(taken) = take_row(alloc, &self.count, letter)? else {
             return Ok(CoordinatorPrepared::silent(alloc, Next::Stay));
         };
-        let row = copy_row(alloc, row)?;
-        self.after_row(alloc, reads, RowChange::Done { from, row }, counted)
-    }
-
-    /// A node's row of requests came in, while a round is counted.
-    fn on_asked_row(
-        &self,
-        alloc: Global,
-        reads: bool,
-        from: NodeNo,
-        version: Version,
-        round: u64,
-        row: &Row,
-    ) -> Result<CoordinatorPrepared, NoMemory>
-        ensures { IfOk result (IsCoordinatorRow (AskedRow version round row.now) (Counting reads) from.0 self.now) }
-    {
-        let Some(counted) = self.count.look_asked(from, version, round, row) else {
-            return Ok(CoordinatorPrepared::silent(alloc, Next::Stay));
-        };
-        let row = copy_row(alloc, row)?;
-        self.after_row(alloc, reads, RowChange::Asked { from, row }, counted)
+        self.after_row(alloc, reads, taken)
     }
 
     /// What the count asks for is done, once this row is kept.
@@ -322,12 +262,12 @@ impl Coordinator {
         &self,
         alloc: Global,
         reads: bool,
-        row: RowChange,
-        counted: Counted,
+        taken: RowTaken,
     ) -> Result<CoordinatorPrepared, NoMemory>
-        requires { MayKeep row self.now.count.current }
-        ensures { IfOk result (IsCoordinatorStepOf (as_counted reads counted (with_kept_row row self.now)) self.now) }
+        requires { MayKeep taken.row self.now.count.current }
+        ensures { IfOk result (IsCoordinatorStepOf (after_row_taken reads taken self.now) self.now) }
     {
+        let RowTaken { row, counted } = taken;
         let next = match counted {
             Counted::Goes => Next::Stay,
             Counted::AsksRequests => return self.ask_requests(alloc, row),
@@ -343,12 +283,7 @@ impl Coordinator {
         requires { MayKeep row self.now.count.current }
         ensures { IfOk result (IsCoordinatorStepOf (ask_requests (with_kept_row row self.now)) self.now) }
     {
-        let round = self.count.round();
-        let body = Body::AskAsked {
-            version: round.version(),
-            round: round.number(),
-        };
-        let sent = to_nodes(alloc, self.nodes, &body)?;
+        let sent = ask_requests(alloc, &self.count, self.nodes)?;
         Ok(CoordinatorPrepared::sending(alloc, row, Next::Stay, sent))
     }
 

@@ -6,7 +6,7 @@ use letter_types::{Body, Letters, Outgoing};
 use std::alloc::Global;
 use tv_base::{ActorNo, NoMemory};
 
-/// These letters, and after them one of this body to each node.
+/// These messages, and after them one of this body to each node.
 pub fn with_nodes(
     alloc: Global,
     first: Letters,
@@ -26,7 +26,7 @@ pub fn with_nodes(
     Ok(sent)
 }
 
-/// A letter of this body to each node.
+/// A message of this body to each node.
 pub fn to_nodes(alloc: Global, nodes: u8, body: &Body) -> Result<Letters, NoMemory>
     ensures { IfOk result (λ sent. sent ≡ to_nodes nodes body.now) }
 {

@@ -2,6 +2,7 @@
 use Rattle.std.proofs.Common.{◌≡◌, ◌⊎◌, inl, inr, ◌==◌, ◌&&◌, ◌||◌, ℕ, zero, suc, ◌+◌, ◌<◌, ◌≤◌, Bool, true, false, List, [], ◌∷◌, refl, sym, ap, subst, ◌∙◌, arith, Option, Some, None, take, drop}
 use Rattle.std.specs.Prelude.{if◌then◌else◌, fold, max, nat_le, slice_get}
 use Rattle.std.specs.List.{list_any}
+use Rattle.std.proofs.Math.Bool.{or-false}
 use Rattle.std.proofs.lemmas.Bool.{and_from, and_parts, cases_lt, or_cases, or_left, or_right}
 use Rattle.std.proofs.lemmas.Bool.Decides.{nat_tests}
 use Rattle.std.proofs.lemmas.List.Folds.{list_any-append}
@@ -51,10 +52,7 @@ none_of w lt = grind (arith, nat_tests)
 -- a greatest number is at least w where the first one is, or one of the others
 fold_at_least : (f : Place → ℕ) (w : ℕ) (xs : List Place) (a : ℕ)
     → nat_le w (fold (λ (v : ℕ) (y : Place). max v (f y)) a xs) ≡ (nat_le w a || list_any (λ (y : Place). nat_le w (f y)) xs)
-fold_at_least f w [] a = sym (or_none (nat_le w a)) where
-  or_none : (b : Bool) → (b || false) ≡ b
-  or_none true = refl
-  or_none false = refl
+fold_at_least f w [] a = sym (or-false (nat_le w a))
 fold_at_least f w (y ∷ xs) a =
     fold_at_least f w xs (max a (f y)) ∙ ap (λ (b : Bool). b || list_any (λ (z : Place). nat_le w (f z)) xs) (le_max w a (f y))
     ∙ assoc (nat_le w a) (nat_le w (f y)) (list_any (λ (z : Place). nat_le w (f z)) xs) where

@@ -1,6 +1,6 @@
 -- Which locks of a tree stand, by what it has done and voted and by where it was freed or applied: after acts that are
 -- moves nothing is locked for a tree that was let go. So what stands is what was done or voted and wasn't let go.
-use Rattle.std.proofs.Common.{◌≡◌, inl, inr, ◌==◌, ◌&&◌, ◌||◌, ℕ, ◌<◌, Bool, true, false, List, [], ◌∷◌, ◌++◌, length, refl, sym, ap, subst, ◌∙◌, arith, append_assoc, append-nil, take, drop, take-append-drop}
+use Rattle.std.proofs.Common.{◌≡◌, inl, inr, ◌==◌, ◌&&◌, ◌||◌, ℕ, ◌<◌, Bool, true, false, List, [], ◌∷◌, ◌++◌, length, refl, sym, ap, subst, ◌∙◌, arith, append_assoc, append-nil, take}
 use Rattle.std.specs.Prelude.{if◌then◌else◌, not}
 use Rattle.std.specs.List.{list_any}
 use Rattle.std.proofs.lemmas.Bool.{eqb-true, or_cases}
@@ -21,7 +21,7 @@ use Rattle.board_rules.specs.Stands.{frees, locked_by, modes_after, modes_on, mo
 use Rattle.board_rules.proofs.ActTests.{applies_as_is, applies_as_one, decides_as_is, frees_is, releases}
 use Rattle.board_rules.proofs.Once.{clash}
 use Rattle.board_rules.proofs.Positions.{found_all}
-use Rattle.board_rules.proofs.Wholes.{any_more, whole_all, whole_done, update_not_strict}
+use Rattle.board_rules.proofs.Wholes.{any_first, whole_all, whole_done, update_not_strict}
 use Rattle.board_judge.specs.Settled.{IsMoveRun}
 use Rattle.board_judge.proofs.OneMore.{asked_there, run_before}
 
@@ -51,16 +51,13 @@ freed_whole s xs k p run is =
     let move = subst (IsMoveButCauseAt s [] (take f.place xs) f.item.node) act (run f.place f.item f.is) in
     (move.update, whole_all s f.place xs k move.whole)
 
-any_all : (test : Place → Bool) (i : ℕ) (xs : List Place) → list_any test (take i xs) ≡ true → list_any test xs ≡ true
-any_all test i xs is = ap (list_any test) (sym (take-append-drop i xs)) ∙ any_more test (take i xs) (drop i xs) is
-
 decided_votes : (s : ScriptData) (xs : List Place) (k : ℕ) (commit : Bool) → IsMoveRun s xs → was_decided_as k commit xs ≡ true
     → (j : ℕ) → j < length (subs_at s k) → was_voted k j xs ≡ true
 decided_votes s xs k commit run is j lt =
     let f = found_all (λ (x : Place). decides_as k commit x.act) xs is in
     let act = decides_as_is k commit f.item.act f.passes in
     let move = subst (IsMoveButCauseAt s [] (take f.place xs) f.item.node) act (run f.place f.item f.is) in
-    any_all (λ (x : Place). votes k j x.act) f.place xs (move.voted j lt)
+    any_first (λ (x : Place). votes k j x.act) f.place xs (move.voted j lt)
 
 applied_votes : (s : ScriptData) (xs : List Place) (k p : ℕ) → IsMoveRun s xs → was_applied k p xs ≡ true
     → (is_strict_tree s k ≡ true) × ((j : ℕ) → j < length (subs_at s k) → was_voted k j xs ≡ true)
@@ -70,7 +67,7 @@ applied_votes s xs k p run is =
     let act = applies_as_is k one.0 f.item.act one.1 in
     let move = subst (IsMoveButCauseAt s [] (take f.place xs) f.item.node) act (run f.place f.item f.is) in
     let early = decided_votes s (take f.place xs) k one.0 (run_before s xs f.place run) move.decided in
-    (move.strict, λ j lt. any_all (λ (x : Place). votes k j x.act) f.place xs (early j lt))
+    (move.strict, λ j lt. any_first (λ (x : Place). votes k j x.act) f.place xs (early j lt))
 
 none_of_done : (s : ScriptData) (xs : List Place) (p t j k : ℕ) → (b : Bool) → ((t == k) && updates s k) ≡ b
     → ((updates s k ≡ true) → (is_whole_in s xs k ≡ true)) → was_done t j xs ≡ false → j < length (subs_at s t)

@@ -1,17 +1,17 @@
 // The judge: a history is taken entry by entry, and the first that breaks a rule is refused.
 ghost use Rattle.std.specs.List.{list_all};
-ghost use Rattle.std.specs.Prelude.{◌≡◌, ◌<◌, [], List, length, unsigned_abs, IfErr, IfOk, IsNone, OnErr, OnOk};
+ghost use Rattle.std.specs.Prelude.{◌≡◌, [], List, unsigned_abs, IfErr, IfOk, IsNone, OnErr, OnOk};
 ghost use Rattle.letter_types.specs.declared.entries.Entry.{Entry};
 ghost use Rattle.board_rules.specs.Histories.{places_of};
 ghost use Rattle.board_rules.specs.Right.{has_finished};
 ghost use Rattle.board_judge.specs.Notes.{AreAllWorths};
 ghost use Rattle.commute_ops.specs.Ops.{value_start};
 ghost use Rattle.worth_steps.specs.Kept.{AreWorths};
-ghost use Rattle.board_judge.specs.Judged.{HasJudged, IsRefusal, HasTakenEntry, IsWorthBy};
+ghost use Rattle.board_judge.specs.Judged.{HasJudged, IsRefusal, HasTakenEntry};
 ghost use Rattle.board_judge.specs.declared.noting.NotedStep.{NotedStep};
 ghost use Rattle.board_judge.specs.inside.Rewriting.{AreOfKinds, unaltered};
 ghost use Rattle.board_judge.specs.inside.Steps.{restored};
-ghost use Rattle.board_judge.specs.inside.Trying.{judge_of, refused_for, IsTriedBy};
+ghost use Rattle.board_judge.specs.inside.Trying.{refused_for, IsTriedFrom};
 
 use crate::at_once::does_at_once;
 use crate::noting::{NotedStep, note_acts, restore};
@@ -24,7 +24,7 @@ use commute_ops::{Kind, Value};
 use letter_types::Entry;
 use std::alloc::Global;
 use std::marker::Model;
-use tv_base::{ItemNo, NoMemory, Stamp, Version};
+use tv_base::{NoMemory, Stamp};
 use tx_trees::{ItemRow, Script};
 use worth_steps::Worths;
 
@@ -51,9 +51,9 @@ pub enum Refused {
 /// the Board's tallies and the value of each item at each version. It knows nothing of counters, rounds and locks.
 #[derive(Drop)]
 pub struct Judge<'a> {
-    basis: Basis<'a>,
+    pub(crate) basis: Basis<'a>,
     board: Board,
-    worths: Vec<Worths>,
+    pub(crate) worths: Vec<Worths>,
 }
 
 impl<'a> Model for Judge<'a> {
@@ -128,16 +128,6 @@ impl<'a> Judge<'a> {
         Err(refused)
     }
 
-    /// The value of an item in the serial order at a version, after the entries that were taken. Only a bag needs
-    /// memory.
-    pub fn worth(&self, item: ItemNo, version: Version) -> Result<Value, NoMemory>
-        requires { item.0 < length self.now.script.items }
-        ensures { IfOk result (IsWorthBy self.now item.0 version.0) }
-    {
-        let value = self.worths[item.0 as usize].at(self.basis.alloc, version)?;
-        Ok(value)
-    }
-
     /// Whether the client has finished.
     pub fn is_finished(&self) -> bool
         ensures { (h : List Entry) → HasJudged self.now h → result ≡ has_finished (places_of h) }
@@ -158,8 +148,8 @@ fn try_entry(
     requires steps { steps.old.items ≡ [] }
     requires trail { trail.old.items ≡ [] }
     requires kinds { AreOfKinds basis.now.script.now worths.old.items }
-    ensures tried { IfOk result (IsTriedBy (judge_of basis.now board.old worths.old.items) entry.now
-        board.new worths.new.items) }
+    ensures tried { IfOk result
+        (IsTriedFrom basis.now board.old worths.old.items entry.now board.new worths.new.items) }
     ensures board { restored steps.new.items board.new ≡ board.old }
     ensures worths { unaltered trail.new.items worths.new.items ≡ worths.old.items }
     ensures kinds { IfOk result (λ broken. IsNone broken → AreOfKinds basis.now.script.now worths.new.items) }

@@ -8,6 +8,7 @@
 mod at_once;
 mod judge;
 mod noting;
+mod public;
 mod rewriting;
 mod shown;
 mod standing;

@@ -1,10 +1,9 @@
 // The acts of an entry, noted one after the other on the Board's tallies.
-ghost use Rattle.std.specs.Prelude.{◌≡◌, [], true, false, IfOk, IfSome, IsNone, OnErr};
-ghost use Rattle.letter_types.specs.declared.entries.Entry.{Entry};
+ghost use Rattle.std.specs.Prelude.{◌≡◌, [], false, IfOk, IfSome, IsNone, OnErr};
 ghost use Rattle.board_rules.specs.Histories.{act_at};
 ghost use Rattle.board_rules.specs.Judging.{rule_of};
 ghost use Rattle.board_tallies.specs.TakenBack.{taken_back};
-ghost use Rattle.board_judge.specs.inside.Steps.{restored, AreAllNoted, AreNotedIf, FailsFirst, IsStepOf};
+ghost use Rattle.board_judge.specs.inside.Steps.{restored, AreAllNotedUnless, AreNotedIf, FailsFirst, IsStepIfNoted};
 ghost use Rattle.board_judge.specs.inside.Votes.{IsNoMove};
 
 use crate::votes::{Basis, is_move, is_right_yes};
@@ -20,11 +19,11 @@ pub(crate) struct NotedStep {
     pub(crate) noted: NotedAct,
     // Whether it keeps to the script.
     pub(crate) keeps: bool,
-    // Whether it shows what was worth before the entry, if it is a yes.
+    // Whether it shows what was worth before the entry, if it is a positive vote.
     pub(crate) right: bool,
 }
 
-// Notes an act, if it is a move. None where it isn't, and then the tallies are what they were.
+// Notes an act, if it is a move. None if it isn't, and then the tallies are what they were.
 pub(crate) fn note_act(
     basis: &Basis,
     board: &mut Board,
@@ -32,8 +31,8 @@ pub(crate) fn note_act(
     node: ActorNo,
     act: &Act,
 ) -> Result<Option<NotedStep>, NoMemory>
-    ensures stepped { IfOk result (λ step.
-        IfSome step (IsStepOf basis.now board.old worths.now (act_at node.0 act.now) board.new)) }
+    ensures stepped { IfOk result
+        (IsStepIfNoted basis.now board.old worths.now (act_at node.0 act.now) board.new) }
     ensures not { IfOk result (λ step. IsNone step → IsNoMove basis.now board.old worths.now (act_at node.0 act.now)) }
     ensures back { IfOk result (λ step. IfSome step (λ st. taken_back st.noted board.new ≡ board.old)) }
     ensures same { IfOk result (λ step. IsNone step → board.new ≡ board.old) }
@@ -88,8 +87,8 @@ pub(crate) fn note_acts(
     steps: &mut Vec<NotedStep>,
 ) -> Result<Option<Rule>, NoMemory>
     requires { steps.old.items ≡ [] }
-    ensures noted { IfOk result (λ broken. IsNone broken
-        → AreAllNoted basis.now board.old worths.now entry.now steps.new.items board.new) }
+    ensures noted { IfOk result
+        (AreAllNotedUnless basis.now board.old worths.now entry.now steps.new.items board.new) }
     ensures fails { IfOk result (λ broken. IfSome broken (FailsFirst basis.now board.old worths.now entry.now)) }
     ensures back { restored steps.new.items board.new ≡ board.old }
 {

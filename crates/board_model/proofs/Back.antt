@@ -4,7 +4,7 @@ use Rattle.std.specs.Prelude.{if◌then◌else◌, ◌==◌, ◌&&◌, ◌||◌,
 use Rattle.std.specs.List.{AllByRecursion, cons_option}
 use Rattle.std.specs.Option.{option_map, option_or}
 use Rattle.std.proofs.lemmas.Bool.Decides.{nat_tests}
-use Rattle.std.proofs.lemmas.List.{length-replicate, length-set, reverse-append}
+use Rattle.std.proofs.lemmas.List.{get_or-replicate, length-replicate, length-set, reverse-append}
 use Rattle.std.proofs.lemmas.Bool.{and_left}
 use Rattle.std.proofs.Math.Bool.{and-false, or-false}
 use Rattle.std.proofs.lemmas.Option.{cond_some}
@@ -240,20 +240,15 @@ noted_tells p (Voted u a b) xs rows h =
 noted_tells p (Freed u) xs rows h =
     all_kept 0 xs (record { node = p; act = Freed u }) rows (λ (t : ℕ) (row : Tally) told. untouched t (record { node = p; act = Freed u }) xs row refl (λ (k : ℕ). refl) refl refl told) h
 
-none_marked : (n k : ℕ) → get_or (replicate n false) k false ≡ false
-none_marked zero k = refl
-none_marked (suc n) zero = refl
-none_marked (suc n) (suc k) = none_marked n k
-
 blank_tells : (t n : ℕ) → AllTell t [] (replicate n blank)
 blank_tells t zero = tt
 blank_tells t (suc n) = (
   record {
     born = refl;
     many = length-replicate 64 false;
-    done = λ (k : ℕ) small. none_marked 64 k;
+    done = λ (k : ℕ) small. get_or-replicate 64 k false false small;
     nodes = length-replicate 64 false;
-    applied = λ (p : ℕ) small. none_marked 64 p;
+    applied = λ (p : ℕ) small. get_or-replicate 64 p false false small;
     committed = refl;
   },
   blank_tells (t + 1) n,
@@ -433,7 +428,7 @@ all_kept_closed : (s : ScriptData) (xs : List Place)
     → Keeps (length s.trees) (commit_order s xs) (closed_back s xs (none_closed (length s.trees)))
 all_kept_closed s [] = record {
   count = length-replicate (length s.trees) false;
-  marks = λ (t : ℕ) lt. none_marked (length s.trees) t;
+  marks = λ (t : ℕ) lt. get_or-replicate (length s.trees) t false false lt;
   order = refl;
 }
 all_kept_closed s (x ∷ xs) =

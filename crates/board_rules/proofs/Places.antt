@@ -19,6 +19,10 @@ pub option_or_assoc : {T : Type 0} (a b c : Option T) → option_or (option_or a
 option_or_assoc None b c = refl
 option_or_assoc (Some x) b c = refl
 
+pub option_or_none : {T : Type 0} (o : Option T) → option_or o None ≡ o
+option_or_none None = refl
+option_or_none (Some x) = refl
+
 pub version_in-append : (t : ℕ) (a b : List Place) → version_in t (a ++ b) ≡ option_or (version_in t a) (version_in t b)
 version_in-append t [] b = refl
 version_in-append t (x ∷ a) b =

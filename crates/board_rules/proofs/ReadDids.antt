@@ -1,7 +1,7 @@
 -- The Did of a read tree changes no worth.
 use Rattle.std.proofs.Common.{◌≡◌, ℕ, zero, suc, Bool, true, false, List, [], ◌∷◌, ◌++◌, length, refl, sym, ap, ◌∙◌, arith, Option, Some, None}
 use Rattle.std.specs.Prelude.{if◌then◌else◌, ◌==◌, ◌&&◌, ◌||◌, filter, is_some, slice_get}
-use Rattle.std.specs.Option.{option_or}
+use Rattle.std.proofs.Math.Bool.{or-false}
 use Rattle.std.proofs.lemmas.Bool.Decides.{nat_tests}
 use Rattle.tv_base.specs.declared.numbers.SubNo.{SubNo}
 use Rattle.tv_base.specs.declared.numbers.TreeNo.{TreeNo}
@@ -17,7 +17,7 @@ use Rattle.script_parts.specs.declared.parts.TreeKind.TheVariants.{Update, Read,
 use Rattle.board_rules.specs.Histories.{Place, all_applied, all_done, is_strict_tree, is_complete, is_whole_in, version_in, was_applied, was_born, was_decided_as, was_done}
 use Rattle.board_rules.specs.Serial.{commits_by, commit_order, is_member_in, is_settled_in, is_version, members_in, serial_in, with_closed}
 use Rattle.board_rules.specs.Worth.{worth_after, worth_in}
-use Rattle.board_rules.proofs.Places.{version_in-append, was_applied-append, was_decided_as-append, was_done-append}
+use Rattle.board_rules.proofs.Places.{option_or_none, version_in-append, was_applied-append, was_decided_as-append, was_done-append}
 
 -- a read tree is no update tree, and not strict
 kind_apart : (kind : TreeKind) → is_read kind ≡ true → (is_update kind ≡ false) × (is_strict kind ≡ false)
@@ -33,14 +33,6 @@ tree_apart s t (Some tree) at read =
     let parts = kind_apart tree.kind kind in
     (rw (at, updates) parts.0, rw (at, is_strict_tree) parts.1)
 
-none_behind : {T : Type 0} (a : Option T) → option_or a None ≡ a
-none_behind None = refl
-none_behind (Some x) = refl
-
-or_false : (a : Bool) → (a || false) ≡ a
-or_false true = refl
-or_false false = refl
-
 or_and_false : (a b : Bool) → (a || ((b && false) || false)) ≡ a
 or_and_false true b = refl
 or_and_false false true = refl
@@ -53,12 +45,12 @@ with_did xs node t k values = xs ++ record { node = node; act = Did t k values }
 version_same : (xs : List Place) (node u : ℕ) (t : TreeNo) (k : SubNo) (values : List (ItemNo × Value))
     → version_in u (with_did xs node t k values) ≡ version_in u xs
 version_same xs node u t k values =
-    version_in-append u xs (record { node = node; act = Did t k values } ∷ []) ∙ none_behind (version_in u xs)
+    version_in-append u xs (record { node = node; act = Did t k values } ∷ []) ∙ option_or_none (version_in u xs)
 
 committed_same : (xs : List Place) (node u : ℕ) (t : TreeNo) (k : SubNo) (values : List (ItemNo × Value))
     → was_decided_as u true (with_did xs node t k values) ≡ was_decided_as u true xs
 committed_same xs node u t k values =
-    was_decided_as-append u true xs (record { node = node; act = Did t k values } ∷ []) ∙ or_false (was_decided_as u true xs)
+    was_decided_as-append u true xs (record { node = node; act = Did t k values } ∷ []) ∙ or-false (was_decided_as u true xs)
 
 applied_same : (xs : List Place) (node u : ℕ) (t : TreeNo) (k : SubNo) (values : List (ItemNo × Value)) (ks : List Sub)
     → all_applied u ks (with_did xs node t k values) ≡ all_applied u ks xs
@@ -74,7 +66,7 @@ done_same : (xs : List Place) (node u : ℕ) (t : TreeNo) (k : SubNo) (values : 
 done_same xs node u t k values zero other = refl
 done_same xs node u t k values (suc n) other =
     let one = was_done-append u n xs (record { node = node; act = Did t k values } ∷ [])
-    ∙ ap (λ (b : Bool). was_done u n xs || ((b && (k.0 == n)) || false)) other ∙ or_false (was_done u n xs) in
+    ∙ ap (λ (b : Bool). was_done u n xs || ((b && (k.0 == n)) || false)) other ∙ or-false (was_done u n xs) in
     ap (λ (b : Bool). b && was_done u n (with_did xs node t k values)) (done_same xs node u t k values n other)
     ∙ ap (λ (b : Bool). all_done u n xs && b) one
 

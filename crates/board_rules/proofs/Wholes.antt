@@ -137,6 +137,9 @@ whole_applied s xs t j p strict whole lt node = by (sub_at s t j) refl node wher
 pub any_more : (test : Place → Bool) (xs ys : List Place) → list_any test xs ≡ true → list_any test (xs ++ ys) ≡ true
 any_more test xs ys is = list_any-append test xs ys ∙ or_left (list_any test xs) (list_any test ys) is
 
+pub any_first : (test : Place → Bool) (n : ℕ) (xs : List Place) → list_any test (take n xs) ≡ true → list_any test xs ≡ true
+any_first test n xs is = ap (list_any test) (sym (take-append-drop n xs)) ∙ any_more test (take n xs) (drop n xs) is
+
 done_more : (t n : ℕ) (xs ys : List Place) → all_done t n xs ≡ true → all_done t n (xs ++ ys) ≡ true
 done_more t zero xs ys is = refl
 done_more t (suc n) xs ys is =

@@ -1,9 +1,10 @@
 -- Lists of which one place is changed, and marks.
 use Rattle.std.proofs.Common.{◌≡◌, ◌⊎◌, inl, inr, Option, Some, None, ℕ, zero, suc, ◌<◌, ◌≤◌, Bool, false, List, length, refl, ap, ◌∙◌, slice_set, get_or, arith}
-use Rattle.std.specs.Prelude.{if◌then◌else◌, replicate, slice_get}
+use Rattle.std.specs.Prelude.{if◌then◌else◌, slice_get}
 use Rattle.std.proofs.lemmas.List.{get_or_past, set-get_or, set-set}
 use Rattle.std.proofs.lemmas.Option.{slice_get_past}
 use Rattle.script_parts.specs.declared.parts.Tree.{Tree}
+use Rattle.script_parts.proofs.Lists.{get_replicate}
 use Rattle.std.proofs.lemmas.Bool.Decides.{nat_tests}
 use Rattle.board_tallies.specs.Board.{first_state, is_whole_by, marked_to, state_at, whole_at}
 use Rattle.board_tallies.specs.inside.Marks.{marked_as}
@@ -45,12 +46,6 @@ whole_beyond trees states t (inr past) = by (slice_get trees t) where
 pub set_back_by : {A : Type 0} (xs ys : List A) (i : ℕ) (y was d : A) → ys ≡ slice_set xs i y → was ≡ get_or xs i d
     → slice_set ys i was ≡ xs
 set_back_by xs ys i y was d is so = (λ k. slice_set (is k) i (so k)) ∙ set_back xs i y d
-
--- each of a list of equal ones
-pub get_replicate : {A : Type 0} (n i : ℕ) (a : A) → get_or (replicate n a) i a ≡ a
-get_replicate zero i a = refl
-get_replicate (suc n) zero a = refl
-get_replicate (suc n) (suc i) a = get_replicate n i a
 
 first_unmarked : (of : Marked) (k : ℕ) → get_or (marked_as of first_state) k false ≡ false
 first_unmarked marked.Done k = get_replicate 64 k false

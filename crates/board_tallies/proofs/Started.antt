@@ -5,12 +5,12 @@ use Rattle.std.proofs.lemmas.List.{length-replicate}
 use Rattle.tv_base.specs.declared.numbers.Version.{Version}
 use Rattle.script_parts.specs.ScriptData.{ScriptData, is_read}
 use Rattle.script_parts.specs.declared.parts.Tree.{Tree}
+use Rattle.script_parts.proofs.Lists.{get_replicate}
 use Rattle.board_tallies.specs.Board.{AreMarks, IsBoardOf, ShowsNode, ShowsTree, first_numbers, first_state, is_through, pending_version, pends, unwhole_of}
 use Rattle.board_tallies.specs.inside.Noting.{first_board}
 use Rattle.board_tallies.specs.declared.numbers.Numbers.{Numbers}
 use Rattle.board_tallies.specs.declared.states.TreeState.{TreeState}
 use Rattle.board_tallies.proofs.Counted.{pends_none}
-use Rattle.board_tallies.proofs.Marks.{get_replicate}
 
 no_marks : (n : ℕ) → n ≡ 64 → AreMarks (replicate n false) (λ (k : ℕ). false)
 no_marks n many = record { many = length-replicate n false ∙ many; each = λ (k : ℕ). get_replicate n k false }

@@ -18,7 +18,7 @@ use Rattle.letter_types.specs.declared.votes.Vote.{Vote}
 use Rattle.letter_types.specs.declared.votes.Vote.TheVariants.{Yes, No}
 use Rattle.board_rules.specs.Histories.{Place, applies, born_as, decides_as, does, version_in}
 use Rattle.board_rules.specs.Stands.{frees, votes, votes_yes}
-use Rattle.board_rules.proofs.Places.{version_in-append}
+use Rattle.board_rules.proofs.Places.{option_or_none, version_in-append}
 use Rattle.board_tallies.specs.Board.{AreMarks, ShowsTree, first_state, state_at}
 use Rattle.board_tallies.specs.inside.Noting.{is_yes, news_by, state_with, states_told, states_with}
 use Rattle.board_tallies.specs.declared.states.StateNews.{StateNews}
@@ -85,20 +85,16 @@ set_marks test xs x marks j b lt so are = record {
 }
 
 -- the version of a first birth
-or_none : (o : Option Version) → option_or o None ≡ o
-or_none None = refl
-or_none (Some v) = refl
-
 set_born : (t : ℕ) (xs : List Place) (x : Place) (born o : Option Version) → born_as t x.act ≡ o → born ≡ version_in t xs
     → option_or born o ≡ version_in t (xs ++ x ∷ [])
 set_born t xs x born o so is =
     ap (λ (c : Option Version). option_or c o) is
     ∙ sym
-    (version_in-append t xs (x ∷ []) ∙ ap (λ (c : Option Version). option_or (version_in t xs) c) (or_none (born_as t x.act) ∙ so))
+    (version_in-append t xs (x ∷ []) ∙ ap (λ (c : Option Version). option_or (version_in t xs) c) (option_or_none (born_as t x.act) ∙ so))
 
 keep_born : (t : ℕ) (xs : List Place) (x : Place) (born : Option Version) → born_as t x.act ≡ None → born ≡ version_in t xs
     → born ≡ version_in t (xs ++ x ∷ [])
-keep_born t xs x born so is = sym (or_none born) ∙ set_born t xs x born None so is
+keep_born t xs x born so is = sym (option_or_none born) ∙ set_born t xs x born None so is
 
 -- the act tells nothing of tree t
 pub record IsAside (t : ℕ) (act : Act) : Type 0 where

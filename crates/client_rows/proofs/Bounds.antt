@@ -1,12 +1,10 @@
 -- What every row of the client's table keeps; and what is prepared is a row.
-use Rattle.std.proofs.Common.{if◌then◌else◌, ◌≡◌, ℕ, ◌+◌, ◌≤◌, Bool, true, false, List, [], ◌∷◌, ◌++◌, length, take, drop, refl, sym, ◌∙◌, ap, arith}
+use Rattle.std.proofs.Common.{◌≡◌, ◌≤◌, Bool, true, false, List, length, take, drop, refl, sym, ◌∙◌, ap, arith}
 use Rattle.std.proofs.lemmas.List.{length-set, length-drop, length-replicate}
-use Rattle.tv_base.proofs.Chosen.{if_within}
 use Rattle.tx_trees.specs.ScriptData.{ScriptData}
-use Rattle.tx_trees.specs.declared.parts.ScriptRow.{ScriptRow}
-use Rattle.tx_trees.specs.declared.parts.ScriptRow.TheVariants.{Tree as TreeRow, Advance as AdvanceRow, Settle as SettleRow, Lose as LoseRow}
 use Rattle.letter_types.specs.declared.bodies.Body.{Body}
-use Rattle.world_model.specs.Client.{Client, have_ended, submitted, next_after, client_row, start_client}
+use Rattle.world_model.specs.Client.{Client, next_after, client_row, start_client}
+use Rattle.world_model.proofs.Clients.{few_submitted}
 use Rattle.letter_types.specs.declared.entries.StepOut.{StepOut}
 use Rattle.client_rows.specs.Changes.{IsClientStepOf}
 use Rattle.client_rows.specs.declared.change.ClientChange.TheVariants.{Submit}
@@ -20,16 +18,6 @@ use Rattle.client_rows.specs.declared.news.News.TheVariants.{Begun, Answered, En
 use Rattle.client_rows.specs.declared.news.Heard.{Heard}
 use Rattle.client_rows.specs.declared.news.Heard.TheVariants.{Nothing, Told, Asked}
 use Rattle.client_rows.proofs.Submits.{Submission, row-heard, state_after, submission-row}
-
--- no more rows are submitted than there are
-pub few_submitted : (c : Client) (before rows : List ScriptRow) → submitted c before rows ≤ length rows
-few_submitted c before [] = omega arith
-few_submitted c before (TreeRow t ∷ rows) = omega (arith, few_submitted c (before ++ TreeRow t ∷ []) rows)
-few_submitted c before (AdvanceRow ∷ rows) = omega (arith, few_submitted c (before ++ AdvanceRow ∷ []) rows)
-few_submitted c before (LoseRow ∷ rows) = omega (arith, few_submitted c (before ++ LoseRow ∷ []) rows)
-few_submitted c before (SettleRow ∷ rows) =
-    if_within (have_ended c before) (submitted c (before ++ SettleRow ∷ []) rows + 1) (length (SettleRow ∷ rows))
-    (omega (arith, few_submitted c (before ++ SettleRow ∷ []) rows))
 
 -- the client stays within the rows
 pub next_within : (s : ScriptData) (c : Client) → c.next ≤ length s.rows → next_after s c ≤ length s.rows

@@ -117,7 +117,7 @@ asked_next rows answered at d lt is here =
     place_behind rows answered at d AdvanceRow at.sent at.unanswered (at.asked + 1) lt is here (omega arith) (omega arith) (omega arith) in
     omega (arith, ap (λ (p : RowPlace). p.asked) further, asked_most (at.next + 1) rows)
 
--- the numbers of a place fit where the next row's does
+-- the numbers of a place fit if the next row's does
 pub below_next : (rows : List ScriptRow) (answered : List Bool) (at : RowPlace) → at ≡ place_at rows answered at.next → IsWithin at
 below_next rows answered at here =
     let inside : IsWithin (place_at rows answered at.next) = within rows answered at.next in

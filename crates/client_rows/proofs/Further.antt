@@ -17,7 +17,7 @@ answered-tree : (b : Bool) (u : ℕ) (all : Bool) → all ≡ (u == 0) → (b &&
 answered-tree true u all e = grind (arith, nat_tests)
 answered-tree false u all e = grind (arith, nat_tests)
 
--- each tree is answered exactly where none is unanswered
+-- each tree is answered exactly if none is unanswered
 pub all-answered : (answered : List Bool) (xs : List ScriptRow) → all_answered answered xs ≡ (unanswered_in answered xs == 0)
 all-answered answered [] = refl
 all-answered answered (TreeRow t ∷ xs) =
@@ -31,13 +31,13 @@ pub over-ended : (c : Client) (rows : List ScriptRow) (next : ℕ)
     → have_ended c (take next rows) ≡ is_over (place_at rows c.answered next) c.ended
 over-ended c rows next = ap (λ (b : Bool). b && nat_le (advances_in (take next rows)) c.ended) (all-answered c.answered (take next rows))
 
--- a settle row is passed where all has ended
+-- a settle row is passed if all has ended
 settled : (ended over : Bool) (n : ℕ) → ended ≡ over → not over ≡ false → (if ended then n else 0) ≡ n
 settled true over n same goes = refl
 settled false true n same goes = cc
 settled false false n same goes = cc
 
--- and nowhere else
+-- and only then
 unsettled : (ended over : Bool) (n : ℕ) → ended ≡ over → not over ≡ true → (if ended then n else 0) ≡ 0
 unsettled false over n same stops = refl
 unsettled true true n same stops = cc
@@ -53,7 +53,7 @@ submitted-goes c before LoseRow rows at over goes = refl
 submitted-goes c before SettleRow rows at over goes =
     settled (have_ended c before) (is_over at c.ended) (submitted c (before ++ SettleRow ∷ []) rows + 1) over goes
 
--- where it waits none is
+-- if it waits, none is
 submitted-waits : (c : Client) (before : List ScriptRow) (row : ScriptRow) (rows : List ScriptRow) (at : RowPlace)
     → have_ended c before ≡ is_over at c.ended → waits at c.ended row ≡ true → submitted c before (row ∷ rows) ≡ 0
 submitted-waits c before (TreeRow t) rows at over stops = cc
@@ -80,7 +80,7 @@ furthest-goes answered ended rows at d lt here goes =
     submitted-goes (knowing answered ended) before row rest at (over answered ended rows at here) goes in
     rw (take_more rows at.next d lt, drop_more rows at.next d lt, one) (omega arith)
 
--- where it waits, it has come as far as it may
+-- if it waits, it has come as far as it may
 pub furthest-waits : (answered : List Bool) (ended : ℕ) (rows : List ScriptRow) (at : RowPlace) (d : ScriptRow)
     → at.next < length rows → at ≡ place_at rows answered at.next → waits at ended (get_or rows at.next d) ≡ true
     → furthest answered ended rows at.next ≡ at.next
@@ -90,7 +90,7 @@ furthest-waits answered ended rows at d lt here stops =
     submitted-waits (knowing answered ended) (take at.next rows) row (drop (at.next + 1) rows) at (over answered ended rows at here) stops in
     rw (drop_more rows at.next d lt, none) (omega arith)
 
--- where no row is left too
+-- and also if no row is left
 pub furthest-end : (answered : List Bool) (ended : ℕ) (rows : List ScriptRow) (next : ℕ) → length rows ≤ next
     → furthest answered ended rows next ≡ next
 furthest-end answered ended rows next le = rw (drop_all next rows le) (omega arith)

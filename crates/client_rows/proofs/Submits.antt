@@ -1,4 +1,4 @@
--- What the client does with a letter is its row of the table.
+-- What the client does with a message is its row of the table.
 use Rattle.std.proofs.Common.{if◌then◌else◌, ◌≡◌, ℕ, ◌+◌, ◌-◌, ◌^◌, ◌≤◌, ◌==◌, ◌&&◌, ◌||◌, Bool, true, false, List, [], ◌∷◌, ◌++◌, length, take, drop, refl, sym, ap, ◌∙◌, arith}
 use Rattle.std.specs.Prelude.{max, min, nat_lt, not}
 use Rattle.std.proofs.lemmas.List.{take_all}
@@ -64,7 +64,7 @@ finishes-place s c at here true is =
     ∙ ap (λ (p : RowPlace). is_over p c.ended) (sym here) in
     ap (λ (b : Bool). (at.next == length s.rows) && (b && not c.finished)) (sym over)
 
--- states, letters and acts that are equal make equal rows
+-- states, messages and acts that are equal make equal rows
 same_row : (answered : List Bool) (ended n m : ℕ) (f g : Bool) (sent sent' : List Outgoing) (acts acts' : List Act)
     → n ≡ m → f ≡ g → sent ≡ sent' → acts ≡ acts'
     → ◌≡◌ {A = Out Client}
@@ -72,7 +72,7 @@ same_row : (answered : List Bool) (ended n m : ℕ) (f g : Bool) (sent sent' : L
     (record { state = record { next = m; answered = answered; ended = ended; finished = g }; sent = sent'; acts = acts' })
 same_row answered ended n m f g sent sent' acts acts' next finished letters deeds = cc
 
--- what a call made of news: where the client came to from `c`, and what goes out
+-- what a call made of news: how far the client came from `c`, and what goes out
 pub record Submission (s : ScriptData) (news : News) (c : Client) (at : RowPlace) (ends : Bool) (out : StepOut) : Type 0 where
   pub place : at
       ≡ place_at s.rows (answered_after news c.answered)

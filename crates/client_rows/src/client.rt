@@ -1,6 +1,5 @@
 // The client: it submits the script's rows.
-ghost use Rattle.std.specs.Prelude.{◌≡◌, ◌==◌, ◌&&◌, length, not, IfOk, OnOk, OnErr};
-ghost use Rattle.letter_types.specs.Steps.{made};
+ghost use Rattle.std.specs.Prelude.{◌≡◌, ◌==◌, ◌&&◌, length, not, IfOk};
 ghost use Rattle.world_model.specs.Client.{client_row, start_client, wanted};
 ghost use Rattle.client_rows.specs.Changes.{IsClientStepOf, after_client_change};
 ghost use Rattle.client_rows.specs.Kept.{IsKeptOf, kept_of};
@@ -11,7 +10,7 @@ use crate::change::{ClientChange, ClientPrepared};
 use crate::letters;
 use crate::news::{Heard, News, ended_after, heard_of, mark};
 use crate::places::{RowPlace, furthest, is_over, with_news};
-use letter_types::{Letter, Step, StepOut};
+use letter_types::{Letter, StepOut};
 use std::alloc::Global;
 use std::marker::Model;
 use tv_base::NoMemory;
@@ -23,7 +22,7 @@ pub struct Client {
     at: RowPlace,
     answered: Vec<bool>,
     ended: u64,
-    finished: bool,
+    pub(crate) finished: bool,
 }
 
 impl Model for Client {
@@ -64,39 +63,9 @@ impl Client {
         })
     }
 
-    /// Whether the client has finished: the act Finished was one of its acts.
-    pub fn finished(&self) -> bool
-        ensures { result ≡ self.now.client.finished }
-    {
-        self.finished
-    }
-
-    /// How many of the script's rows are submitted.
-    pub fn next(&self) -> usize
-        ensures { result ≡ self.now.client.next }
-    {
-        self.at.next
-    }
-
-    /// Does with a letter what its row of the client's table says. The script is the one that the client was made with.
-    /// It takes time for the rows that are submitted, and not for those before them. The result has what goes out
-    /// twice, as `given` and as `kept`. If memory runs out, the client is as it was.
-    pub fn on(&mut self, alloc: Global, letter: &Letter, script: &Script) -> Result<Step, NoMemory>
-        requires { IsKeptOf script.now self.old }
-        ensures row { IfOk result
-            (λ step. made self.new.client step.given ≡ client_row script.now self.old.client letter.now.body) }
-        ensures kept { IfOk result (λ step. step.kept ≡ step.given) }
-        ensures still_kept { OnOk result (IsKeptOf script.now self.new) }
-        ensures err { OnErr result (self.new ≡ self.old) }
-    {
-        let prepared = self.prepare(alloc, letter, script)?;
-        let kept = prepared.out().copy(alloc)?;
-        let given = self.done(prepared);
-        Ok(Step { given, kept })
-    }
-
-    /// Prepares what `on` does with a letter, in the same time. It takes all memory that the step needs, and changes
-    /// nothing.
+    /// Prepares what the client's table says of a message. The script is the one that the client was made with. It takes
+    /// time for the rows that are submitted, and not for those before them; it takes all memory that the step needs, and
+    /// changes nothing.
     pub fn prepare(
         &self,
         alloc: Global,

@@ -1,10 +1,10 @@
 // What the client sends and does.
 ghost use Rattle.std.specs.Prelude.{if◌then◌else◌, ◌≡◌, ◌+◌, ◌^◌, ◌<◌, ◌++◌, ◌∷◌, [], IfOk};
 ghost use Rattle.letter_types.specs.declared.acts.Act.TheVariants.{Finished};
-ghost use Rattle.letter_types.specs.declared.bodies.Body.TheVariants.{Wanted};
 ghost use Rattle.tx_trees.specs.Adding.{advances_in};
 ghost use Rattle.world_model.specs.Client.{advance_letter, rows_letters};
 ghost use Rattle.client_rows.specs.News.{sent_first};
+ghost use Rattle.client_rows.specs.inside.Heard.{wanted_letter};
 
 use crate::news::News;
 use letter_types::{Act, Acts, Body, Letters, Outgoing, StepOut, one_letter};
@@ -12,7 +12,7 @@ use std::alloc::Global;
 use tv_base::{ActorNo, NoMemory};
 use tx_trees::{Script, ScriptRow};
 
-/// A letter to the coordinator.
+/// A message to the coordinator.
 fn to_coordinator(script: &Script, body: Body) -> Outgoing
     ensures { result ≡ record { to = record { 0 = script.now.nodes }; body = body } }
 {
@@ -22,7 +22,7 @@ fn to_coordinator(script: &Script, body: Body) -> Outgoing
     }
 }
 
-/// The letters that are sent before those of the rows: the coordinator hears of an answer.
+/// The messages that are sent before those of the rows: the coordinator hears of an answer.
 fn sent_first(alloc: Global, script: &Script, news: News) -> Result<Letters, NoMemory>
     ensures { IfOk result (λ sent. sent ≡ sent_first script.now news) }
 {
@@ -33,7 +33,7 @@ fn sent_first(alloc: Global, script: &Script, news: News) -> Result<Letters, NoM
     Ok(sent)
 }
 
-/// The letter that asks for an advancement, after `asked` earlier ones.
+/// The message that asks for an advancement, after `asked` earlier ones.
 fn advance_letter(script: &Script, asked: u32) -> Body
     requires { asked + 1 < 2 ^ 32 }
     ensures { result ≡ advance_letter script.now asked }
@@ -45,7 +45,7 @@ fn advance_letter(script: &Script, asked: u32) -> Body
     }
 }
 
-/// The letters of these rows, in order, after those that are sent first. Before, `before` advancements were asked for.
+/// The messages of these rows, in order, after those that are sent first. Before, `before` advancements were asked for.
 fn letters(
     alloc: Global,
     script: &Script,
@@ -111,10 +111,7 @@ pub(crate) fn wanted(
     epoch: u64,
     advances: u32,
 ) -> Result<StepOut, NoMemory>
-    ensures { IfOk result (λ out. out ≡ record {
-      sent = record { to = record { 0 = script.now.nodes }; body = Wanted epoch advances } ∷ [];
-      acts = [];
-    }) }
+    ensures { IfOk result (λ out. out ≡ record { sent = wanted_letter script.now epoch advances ∷ []; acts = [] }) }
 {
     let body = Body::Wanted { epoch, advances };
     Ok(StepOut {

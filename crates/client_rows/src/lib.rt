@@ -6,6 +6,7 @@ mod client;
 mod letters;
 mod news;
 mod places;
+mod public;
 
 pub use change::{ClientChange, ClientPrepared};
 pub use client::Client;

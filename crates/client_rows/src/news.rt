@@ -1,4 +1,4 @@
-// What a letter tells the client.
+// What a message tells the client.
 ghost use Rattle.std.specs.Prelude.{◌≡◌, false, get_or};
 ghost use Rattle.client_rows.specs.News.{answered_after, ended_after};
 ghost use Rattle.client_rows.specs.inside.Heard.{news_of_end, heard_of};
@@ -12,7 +12,7 @@ use tx_trees::Script;
 pub enum News {
     /// The run begins.
     Begun,
-    /// This tree, which is one of the script's, is answered.
+    /// This transaction, which is one of the script's, is answered.
     Answered(TreeNo),
     /// One more advancement has ended.
     Ended,
@@ -20,7 +20,7 @@ pub enum News {
     EndedTo(Version),
 }
 
-/// What the client of a script hears from a letter.
+/// What the client of a script hears from a message.
 #[derive(Clone, Copy)]
 pub(crate) enum Heard {
     /// Nothing that matters to it.
@@ -31,7 +31,7 @@ pub(crate) enum Heard {
     Asked(u64),
 }
 
-/// What the client of a script hears from a letter of this body.
+/// What the client of a script hears from a message of this body.
 pub(crate) fn heard_of(script: &Script, body: &Body) -> Heard
     ensures { result ≡ heard_of script.now body.now }
 {
@@ -58,7 +58,7 @@ fn news_of_end(script: &Script, version: Version) -> News
     }
 }
 
-/// Whether a tree is answered once the news is known. False if it isn't there.
+/// Whether a transaction is answered once the news is known. False if it isn't there.
 pub(crate) fn is_answered(answered: &[bool], news: News, tree: TreeNo) -> bool
     ensures { result ≡ get_or (answered_after news answered.now) tree.0 false }
 {

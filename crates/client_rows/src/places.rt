@@ -4,7 +4,7 @@ ghost use Rattle.tx_trees.specs.Adding.{advances_in};
 ghost use Rattle.tx_trees.specs.Valid.{NamesInOrder};
 ghost use Rattle.client_rows.specs.News.{answered_after};
 ghost use Rattle.client_rows.specs.inside.Places.{is_over, furthest_place};
-ghost use Rattle.client_rows.specs.inside.Places.{place_at, furthest, waits};
+ghost use Rattle.client_rows.specs.inside.Places.{place_at, waits};
 
 use crate::news::{News, is_answered};
 use tx_trees::ScriptRow;
@@ -14,9 +14,9 @@ use tx_trees::ScriptRow;
 pub struct RowPlace {
     /// How many rows are submitted.
     pub next: usize,
-    /// How many of them are trees.
+    /// How many of them are transactions.
     pub sent: usize,
-    /// How many of these trees aren't answered.
+    /// How many of these transactions aren't answered.
     pub unanswered: usize,
     /// How many of the rows ask for an advancement.
     pub asked: u32,
@@ -29,7 +29,7 @@ pub(crate) fn is_over(at: RowPlace, ended: u64) -> bool
     at.unanswered == 0 && u64::from(at.asked) <= ended
 }
 
-/// The same place once the news is known: a tree that it answers no longer counts as open.
+/// The same place once the news is known: a transaction that it answers no longer counts as open.
 pub(crate) fn with_news(rows: &[ScriptRow], answered: &[bool], news: News, at: RowPlace) -> RowPlace
     requires names { NamesInOrder 0 (length answered.now) rows.now }
     requires at { at ≡ place_at rows.now answered.now at.next }

@@ -33,7 +33,7 @@ least_low-append [] ys = omega (arith, least_low-fits ys)
 least_low-append (None ∷ xs) ys = least_low-append xs ys
 least_low-append (Some t ∷ xs) ys = omega (arith, least_low-append xs ys)
 
--- where it is looked for one after the other: at first, and at the end
+-- the same, looked for one after the other: at first, and at the end
 pub least_first : (ts : AllTold) → min (2 ^ 64 - 1) (least_low ts) ≡ least_low ts
 least_first ts = omega (arith, least_low-fits ts)
 

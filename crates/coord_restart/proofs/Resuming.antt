@@ -1,4 +1,4 @@
--- What is kept of a letter changes neither to whom orders go nor how many advances are wanted, so the coordinator
+-- What is kept of a message changes neither to whom orders go nor how many advances are wanted, so the coordinator
 -- resumes as its table says.
 use Rattle.std.proofs.Common.{◌≡◌, ◌+◌, ◌∙◌, ap, ℕ, List, [], ◌∷◌, refl}
 use Rattle.std.specs.Prelude.{max}
@@ -42,7 +42,7 @@ same_orders Recovering c d nodes epoch ended = refl
 same_orders (Counting reads) c d nodes epoch ended = refl
 same_orders (Paused reads) c d nodes epoch ended = refl
 
--- the letters with which a phase begins, where the client hears first
+-- the messages with which a phase begins, if the client hears first
 letters_told : (taken : Taken) (phase : RestartPhase) (wanted f : ℕ) (c : Restarting)
     → to_client (Advanced (version f)) c ∷ orders phase (record c { ended = f })
     ≡ (enter_telling phase (with_advances wanted f (with_taken taken c))).sent

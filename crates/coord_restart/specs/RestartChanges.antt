@@ -1,12 +1,13 @@
 -- How the coordinator changes in a step that is prepared, and when it may.
-use Rattle.std.specs.Prelude.{ℕ, ◌≡◌, ◌<◌, ⊤, length, Some}
+use Rattle.std.specs.Prelude.{ℕ, Bool, ◌≡◌, ◌<◌, ⊤, length, max, Some}
 use Rattle.tv_base.specs.Outside.{one_more}
 use Rattle.phase_out.specs.Counts.{MayKeep, count_with, count_begun, nudged}
 use Rattle.letter_types.specs.declared.bodies.Body.{Body}
 use Rattle.letter_types.specs.Steps.{Out, made}
-use Rattle.world_model.specs.Restarting.{Restarting, in_restart_phase, next_epoch, restart_row_of, with_advances, with_told}
+use Rattle.world_model.specs.Restarting.{Restarting, by_counted, enter, in_restart_phase, next_advance, next_epoch, restart_row_of, with_advances, with_told, with_wanted}
 use Rattle.world_model.specs.declared.restarting.RestartPhase.{RestartPhase}
 use Rattle.world_model.specs.declared.restarting.RestartPhase.TheVariants.{Counting}
+use Rattle.advance_coord.specs.declared.rounds.RowTaken.{RowTaken}
 use Rattle.coord_restart.specs.declared.change.Taken.{Taken}
 use Rattle.coord_restart.specs.declared.change.Taken.TheVariants.{Nothing, Row, Nudge, Numbers, Sent}
 use Rattle.coord_restart.specs.declared.change.RestartNext.{RestartNext}
@@ -14,13 +15,25 @@ use Rattle.coord_restart.specs.declared.change.RestartNext.TheVariants.{Stay, Wa
 use Rattle.coord_restart.specs.declared.change.RestartChange.{RestartChange}
 use Rattle.coord_restart.specs.declared.change.RestartPrepared.{RestartPrepared}
 
--- the coordinator with what it keeps of a letter
+-- the coordinator with what it keeps of a message
 abbrev pub with_taken : Taken → Restarting → Restarting
 with_taken Nothing c = c
 with_taken (Row row) c = record c { count = count_with row c.count }
 with_taken Nudge c = record c { count = nudged c.count }
 with_taken (Numbers from t) c = with_told from.0 t c
 with_taken (Sent k) c = record c { heard = Some k }
+
+-- the same, once this many advances are wanted and this many have ended
+abbrev pub caught_up : Taken → ℕ → ℕ → Restarting → Restarting
+caught_up taken wanted ended c = with_advances wanted ended (with_taken taken c)
+
+-- advances up to a number are wanted, in phase idle
+abbrev pub begin_wanted : ℕ → Restarting → Out Restarting
+begin_wanted advance c = enter (next_advance (max c.wanted advance) c.ended) (with_wanted advance c)
+
+-- what the count asks for, once the row is kept
+abbrev pub after_row_kept : Bool → RowTaken → Restarting → Out Restarting
+after_row_kept reads taken c = by_counted reads taken.counted (with_taken (Row taken.row) c)
 
 -- it may keep that
 abbrev pub MayTakeUp : Taken → Restarting → Type 0

@@ -10,14 +10,14 @@ use world_model::{RestartPhase, Told};
 /// What each node told, or None if it hasn't.
 pub type AllTold = Seq<Option<Told>, 0xff>;
 
-/// What is kept of a letter.
+/// What is kept of a message.
 #[derive(Drop)]
 pub enum Taken {
     /// Nothing.
     Nothing,
     /// A node's row, for the count.
     Row(RowChange),
-    /// The news that a tree was answered since the round began.
+    /// The news that a transaction was answered since the round began.
     Nudge,
     /// What a node told, in place of an earlier one.
     Numbers { from: NodeNo, told: Told },
@@ -54,7 +54,7 @@ pub enum RestartNext {
     },
 }
 
-/// What the coordinator does: it keeps what the letter says, and then does what comes next.
+/// What the coordinator does: it keeps what the message says, and then does what comes next.
 #[derive(Drop)]
 pub struct RestartChange {
     pub taken: Taken,
@@ -76,7 +76,7 @@ impl RestartPrepared {
         &self.out
     }
 
-    /// A change with these letters, and no act.
+    /// A change with these messages, and no act.
     pub(crate) fn sending(
         alloc: Global,
         taken: Taken,
@@ -94,7 +94,7 @@ impl RestartPrepared {
         }
     }
 
-    /// A change with no letter.
+    /// A change with no message.
     pub(crate) fn silent(alloc: Global, taken: Taken, next: RestartNext) -> RestartPrepared
         ensures { result ≡ record { change = record { taken = taken; next = next }; out = record { sent = []; acts = [] } } }
     {

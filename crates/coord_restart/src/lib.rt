@@ -3,6 +3,7 @@
 #![tactic(auto)]
 
 mod change;
+mod public;
 mod restarting;
 mod tellings;
 

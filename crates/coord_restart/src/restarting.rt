@@ -1,17 +1,17 @@
-// The coordinator that may forget: what it keeps, and its row for each letter.
-ghost use Rattle.std.specs.Prelude.{◌≡◌, ◌≤◌, ◌+◌, ◌++◌, replicate, max, true, false, Some, None, IfOk, OnErr};
-ghost use Rattle.letter_types.specs.Steps.{made};
-ghost use Rattle.letter_types.specs.declared.bodies.Body.TheVariants.{Numbers, Wanted, Obeyed, DoneRow, AskedRow};
-ghost use Rattle.world_model.specs.declared.restarting.RestartPhase.TheVariants.{Recovering, Doing, Counting};
-ghost use Rattle.coord_restart.specs.RestartChanges.{IsRestartStepOf, MayTakeUp, after_restart_change, after_restart_next, with_taken, IsRestartRow};
-ghost use Rattle.world_model.specs.Restarting.{start_restarting, restarting_row, forget, enter, enter_telling, orders, target, next_advance, with_wanted, with_advances, version_counted, begin_counting, ask_all_requests, end_counting, by_counted, end_advancing, after_doing, same_what, is_answer, resume, recover, in_restart_phase};
+// The coordinator that may forget: what it keeps, and its row for each message.
+ghost use Rattle.std.specs.Prelude.{◌≡◌, ◌≤◌, ◌+◌, ◌++◌, replicate, None, IfOk};
+ghost use Rattle.letter_types.specs.declared.bodies.Body.TheVariants.{Numbers, Wanted, Obeyed};
+ghost use Rattle.world_model.specs.declared.restarting.RestartPhase.TheVariants.{Recovering, Doing};
+ghost use Rattle.advance_coord.specs.Rounds.{told_numbers};
+ghost use Rattle.coord_restart.specs.RestartChanges.{IsRestartStepOf, MayTakeUp, after_restart_change, after_restart_next, after_row_kept, begin_wanted, caught_up, with_taken, IsRestartRow};
+ghost use Rattle.world_model.specs.Restarting.{start_restarting, restarting_row, forget, enter_telling, orders, target, version_counted, begin_counting, ask_all_requests, end_counting, by_count, end_advancing, after_doing, same_what, is_answer, resume, recover, in_restart_phase};
 
 use crate::change::{AllTold, RestartNext, RestartPrepared, Taken};
 use crate::tellings::{Tellings, next_advance};
-use advance_coord::{MOST_NODES, to_nodes, with_nodes};
-use letter_types::{
-    Body, Letter, Letters, Outgoing, Row, Step, StepOut, What, copy_row, one_letter,
+use advance_coord::{
+    MOST_NODES, RoundStart, RowTaken, ask_requests, start_round, take_row, to_nodes, with_nodes,
 };
+use letter_types::{Body, Letter, Letters, Outgoing, StepOut, What, one_letter};
 use phase_out::{Count, Counted, RowChange};
 use std::alloc::Global;
 use std::marker::Model;
@@ -75,21 +75,8 @@ impl Restarting {
         }
     }
 
-    /// Does with a letter what its row of the coordinator's table says. The result has what goes out twice, as `given`
-    /// and as `kept`. If memory runs out, the coordinator is as it was.
-    pub fn on(&mut self, alloc: Global, letter: &Letter) -> Result<Step, NoMemory>
-        ensures row { IfOk result
-            (λ step. made self.new step.given ≡ restarting_row self.old letter.now.from.0 letter.now.body) }
-        ensures kept { IfOk result (λ step. step.kept ≡ step.given) }
-        ensures err { OnErr result (self.new ≡ self.old) }
-    {
-        let prepared = self.prepare(alloc, letter)?;
-        let kept = prepared.out().copy(alloc)?;
-        let given = self.done(prepared);
-        Ok(Step { given, kept })
-    }
-
-    /// Prepares what `on` does with a letter. It takes all memory that the step needs, and changes nothing.
+    /// Prepares what the coordinator's table says of a message. It takes all memory that the step needs, and changes
+    /// nothing.
     pub fn prepare(&self, alloc: Global, letter: &Letter) -> Result<RestartPrepared, NoMemory>
         ensures { IfOk result (IsRestartStepOf (restarting_row self.now letter.now.from.0 letter.now.body) self.now) }
     {
@@ -130,22 +117,9 @@ impl Restarting {
                 },
                 RestartPhase::Doing(doing),
             ) => self.on_obeyed(alloc, *epoch, *what, *version, doing),
-            (
-                Body::DoneRow {
-                    version,
-                    round,
-                    row,
-                },
-                RestartPhase::Counting { reads },
-            ) => self.on_done_row(alloc, reads, from, *version, *round, row),
-            (
-                Body::AskedRow {
-                    version,
-                    round,
-                    row,
-                },
-                RestartPhase::Counting { reads },
-            ) => self.on_asked_row(alloc, reads, from, *version, *round, row),
+            (Body::DoneRow { .. } | Body::AskedRow { .. }, RestartPhase::Counting { reads }) => {
+                self.on_row(alloc, reads, letter)
+            }
             (Body::Nudge, RestartPhase::Counting { .. }) => {
                 Ok(RestartPrepared::silent(alloc, Taken::Nudge, RestartNext::Stay))
             }
@@ -166,7 +140,7 @@ impl Restarting {
         out
     }
 
-    /// Keeps what a letter says.
+    /// Keeps what a message says.
     fn take_up(&mut self, taken: Taken)
         requires { MayTakeUp taken self.old }
         ensures { self.new ≡ with_taken taken self.old }
@@ -252,7 +226,7 @@ impl Restarting {
         Ok(RestartPrepared::sending(alloc, Taken::Nothing, next, sent))
     }
 
-    /// These letters, and after them the orders with which a phase begins, if `ended` advancements have ended.
+    /// These messages, and after them the orders with which a phase begins, if `ended` advancements have ended.
     fn with_orders(
         &self,
         alloc: Global,
@@ -276,8 +250,7 @@ impl Restarting {
 
     /// Advances up to this number are wanted, in phase idle.
     fn advance(&self, alloc: Global, advance: u64) -> Result<RestartPrepared, NoMemory>
-        ensures { IfOk result (IsRestartStepOf
-            (enter (next_advance (max self.now.wanted advance) self.now.ended) (with_wanted advance self.now)) self.now) }
+        ensures { IfOk result (IsRestartStepOf (begin_wanted advance self.now) self.now) }
     {
         let wanted = self.wanted.max(advance);
         let ended = self.ended;
@@ -301,8 +274,7 @@ impl Restarting {
         phase: RestartPhase,
     ) -> Result<RestartPrepared, NoMemory>
         requires { MayTakeUp taken self.now }
-        ensures { IfOk result (IsRestartStepOf
-            (enter_telling phase (with_advances wanted ended (with_taken taken self.now))) self.now) }
+        ensures { IfOk result (IsRestartStepOf (enter_telling phase (caught_up taken wanted ended self.now)) self.now) }
     {
         let version = Version(ended);
         let told = one_letter(alloc, self.client(), Body::Advanced { version })?;
@@ -457,53 +429,26 @@ impl Restarting {
     fn begin_counting(&self, alloc: Global, reads: bool) -> Result<RestartPrepared, NoMemory>
         ensures { IfOk result (IsRestartStepOf (begin_counting reads self.now) self.now) }
     {
-        let version = self.version_counted(reads);
-        let round = self.count.next_round(alloc, version, self.nodes)?;
-        let body = Body::AskDone {
-            version,
-            round: round.number(),
-        };
-        let sent = to_nodes(alloc, self.nodes, &body)?;
+        let start = start_round(alloc, &self.count, self.version_counted(reads), self.nodes)?;
+        let RoundStart { round, sent } = start;
         let next = RestartNext::Count { reads, round };
         Ok(RestartPrepared::sending(alloc, Taken::Nothing, next, sent))
     }
 
-    /// A node's row of completions came in, while a round is counted.
-    fn on_done_row(
+    /// A node's row came in, while a round is counted.
+    fn on_row(
         &self,
         alloc: Global,
         reads: bool,
-        from: NodeNo,
-        version: Version,
-        round: u64,
-        row: &Row,
+        letter: &Letter,
     ) -> Result<RestartPrepared, NoMemory>
-        ensures { IfOk result (IsRestartRow (DoneRow version round row.now) (Counting reads) from.0 self.now) }
+        ensures { IfOk result
+            (IsRestartStepOf (by_count reads (told_numbers letter.now self.now.count) self.now) self.now) }
     {
-        let Some(counted) = self.count.look_done(from, version, round, row) else {
+        let Some(taken) = take_row(alloc, &self.count, letter)? else {
             return Ok(RestartPrepared::silent(alloc, Taken::Nothing, RestartNext::Stay));
         };
-        let row = copy_row(alloc, row)?;
-        self.after_row(alloc, reads, RowChange::Done { from, row }, counted)
-    }
-
-    /// A node's row of requests came in, while a round is counted.
-    fn on_asked_row(
-        &self,
-        alloc: Global,
-        reads: bool,
-        from: NodeNo,
-        version: Version,
-        round: u64,
-        row: &Row,
-    ) -> Result<RestartPrepared, NoMemory>
-        ensures { IfOk result (IsRestartRow (AskedRow version round row.now) (Counting reads) from.0 self.now) }
-    {
-        let Some(counted) = self.count.look_asked(from, version, round, row) else {
-            return Ok(RestartPrepared::silent(alloc, Taken::Nothing, RestartNext::Stay));
-        };
-        let row = copy_row(alloc, row)?;
-        self.after_row(alloc, reads, RowChange::Asked { from, row }, counted)
+        self.after_row(alloc, reads, taken)
     }
 
     /// What the count asks for is done, once this row is kept.
@@ -511,12 +456,12 @@ impl Restarting {
         &self,
         alloc: Global,
         reads: bool,
-        row: RowChange,
-        counted: Counted,
+        taken: RowTaken,
     ) -> Result<RestartPrepared, NoMemory>
-        requires { MayTakeUp (Taken.Row row) self.now }
-        ensures { IfOk result (IsRestartStepOf (by_counted reads counted (with_taken (Taken.Row row) self.now)) self.now) }
+        requires { MayTakeUp (Taken.Row taken.row) self.now }
+        ensures { IfOk result (IsRestartStepOf (after_row_kept reads taken self.now) self.now) }
     {
+        let RowTaken { row, counted } = taken;
         let next = match counted {
             Counted::Goes => RestartNext::Stay,
             Counted::AsksRequests => return self.ask_requests(alloc, row),
@@ -532,12 +477,7 @@ impl Restarting {
         requires { MayTakeUp (Taken.Row row) self.now }
         ensures { IfOk result (IsRestartStepOf (ask_all_requests (with_taken (Taken.Row row) self.now)) self.now) }
     {
-        let round = self.count.round();
-        let body = Body::AskAsked {
-            version: round.version(),
-            round: round.number(),
-        };
-        let sent = to_nodes(alloc, self.nodes, &body)?;
+        let sent = ask_requests(alloc, &self.count, self.nodes)?;
         Ok(RestartPrepared::sending(alloc, Taken::Row(row), RestartNext::Stay, sent))
     }
 

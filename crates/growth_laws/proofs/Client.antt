@@ -3,24 +3,22 @@ use Rattle.std.proofs.Common.{◌≡◌, ℕ, zero, suc, ◌+◌, ◌<◌, ◌�
 use Rattle.std.specs.Prelude.{if◌then◌else◌, ◌-◌, ◌^◌, max, min, nat_lt, slice_set}
 use Rattle.std.proofs.lemmas.Bool.{lt-ltb}
 use Rattle.std.proofs.lemmas.Bool.Decides.{nat_tests}
-use Rattle.std.proofs.lemmas.List.{drop-append-le, length-replicate, length-set, take-append-le}
-use Rattle.tv_base.specs.declared.numbers.TreeNo.{TreeNo}
+use Rattle.std.proofs.lemmas.List.{drop-append-le, take-append-le}
 use Rattle.tv_base.specs.declared.numbers.Version.{Version}
 use Rattle.letter_types.specs.declared.acts.Act.TheVariants.{Finished}
 use Rattle.letter_types.specs.declared.bodies.Body.{Body}
 use Rattle.letter_types.specs.declared.bodies.Body.TheVariants.{Go, Root, Reply, Advance, AdvanceNo, Advanced, Ask, Lose, Wanted}
-use Rattle.letter_types.specs.declared.entries.Entry.{Entry}
 use Rattle.letter_types.specs.declared.entries.Outgoing.{Outgoing}
 use Rattle.letter_types.specs.Steps.{Out, still}
 use Rattle.script_parts.specs.Adding.{advances_in}
 use Rattle.script_parts.specs.Counts.{is_lossy}
-use Rattle.script_parts.specs.ScriptData.{ScriptData, client_of, home_of}
+use Rattle.script_parts.specs.ScriptData.{ScriptData, home_of}
 use Rattle.script_parts.specs.Valid.{IsValid}
 use Rattle.script_parts.specs.declared.parts.ScriptRow.{ScriptRow}
 use Rattle.script_parts.specs.declared.parts.ScriptRow.TheVariants.{Tree as TreeRow, Advance as AdvanceRow, Settle as SettleRow, Lose as LoseRow}
 use Rattle.world_model.specs.Client.{Client, advance_letter, advances_sent, client_finishes, client_row, have_ended, next_after, nudge, rows_letters, submit, submitted, wanted, with_answer, with_end}
 use Rattle.world_model.specs.Counts.{Each}
-use Rattle.world_model.specs.Runs.{client_in}
+use Rattle.world_model.proofs.Clients.{few_submitted}
 use Rattle.world_model.proofs.Fits.{each_drop, each_take}
 use Rattle.world_model.proofs.MeantRows.{NamesTree, rows_name}
 use Rattle.world_model.proofs.Sends.{asked_each}
@@ -28,7 +26,7 @@ use Rattle.growth_laws.specs.Growth.{with_places}
 use Rattle.growth_laws.proofs.More.{More, with_more}
 use Rattle.growth_laws.proofs.Lookups.{home_same}
 use Rattle.growth_laws.proofs.Rows.{IsKnown}
-use Rattle.growth_laws.proofs.Submitting.{submitted_most, submitted_same, submitted_stops}
+use Rattle.growth_laws.proofs.Submitting.{submitted_same, submitted_stops}
 
 -- the same with more places
 abbrev pub out_with_places : ℕ → Out Client → Out Client
@@ -94,7 +92,7 @@ submit_same s m c first valid lt =
     ap (λ (xs : List ScriptRow). rows_letters w (advances_in xs) (take (submitted d (take c.next w.rows) (drop c.next w.rows)) (drop c.next w.rows))) fronts
     ∙ ap (λ (i : ℕ). rows_letters w (advances_sent s c) (take i (drop c.next w.rows))) counts
     ∙ ap (λ (xs : List ScriptRow). rows_letters w (advances_sent s c) (take n xs)) rests
-    ∙ ap (λ (xs : List ScriptRow). rows_letters w (advances_sent s c) xs) (take-append-le n rest m.rows (submitted_most c front rest))
+    ∙ ap (λ (xs : List ScriptRow). rows_letters w (advances_sent s c) xs) (take-append-le n rest m.rows (few_submitted c front rest))
     ∙ rows_same s m (advances_sent s c) (take n rest)
     (each_take (NamesTree s) n rest (each_drop (NamesTree s) c.next s.rows (rows_name s valid))) in
     same_three d (next_after w d) (next_after s c) (client_finishes w (next_after w d) d) (client_finishes s (next_after s c) c)
@@ -170,25 +168,3 @@ goes_on s c (Reply t v answer) =
 goes_on s c (Advanced v) = omega arith
 goes_on s c (Ask e) = asked_each (λ (o : Out Client). c.next ≤ o.state.next) s c e (omega arith) (λ is. omega arith)
 goes_on s c _ = omega arith
-
--- Each tree has its place among the answers.
-reply_places : (s : ScriptData) (c : Client) (t : TreeNo) (test : Bool)
-    → length (if test then submit s (with_answer t.0 c) (nudge s ∷ []) else still c).state.answered ≡ length c.answered
-reply_places s c t true = length-set c.answered t.0 true
-reply_places s c t false = refl
-
-row_places : (s : ScriptData) (c : Client) (b : Body) → length (client_row s c b).state.answered ≡ length c.answered
-row_places s c Go = refl
-row_places s c (Reply t v answer) = reply_places s c t (nat_lt t.0 (length s.trees))
-row_places s c (Advanced v) = refl
-row_places s c (Ask e) = asked_each (λ (o : Out Client). length o.state.answered ≡ length c.answered) s c e refl (λ is. refl)
-row_places s c _ = refl
-
-places_by : (s : ScriptData) (past : List Entry) (e : Entry) (test : Bool) → length (client_in s past).answered ≡ length s.trees
-    → length (if test then (client_row s (client_in s past) e.took.body).state else client_in s past).answered ≡ length s.trees
-places_by s past e true is = row_places s (client_in s past) e.took.body ∙ is
-places_by s past e false is = is
-
-pub places : (s : ScriptData) (past : List Entry) → length (client_in s past).answered ≡ length s.trees
-places s [] = length-replicate (length s.trees) false
-places s (e ∷ past) = places_by s past e (e.actor.0 == client_of s) (places s past)

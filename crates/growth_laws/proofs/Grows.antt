@@ -14,9 +14,10 @@ use Rattle.world_model.specs.Restarting.{Restarting}
 use Rattle.world_model.specs.Runs.{AtClient, AtCoordinator, AtNode, AtRestarting, IsStepRun, MayFollow, Moves, Says, client_in, coordinator_in, keeping_in, restarting_in}
 use Rattle.world_model.specs.Tables.{client_table, coordinator_table, restarting_table}
 use Rattle.world_model.proofs.Meant.{took_meant}
+use Rattle.world_model.proofs.Clients.{answered_places}
 use Rattle.growth_laws.specs.Growth.{HasRowsLeft, with_places}
 use Rattle.growth_laws.proofs.More.{More, with_more}
-use Rattle.growth_laws.proofs.Client.{client_same, goes_on, out_with_places, places}
+use Rattle.growth_laws.proofs.Client.{client_same, goes_on, out_with_places}
 use Rattle.growth_laws.proofs.Nodes.{brings_known, keeping_same}
 use Rattle.growth_laws.proofs.Rows.{known}
 
@@ -53,7 +54,7 @@ client_step : (s : ScriptData) (m : More s) (past : List Entry) (e : Entry) → 
 client_step s m past e valid run same before left =
     ap (λ (c : Client). client_table (with_more s m) c e.took) same.client
     ∙ client_same s m (client_in s past) e.took.body valid (known s e.took.from.0 e.took.to.0 e.took.body (took_meant s past e valid run))
-    (places s past) (omega (arith, before)) left
+    (answered_places s past) (omega (arith, before)) left
 
 -- A node's own step.
 node_step : (s : ScriptData) (m : More s) (past : List Entry) (e : Entry) → IsValid s → IsStepRun s (e ∷ past) → AreSame s m past

@@ -1,5 +1,5 @@
 -- What a core makes of a letter about a tree that the script had before it grew is the same after.
-use Rattle.std.proofs.Common.{◌≡◌, ℕ, ◌<◌, ◌&&◌, ◌∙◌, Bool, true, false, List, [], ◌++◌, length, map, refl, sym, ap, subst, Option, Some, None}
+use Rattle.std.proofs.Common.{◌≡◌, ℕ, ◌<◌, ◌&&◌, ◌∙◌, Bool, false, List, [], ◌++◌, length, map, refl, sym, ap, subst, Option, Some, None}
 use Rattle.std.specs.Prelude.{if◌then◌else◌, nat_lt, slice_get}
 use Rattle.tv_base.specs.declared.numbers.SubNo.{SubNo}
 use Rattle.tv_base.specs.declared.numbers.TreeNo.{TreeNo}
@@ -15,7 +15,6 @@ use Rattle.nc_locks.specs.Locks.{Wanted, marks_on, with_locks}
 use Rattle.script_parts.specs.Counts.{has_strict}
 use Rattle.script_parts.specs.ScriptData.{ScriptData, client_of, subs_at, updates, visited_by}
 use Rattle.script_parts.specs.declared.parts.SubOp.{SubOp}
-use Rattle.script_parts.specs.declared.parts.Tree.{Tree}
 use Rattle.script_parts.specs.declared.parts.TreeKind.{TreeKind}
 use Rattle.script_parts.specs.declared.parts.TreeKind.TheVariants.{Update, Read, Strict}
 use Rattle.tree_home.specs.declared.homes.Answered.{Answered}
@@ -34,7 +33,7 @@ use Rattle.world_model.specs.Updates.{touching}
 use Rattle.world_model.specs.Votes.{vote_of}
 use Rattle.world_model.proofs.MeantRows.{strict_below}
 use Rattle.world_model.proofs.Notices.{answer_noted_tree}
-use Rattle.world_model.proofs.Scripts.{get_below}
+use Rattle.world_model.proofs.Scripts.{update_below}
 use Rattle.growth_laws.proofs.More.{More, with_more}
 use Rattle.growth_laws.proofs.Lookups.{home_same, kind_same, ops_same, strict_same, subs_same, updates_same, visited_same}
 
@@ -50,10 +49,6 @@ IsKnown s (Wake t k) = t.0 < length s.trees
 IsKnown s (Reply t v answer) = t.0 < length s.trees
 IsKnown s _ = Unit {0}
 
-update_there : (s : ScriptData) (t : ℕ) (o : Option Tree) → slice_get s.trees t ≡ o → updates s t ≡ true → t < length s.trees
-update_there s t None at is = absurd (let none : false ≡ true = sym (rw (at, updates) refl) ∙ is in cc none)
-update_there s t (Some u) at is = get_below s.trees t u at
-
 -- a letter that is meant for its addressee names one
 pub known : (s : ScriptData) (from to : ℕ) (body : Body) → IsMeant s from to body → IsKnown s body
 known s from to (Root t) meant = meant.tree
@@ -61,7 +56,7 @@ known s from to (SubLetter t k v) meant = meant.tree
 known s from to (Done t k v notice) meant = meant.tree
 known s from to (Decide t v commit) meant = strict_below s t.0 meant.strict
 known s from to (Decided t v) meant = strict_below s t.0 meant.strict
-known s from to (Release t) meant = update_there s t.0 (slice_get s.trees t.0) refl meant.update
+known s from to (Release t) meant = update_below s t.0 (slice_get s.trees t.0) refl meant.update
 known s from to (Wake t k) meant = meant.tree
 known s from to (Reply t v answer) meant = meant.0
 known s from to _ meant = tt

@@ -1,7 +1,7 @@
 -- The lines of trees that are whole are a front of every later report; and where the client would finish, all are whole.
-use Rattle.std.proofs.Common.{◌≡◌, ℕ, zero, suc, ◌+◌, ◌<◌, ◌==◌, ◌&&◌, ◌||◌, ◌∙◌, Bool, true, false, List, [], ◌∷◌, ◌++◌, drop, length, map, reverse, refl, sym, ap, subst, arith, append_assoc, Option, Some, None}
+use Rattle.std.proofs.Common.{◌≡◌, ℕ, zero, suc, ◌+◌, ◌<◌, ◌==◌, ◌&&◌, ◌||◌, ◌∙◌, Bool, true, false, List, [], ◌∷◌, ◌++◌, drop, length, map, reverse, refl, sym, ap, subst, arith, append_assoc, Option, Some}
 use Rattle.std.specs.Prelude.{if◌then◌else◌, is_some, slice_get}
-use Rattle.std.specs.Option.{option_or}
+use Rattle.std.proofs.Math.Bool.{or-false}
 use Rattle.std.proofs.Math.Seq.{drop-append_seam}
 use Rattle.tv_base.specs.declared.numbers.Version.{Version}
 use Rattle.letter_types.specs.declared.acts.Act.{Act}
@@ -13,7 +13,7 @@ use Rattle.script_parts.specs.declared.parts.Sub.{Sub}
 use Rattle.script_parts.specs.declared.parts.Tree.{Tree}
 use Rattle.board_rules.specs.Histories.{IsWhole, Place, all_applied, all_done, is_complete, is_strict_tree, is_whole_in, places_of, version_in, was_applied, was_born, was_done}
 use Rattle.board_rules.specs.Right.{HasFinished, has_finished}
-use Rattle.board_rules.proofs.Places.{has_finished-append, places_more, version_in-append, was_applied-append, was_done-append}
+use Rattle.board_rules.proofs.Places.{has_finished-append, option_or_none, places_more, version_in-append, was_applied-append, was_done-append}
 use Rattle.headline.proofs.Finished.{whole_at_end}
 use Rattle.report_text.specs.Report.{trees_text}
 use Rattle.audit_laws.specs.ReplyLines.{line_in}
@@ -24,31 +24,23 @@ use Rattle.line_laws.proofs.Lines.{lines_stay}
 
 -- The act Finished makes no tree whole.
 
-or_none : {X : Type 0} (o : Option X) → option_or o None ≡ o
-or_none None = refl
-or_none (Some x) = refl
-
-or_false : (b : Bool) → (b || false) ≡ b
-or_false true = refl
-or_false false = refl
-
 no_other : (b : Bool) → ((b && false) || false) ≡ false
 no_other true = refl
 no_other false = refl
 
 born_same : (k n : ℕ) (xs : List Place) → version_in k (xs ++ record { node = n; act = Finished } ∷ []) ≡ version_in k xs
-born_same k n xs = version_in-append k xs (record { node = n; act = Finished } ∷ []) ∙ or_none (version_in k xs)
+born_same k n xs = version_in-append k xs (record { node = n; act = Finished } ∷ []) ∙ option_or_none (version_in k xs)
 
 done_same : (k n m : ℕ) (xs : List Place) → all_done k m (xs ++ record { node = n; act = Finished } ∷ []) ≡ all_done k m xs
 done_same k n zero xs = refl
 done_same k n (suc m) xs =
     ap (λ (b : Bool). b && was_done k m (xs ++ record { node = n; act = Finished } ∷ [])) (done_same k n m xs)
-    ∙ ap (λ (b : Bool). all_done k m xs && b) (was_done-append k m xs (record { node = n; act = Finished } ∷ []) ∙ or_false (was_done k m xs))
+    ∙ ap (λ (b : Bool). all_done k m xs && b) (was_done-append k m xs (record { node = n; act = Finished } ∷ []) ∙ or-false (was_done k m xs))
 
 one_applied : (k n p : ℕ) (xs : List Place) → was_applied k p (xs ++ record { node = n; act = Finished } ∷ []) ≡ was_applied k p xs
 one_applied k n p xs =
     was_applied-append k p xs (record { node = n; act = Finished } ∷ [])
-    ∙ ap (λ (b : Bool). was_applied k p xs || b) (no_other (n == p)) ∙ or_false (was_applied k p xs)
+    ∙ ap (λ (b : Bool). was_applied k p xs || b) (no_other (n == p)) ∙ or-false (was_applied k p xs)
 
 applied_same : (k n : ℕ) (subs : List Sub) (xs : List Place) → all_applied k subs (xs ++ record { node = n; act = Finished } ∷ []) ≡ all_applied k subs xs
 applied_same k n [] xs = refl

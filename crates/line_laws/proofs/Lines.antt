@@ -13,6 +13,7 @@ use Rattle.script_parts.specs.declared.parts.Sub.{Sub}
 use Rattle.script_parts.specs.declared.parts.Tree.{Tree}
 use Rattle.script_parts.specs.declared.parts.TreeKind.{TreeKind}
 use Rattle.script_parts.specs.declared.parts.TreeKind.TheVariants.{Update, Read, Strict}
+use Rattle.script_parts.proofs.SubsOf.{found_subs}
 use Rattle.board_rules.specs.Histories.{Place, all_done, is_complete, is_strict_tree, places_of, version_in, version_of, was_born}
 use Rattle.board_rules.specs.Outcomes.{acts_in}
 use Rattle.board_rules.specs.Right.{shown}
@@ -33,7 +34,7 @@ use Rattle.growth_laws.proofs.Orders.{front_of_front, front_of_itself}
 use Rattle.line_laws.specs.Lines.{LinesStay}
 use Rattle.line_laws.proofs.Names.{got_same}
 use Rattle.line_laws.proofs.Strict.{outcome_stays}
-use Rattle.line_laws.proofs.Values.{IsInBoth, in_both, places_later, subs_of, values_stay}
+use Rattle.line_laws.proofs.Values.{IsInBoth, in_both, places_later, values_stay}
 
 -- The acts of a run are of its script, and what was done stays done.
 acts_known : (s : ScriptData) (past : List Entry) → IsValid s → IsStepRun s past → AllByRecursion (IsActOf s) (acts_before past)
@@ -83,14 +84,14 @@ lines_stay s t past later k x valid valid' e run run' at whole =
     λ (kind : x.kind ≡ Read).
     let plain : is_strict_tree s k ≡ false = strict_kind s k x at ∙ ap is_strict kind in
     let all : all_done k (length x.subs) (places_of h) ≡ true =
-    subst (λ (ys : List Sub). all_done k (length ys) (places_of h) ≡ true) (subs_of s k x at) (complete_by s k (places_of h) plain parts.1) in
+    subst (λ (ys : List Sub). all_done k (length ys) (places_of h) ≡ true) (found_subs s k x at) (complete_by s k (places_of h) plain parts.1) in
     ap (λ ws. got_text t ws) (values_stay s t past later k x born.0 valid valid' run run' is kind all now then)
     ∙ got_same s t (shown s h born.0.0 (ops_in x.subs)) e in
     let outcomes : x.kind ≡ Strict → outcome_of t (acts_in (places_of hh)) k x.subs ≡ outcome_of s (acts_in (places_of h)) k x.subs =
     λ (kind : x.kind ≡ Strict).
     let more = acts_later past later in
     ap (λ (acts : List Act). outcome_of t acts k x.subs) more.1
-    ∙ outcome_stays s t past k x.subs more.0 valid e run lt (strict_kind s k x at ∙ ap is_strict kind) whole (subs_of s k x at)
+    ∙ outcome_stays s t past k x.subs more.0 valid e run lt (strict_kind s k x at ∙ ap is_strict kind) whole (found_subs s k x at)
     (acts_known s past valid run) in
     line_here t hh k x born.0 then
     ∙ lines_alike x x.kind born.0 (λ w. gets_text t hh w x.subs) (λ w. gets_text s h w x.subs) (outcome_of t (acts_in (places_of hh)) k x.subs)

@@ -1,9 +1,8 @@
 -- How a strict tree came out stays, once it is whole: its decision and its votes are there, and name what the script has.
-use Rattle.std.proofs.Common.{◌≡◌, ℕ, ◌+◌, ◌<◌, ◌==◌, ◌&&◌, ◌||◌, ◌∙◌, Bool, true, false, not, List, [], ◌∷◌, ◌++◌, length, take, drop, reverse, refl, sym, ap, subst, arith, Option, Some, None, take_all}
+use Rattle.std.proofs.Common.{◌≡◌, ℕ, ◌+◌, ◌<◌, ◌==◌, ◌&&◌, ◌||◌, ◌∙◌, Bool, true, false, not, List, [], ◌∷◌, ◌++◌, length, take, reverse, refl, sym, ap, subst, arith, Option, Some, None, take_all}
 use Rattle.std.specs.Prelude.{if◌then◌else◌, codes, is_some}
-use Rattle.std.specs.List.{AllByRecursion, list_any}
+use Rattle.std.specs.List.{AllByRecursion}
 use Rattle.std.specs.Option.{option_and_then, option_map_or, option_or}
-use Rattle.std.proofs.lemmas.List.{take-append-drop}
 use Rattle.tv_base.proofs.Truths.{left_true}
 use Rattle.letter_types.specs.declared.acts.Act.{Act}
 use Rattle.letter_types.specs.declared.acts.Act.TheVariants.{Decided, Finished, Voted}
@@ -23,7 +22,7 @@ use Rattle.board_rules.proofs.ActTests.{applies_as, applies_as_one}
 use Rattle.board_rules.proofs.Positions.{ActAt, act_found, there_all}
 use Rattle.board_rules.proofs.Precedence.{decision}
 use Rattle.board_rules.proofs.Rules.{deciding}
-use Rattle.board_rules.proofs.Wholes.{any_more, whole_applied}
+use Rattle.board_rules.proofs.Wholes.{any_first, whole_applied}
 use Rattle.history_text.specs.TreeNames.{got_text}
 use Rattle.report_text.specs.Outcomes.{decided_text, outcome_of, why_text}
 use Rattle.world_model.specs.Runs.{IsStepRun}
@@ -34,11 +33,6 @@ use Rattle.growth_laws.specs.Growth.{Extends}
 use Rattle.line_laws.proofs.Names.{got_same, why_same}
 
 -- A whole strict tree was decided, once each of its subtransactions had voted.
-
--- what is among the first acts is among all
-any_later : (test : Place → Bool) (n : ℕ) (xs : List Place) → list_any test (take n xs) ≡ true → list_any test xs ≡ true
-any_later test n xs is =
-    subst (λ (ys : List Place). list_any test ys ≡ true) (take-append-drop n xs) (any_more test (take n xs) (drop n xs) is)
 
 record HasDecided (s : ScriptData) (xs : List Place) (k : ℕ) : Type 0 where
   commit : Bool
@@ -59,7 +53,7 @@ has_decided s xs k rules some strict whole =
     record {
       commit = c.0;
       decided = there_all (λ (x : Place). decides_as k c.0 x.act) xs d.place (record { node = d.node; act = d.at.act }) d.at.is d.at.passes;
-      voted = λ j lt. any_later (λ (x : Place). votes k j x.act) d.place xs (votes_there j lt);
+      voted = λ j lt. any_first (λ (x : Place). votes k j x.act) d.place xs (votes_there j lt);
     }
 
 -- So the first decision and the first votes are there, and stay.

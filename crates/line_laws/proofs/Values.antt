@@ -10,12 +10,13 @@ use Rattle.letter_types.specs.declared.acts.Act.{Act}
 use Rattle.letter_types.specs.declared.acts.Act.TheVariants.{Did}
 use Rattle.letter_types.specs.declared.entries.Entry.{Entry}
 use Rattle.script_parts.specs.Counts.{ops_in}
-use Rattle.script_parts.specs.ScriptData.{ScriptData, is_read, ops_of, reads, sub_at, subs_at}
+use Rattle.script_parts.specs.ScriptData.{ScriptData, is_read, ops_of, reads, sub_at}
 use Rattle.script_parts.specs.Valid.{IsValid}
 use Rattle.script_parts.specs.declared.parts.Sub.{Sub}
 use Rattle.script_parts.specs.declared.parts.SubOp.{SubOp}
 use Rattle.script_parts.specs.declared.parts.Tree.{Tree}
 use Rattle.script_parts.specs.declared.parts.TreeKind.TheVariants.{Read}
+use Rattle.script_parts.proofs.SubsOf.{found_subs}
 use Rattle.board_rules.specs.Histories.{Place, all_done, does, places_of, version_of, was_done}
 use Rattle.board_rules.specs.Right.{IsShown, shown, with_worths}
 use Rattle.board_rules.specs.Worth.{worth}
@@ -104,12 +105,9 @@ in_both s t k x e lt at = record {
   there = ap (λ (ts : List Tree). slice_get ts k) e.trees.1 ∙ slice_get-old s.trees e.trees.0 k lt ∙ at;
 }
 
-pub subs_of : (s : ScriptData) (k : ℕ) (x : Tree) → slice_get s.trees k ≡ Some x → subs_at s k ≡ x.subs
-subs_of s k x at = rw (at, subs_at) refl
-
 ops_here : (s : ScriptData) (k n : ℕ) (x : Tree) (y : Sub) → slice_get s.trees k ≡ Some x → slice_get x.subs n ≡ Some y → ops_of s k n ≡ y.ops
 ops_here s k n x y at sub =
-    let found : sub_at s k n ≡ Some y = ap (λ (ys : List Sub). slice_get ys n) (subs_of s k x at) ∙ sub in
+    let found : sub_at s k n ≡ Some y = ap (λ (ys : List Sub). slice_get ys n) (found_subs s k x at) ∙ sub in
     rw (found, ops_of) refl
 
 reads_here : (s : ScriptData) (k : ℕ) (x : Tree) → slice_get s.trees k ≡ Some x → x.kind ≡ Read → reads s k ≡ true

@@ -37,7 +37,7 @@ regrouped true false true = refl
 regrouped true false false = refl
 regrouped false b c = refl
 
--- a lock is another where item and tree are the same, and the mode
+-- a lock is another if item, tree and mode are the same
 is_eq-parts : (l a : Lock)
     → is_eq (lock_order l a) ≡ ((eqb a.item.0 l.item.0 && eqb a.tree.0 l.tree.0) && eqb (mode_rank l.mode)
     (mode_rank a.mode))

@@ -62,7 +62,7 @@ either-other : (x p q : Bool) → x ≡ (p || q) → x ≡ true → p ≡ false 
 either-other x true q e is p' = let no : true ≡ false = p' in cc
 either-other x false q e is p' = sym e ∙ is
 
--- where one of two comes before the other, it comes before all that pass either test
+-- if one of two comes before the other, it comes before all that pass either test
 before-all : (p q test : Lock → Bool) → IsEither p q test → (a b : Lock) → comes_first a b ≡ true
     → ((l : Lock) → p l ≡ true → comes_first a l ≡ true) → ((l : Lock) → q l ≡ true → comes_first b l ≡ true)
     → (l : Lock) → test l ≡ true → comes_first a l ≡ true
@@ -174,7 +174,7 @@ in_way t x m ls r is =
     one_first x.0 (λ q. has_lock q ls && is_in_way t x m q) (on-item t x m ls) r (first_where (is_in_way t x m) ls) is
     (first-found (is_in_way t x m) ls)
 
--- a lock is in the way of a mode where it is another tree's in one of two modes that conflict with it
+-- a lock is in the way of a mode if it is another tree's in one of two modes that conflict with it
 abbrev IsMetByTwo : TreeNo → ItemNo → Mode → Mode → Mode → Type 0
 IsMetByTwo t x m n o = (l : Lock) → is_in_way t x m l ≡ (is_of_other (lock_of t x n) l || is_of_other (lock_of t x o) l)
 

@@ -28,7 +28,7 @@ met_more : (t : TreeNo) (ws : Wanted) (i : ℕ) (d : _) (ls : List Lock) → i <
     (met_in t (drop (i + 1) ws) ls)
 met_more t ws i d ls within = rw (add-one, drop-cons ws i d) refl
 
--- a lock is met at a wanted lock where none was met before
+-- a lock is met at a wanted lock, and none was met before
 pub met_found : (t : TreeNo) (ws : Wanted) (i : ℕ) (d : _) (ls : List Lock) (r : Option Lock) (l : Lock) → i < length ws
     → r ≡ first_where (is_in_way t (get_or ws i d).0 (get_or ws i d).1) ls → r ≡ Some l
     → met_in t ws ls ≡ met_in t (drop i ws) ls
@@ -93,7 +93,7 @@ none-before l (x ∷ xs) (suc i) none =
     let parts = or_parts (is_eq (lock_order l x)) (has_lock l xs) none in
     or_from (is_eq (lock_order l x)) (has_lock l (take i xs)) parts.0 (none-before l xs i parts.1)
 
--- where memory is wanting, no other lock is added
+-- if memory runs out, no other lock is added
 pub added_some : (xs : List Lock) (i : ℕ) (old mid new : List Lock) → AreAdded (take i xs) old mid → new ≡ mid
     → OthersStay xs old new
 added_some xs i old mid new before stays =
@@ -128,7 +128,7 @@ freed_more t a old mid new before own one =
     apart : (l : Lock) → eqb l.tree.0 t.0 ≡ false → is_eq (lock_order l a) ≡ false
     apart l other = apart-by l (is_eq (lock_order l a)) refl other
 
--- where none of the tree's is left, all are freed
+-- if none of the tree's is left, all are freed
 pub freed_all : (t : TreeNo) (old new : List Lock) → AreLocks old → IsPartlyFree t old new → IsLockOf t new None
     → new ≡ without t old
 freed_all t old new up free none =

@@ -51,7 +51,7 @@ inserted-by l a x xs Greater e rest =
     ap (λ (b : Bool). is_eq (lock_order l x) || b) rest
     ∙ or_swapped (is_eq (lock_order l x)) (is_eq (lock_order l a)) (has_lock l xs)
 
--- a lock that is put in is besides the others
+-- a lock that is put in is there beside the others
 pub has-inserted : (l a : Lock) (ls : List Lock)
     → has_lock l (insert_key lock_order ls a) ≡ (is_eq (lock_order l a) || has_lock l ls)
 has-inserted l a [] = refl

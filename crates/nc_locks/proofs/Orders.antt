@@ -73,7 +73,7 @@ turned p q r =
     ∙ and_turned (is_eq p) (is_eq q) (is_eq r)
     ∙ sym (is_eq-then p (ordering_then q r) ∙ ap (λ (b : Bool). is_eq p && b) (is_eq-then q r))
 
--- locks are the same by tree where they are by item
+-- locks are the same by tree if they are by item
 pub owned_same : (a b : Lock) → is_eq (owned_order (owned a) (owned b)) ≡ is_eq (lock_order a b)
 owned_same a b =
     turned (nat_cmp a.item.0 b.item.0) (nat_cmp (mode_rank a.mode) (mode_rank b.mode)) (nat_cmp a.tree.0 b.tree.0)

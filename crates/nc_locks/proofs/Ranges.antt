@@ -98,7 +98,7 @@ at-place a b e =
 place-at : (a b : Lock) → a.item.0 ≡ b.item.0 → mode_rank a.mode ≡ mode_rank b.mode → same_place a b ≡ true
 place-at a b x m = grind (arith, nat_tests)
 
--- the first place for a lock where another is
+-- the first place for a lock, if another one is there
 abbrev pub lowest : Lock → Lock
 lowest own = record { item = own.item; mode = own.mode; tree = record { 0 = 0 } }
 
@@ -256,7 +256,7 @@ comes-over t u v m n a b = grind (arith, nat_tests)
 above-apart : (a b : ℕ) → b ≤ a → (a ≡ b → ⊥) → b < a
 above-apart a b le apart = omega arith
 
--- where a tree is lesser, the first of these is the first of all others
+-- if a tree is lesser, the first of these is the first of all others
 pub first_other : (own : Lock) (ls : List Lock) (l : Lock) → IsFirst (is_of_lesser own) ls (Some l)
     → IsFirst (is_of_other own) ls (Some l)
 first_other own ls l is =
@@ -284,7 +284,7 @@ both-sides : (h a b w : Bool) → w ≡ (a || b) → (h && w) ≡ ((h && a) || (
 both-sides true a b w e = e
 both-sides false a b w e = refl
 
--- where none is, it is the first of those of greater trees
+-- if none is, it is the first of those of greater trees
 pub first_above : (own : Lock) (ls : List Lock) (r : Option Lock) → IsFirst (is_of_lesser own) ls None
     → IsFirst (is_of_greater own) ls r → IsFirst (is_of_other own) ls r
 first_above own ls r none is =

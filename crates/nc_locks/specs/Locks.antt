@@ -1,4 +1,4 @@
--- The locks that are, and what a tree that needs more of them meets.
+-- The locks of all trees, and what a tree that needs more of them meets.
 use Rattle.std.specs.Prelude.{ℕ, Bool, not, ◌&&◌, ◌||◌, ◌==◌, nat_lt, nat_le, List, [], ◌∷◌, map, if◌then◌else◌, Option, Some, None}
 use Rattle.std.specs.List.{filter, list_any}
 use Rattle.std.specs.List.Sorted.{IsStrictlySortedBy}
@@ -19,11 +19,11 @@ lock_order a b =
     ordering_then (nat_cmp a.item.0 b.item.0)
     (ordering_then (nat_cmp (mode_rank a.mode) (mode_rank b.mode)) (nat_cmp a.tree.0 b.tree.0))
 
--- locks that are are a list in this order, each once
+-- the locks of all trees are a list in this order, each once
 abbrev pub AreLocks : List Lock → Type 0
 AreLocks ls = IsStrictlySortedBy lock_order ls
 
--- the lock is
+-- the lock is there
 abbrev pub has_lock : Lock → List Lock → Bool
 has_lock l ls = list_any (λ a. is_eq (lock_order l a)) ls
 

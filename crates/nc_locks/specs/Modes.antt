@@ -1,9 +1,9 @@
--- The modes in which trees have items, and which of them go together.
+-- The modes in which trees lock items, and which of them are compatible.
 use Rattle.std.specs.Prelude.{ℕ, Bool, true, false}
 use Rattle.nc_locks.specs.declared.modes.Mode.{Mode}
 use Rattle.nc_locks.specs.declared.modes.Mode.TheVariants.{Mark, Look, Hold}
 
--- a mark goes with a mark and a look with a look; every other pair conflicts
+-- marks are compatible with marks, and looks with looks; every other pair conflicts
 abbrev pub modes_conflict : Mode → Mode → Bool
 modes_conflict Mark Mark = false
 modes_conflict Look Look = false

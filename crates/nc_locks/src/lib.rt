@@ -6,6 +6,7 @@ mod laws;
 mod locks;
 mod modes;
 mod owned;
+mod public;
 mod search;
 
 pub use laws::{lists_are_their_locks, locks_come_and_go, met_is_the_first};

@@ -1,8 +1,8 @@
 ghost use Rattle.std.specs.Prelude.{◌≡◌, ◌<◌, true, [], ◌∷◌, length, IfOk, OnOk, OnErr};
-ghost use Rattle.nc_locks.specs.Locks.{AreLocks, first_where, has_lock, is_in_way, lock_of, locks_after, marks_on, met_in, with_locks, without};
+ghost use Rattle.nc_locks.specs.Locks.{AreLocks, first_where, has_lock, is_in_way, lock_of, met_in, with_locks, without};
 ghost use Rattle.nc_locks.specs.inside.Found.{AreAdded, AreTaken, IsFirst, IsLockOf, OthersStay, is_of_other, missing_locks};
 
-use crate::modes::{Lock, Met, Mode, WantedLocks, first_of};
+use crate::modes::{Lock, Met, Mode, first_of};
 use crate::owned::Owned;
 use crate::search::{add, lock_of, other_lock, take_away};
 use std::alloc::Global;
@@ -16,7 +16,7 @@ use tv_base::{ItemNo, NoMemory, TreeNo};
 /// an item has, at most one of each mode is passed over.
 #[derive(Drop)]
 pub struct Locks {
-    alloc: Global,
+    pub(crate) alloc: Global,
     by_item: BTreeSet<Lock>,
     by_tree: BTreeSet<Owned>,
 }
@@ -64,36 +64,6 @@ impl Locks {
             }
         }
         None
-    }
-
-    /// Marks items for a tree. If a look or a hold of another tree is in the way, it gets none, and the answer is that
-    /// of `met`. If no memory is found, the locks are unchanged.
-    pub fn try_mark(&mut self, tree: TreeNo, items: &[ItemNo]) -> Result<Option<Met>, NoMemory>
-        ensures met { IfOk result (λ met. met ≡ met_in tree (marks_on items.now) self.old) }
-        ensures locks { IfOk result (λ met. self.new ≡ locks_after met tree (marks_on items.now) self.old) }
-        ensures err { OnErr result (self.new ≡ self.old) }
-    {
-        let wanted = marks(self.alloc, items)?;
-        self.try_strict(tree, wanted.items())
-    }
-
-    /// Takes locks for a tree, each an item with a mode. If a lock of another tree conflicts, it gets none, and the
-    /// answer is that of `met`. If no memory is found, the locks are unchanged.
-    pub fn try_strict(
-        &mut self,
-        tree: TreeNo,
-        wanted: &[(ItemNo, Mode)],
-    ) -> Result<Option<Met>, NoMemory>
-        ensures met { IfOk result (λ met. met ≡ met_in tree wanted.now self.old) }
-        ensures locks { IfOk result (λ met. self.new ≡ locks_after met tree wanted.now self.old) }
-        ensures err { OnErr result (self.new ≡ self.old) }
-    {
-        let met = self.met(tree, wanted);
-        if met.is_some() {
-            return Ok(met);
-        }
-        self.take(tree, wanted)?;
-        Ok(None)
     }
 
     /// Frees every lock of a tree. The others stay. It needs no memory.
@@ -221,15 +191,4 @@ impl Locks {
     {
         lock_of(&self.by_item, &self.by_tree, tree)
     }
-}
-
-/// Marks on items.
-fn marks(alloc: Global, items: &[ItemNo]) -> Result<WantedLocks, NoMemory>
-    ensures { IfOk result (λ wanted. wanted ≡ marks_on items.now) }
-{
-    let mut wanted = WantedLocks::new(alloc);
-    for item in items {
-        wanted.push((*item, Mode::Mark))?;
-    }
-    Ok(wanted)
 }

@@ -1,6 +1,6 @@
 -- What a node counts.
 use Rattle.std.specs.Prelude.{ℕ, ◌≡◌, ◌+◌, ◌<◌, ◌⊎◌, max}
-use Rattle.pair_counters.specs.Numbers.{Numbers, none, from_version}
+use Rattle.pair_counters.specs.Numbers.{Numbers, none, asked_one, done_one, from_version}
 
 -- the number of nodes, the lowest version that is counted, and the numbers
 pub record Counts : Type 0 where
@@ -11,6 +11,13 @@ pub record Counts : Type 0 where
 -- nothing counted, from version 0 on
 abbrev pub no_counts : ℕ → Counts
 no_counts n = record { nodes = n; low = 0; numbers = none }
+
+-- one request of version v to node q more, and one completion from it
+abbrev pub one_asked : ℕ → ℕ → Counts → Counts
+one_asked v q c = record c { numbers = asked_one v q c.numbers }
+
+abbrev pub one_done : ℕ → ℕ → Counts → Counts
+one_done v q c = record c { numbers = done_one v q c.numbers }
 
 -- nothing is kept of versions below v
 abbrev pub dropped_below : ℕ → Counts → Counts

@@ -1,7 +1,7 @@
 ghost use Rattle.std.specs.Prelude.{ℕ, ◌≡◌, ◌+◌, ◌%◌, ◌<◌, ◌≤◌, ◌^◌, length, slice_get, IfOk};
 ghost use Rattle.tv_base.specs.declared.numbers.TheConstants.{MOST_NODES};
-ghost use Rattle.pair_counters.specs.Numbers.{asked_one, done_one, more_at, numbers_of, from_version};
-ghost use Rattle.pair_counters.specs.Counts.{no_counts, dropped_below};
+ghost use Rattle.pair_counters.specs.Numbers.{more_at, numbers_of, from_version};
+ghost use Rattle.pair_counters.specs.Counts.{dropped_below, no_counts, one_asked, one_done};
 ghost use Rattle.pair_counters.specs.Rows.{counts_of, is_kept, number_in_row, asked_in, done_in};
 ghost use Rattle.pair_counters.specs.inside.NoNumbers.{no_numbers};
 
@@ -57,29 +57,13 @@ impl Counters {
         }
     }
 
-    /// The number of nodes.
-    pub fn nodes(&self) -> u8
-        ensures nodes { result ≡ (counts_of self.now).nodes }
-        ensures most { result ≤ MOST_NODES }
-    {
-        self.nodes
-    }
-
-    /// Makes sure that version `v` can be counted. Nothing changes, and no memory is needed, since the rows are there.
-    pub fn room(&mut self, v: Version)
-        requires from { (counts_of self.old).low ≤ v.0 }
-        requires up_to { v.0 ≤ (counts_of self.old).low + 2 }
-        ensures { self.new ≡ self.old }
-    {}
-
     /// Counts one more request of version `v` to a node.
     pub fn asked(&mut self, v: Version, to: NodeNo)
         requires from { (counts_of self.old).low ≤ v.0 }
         requires up_to { v.0 ≤ (counts_of self.old).low + 2 }
         requires node { to.0 < (counts_of self.old).nodes }
         requires below { (counts_of self.old).numbers.asked v.0 to.0 < 2 ^ 63 }
-        ensures { counts_of self.new
-            ≡ record (counts_of self.old) { numbers = asked_one v.0 to.0 (counts_of self.old).numbers } }
+        ensures { counts_of self.new ≡ one_asked v.0 to.0 (counts_of self.old) }
     {
         count_asked(&mut self.rows, v, to);
     }
@@ -90,26 +74,9 @@ impl Counters {
         requires up_to { v.0 ≤ (counts_of self.old).low + 2 }
         requires node { from.0 < (counts_of self.old).nodes }
         requires below { (counts_of self.old).numbers.done v.0 from.0 < 2 ^ 63 }
-        ensures { counts_of self.new
-            ≡ record (counts_of self.old) { numbers = done_one v.0 from.0 (counts_of self.old).numbers } }
+        ensures { counts_of self.new ≡ one_done v.0 from.0 (counts_of self.old) }
     {
         count_done(&mut self.rows, v, from);
-    }
-
-    /// How many requests of version `v` went to a node. 0 if the version isn't counted.
-    pub fn asked_at(&self, v: Version, to: NodeNo) -> u64
-        requires { to.0 < (counts_of self.now).nodes }
-        ensures { result ≡ (counts_of self.now).numbers.asked v.0 to.0 }
-    {
-        asked_number(&self.rows, self.low, v, to)
-    }
-
-    /// How many completions of version `v` came from a node. 0 if the version isn't counted.
-    pub fn done_at(&self, v: Version, from: NodeNo) -> u64
-        requires { from.0 < (counts_of self.now).nodes }
-        ensures { result ≡ (counts_of self.now).numbers.done v.0 from.0 }
-    {
-        done_number(&self.rows, self.low, v, from)
     }
 
     /// The requests of version `v`, by node. Zeros if the version isn't counted.
@@ -170,8 +137,7 @@ fn count_asked(rows: &mut [CounterRow], v: Version, to: NodeNo)
     requires three { length rows.old ≡ 3 }
     requires node { to.0 < MOST_NODES }
     requires below { number_in_row (λ r. r.asked) to.0 (slice_get rows.old (v.0 % 3)) < 2 ^ 63 }
-    ensures asked { (low : ℕ) → low ≤ v.0 → v.0 ≤ low + 2
-        → asked_in low rows.new ≡ more_at v.0 to.0 (asked_in low rows.old) }
+    ensures asked { (l : ℕ) → l ≤ v.0 → v.0 ≤ l + 2 → asked_in l rows.new ≡ more_at v.0 to.0 (asked_in l rows.old) }
     ensures done { (low : ℕ) → low ≤ v.0 → v.0 ≤ low + 2 → done_in low rows.new ≡ done_in low rows.old }
 {
     let row = &mut rows[(v.0 % VERSIONS) as usize];
@@ -185,8 +151,7 @@ fn count_done(rows: &mut [CounterRow], v: Version, from: NodeNo)
     requires node { from.0 < MOST_NODES }
     requires below { number_in_row (λ r. r.done) from.0 (slice_get rows.old (v.0 % 3)) < 2 ^ 63 }
     ensures asked { (low : ℕ) → low ≤ v.0 → v.0 ≤ low + 2 → asked_in low rows.new ≡ asked_in low rows.old }
-    ensures done { (low : ℕ) → low ≤ v.0 → v.0 ≤ low + 2
-        → done_in low rows.new ≡ more_at v.0 from.0 (done_in low rows.old) }
+    ensures done { (l : ℕ) → l ≤ v.0 → v.0 ≤ l + 2 → done_in l rows.new ≡ more_at v.0 from.0 (done_in l rows.old) }
 {
     let row = &mut rows[(v.0 % VERSIONS) as usize];
     let number = row.done[from.0 as usize];

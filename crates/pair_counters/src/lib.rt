@@ -3,6 +3,7 @@
 
 mod counters;
 mod laws;
+mod public;
 
 pub use counters::{Counters, Row};
 pub use laws::three_versions_are_counted;

@@ -32,7 +32,7 @@ holds-at n k f all lt false is = absurd (let fails = all_below-false n k f lt is
 pub holds-below : (n k : ℕ) (f : ℕ → Bool) → all_below n f ≡ true → k < n → f k ≡ true
 holds-below n k f all lt = holds-at n k f all lt (f k) refl
 
--- where a row is missing, and where none is
+-- some row is missing; no row is
 pub missing-somewhere : (ks : NodeRows) → all_in ks ≡ false → (p : ℕ) × IsMissing ks p
 missing-somewhere [] fails = absurd (let h = fails in cc)
 missing-somewhere (None ∷ ks) fails = (0, refl)
@@ -44,7 +44,7 @@ missing-nowhere (None ∷ ks) p all missing = cc
 missing-nowhere (Some row ∷ ks) zero all missing = cc
 missing-nowhere (Some row ∷ ks) (suc p) all missing = missing-nowhere ks p all missing
 
--- no answer where a row is missing
+-- no answer if a row is missing
 none-missing : (r : RoundData) → all_in r.dones ≡ true → all_in r.askeds ≡ true → MissesRow r → ⊥
 none-missing r da aa m =
     elim m.1 [ inl d ↦ missing-nowhere r.dones m.0 da d | inr a ↦ missing-nowhere r.askeds m.0 aa a ]
@@ -77,7 +77,7 @@ differs-none r all d =
     let differs = ne_eqb (kept_number r.askeds p q) (kept_number r.dones q p) differ in
     cc
 
--- false where none is missing and a pair differs
+-- false if none is missing and a pair differs
 differs-when : (r : RoundData) (a b c : Bool) → all_in r.dones ≡ a → all_in r.askeds ≡ b → agrees r.nodes r.askeds r.dones ≡ c → (verdict_of r ≡ Some false) ↔ ((MissesRow r → ⊥) × PairDiffers r)
 differs-when r true true true da aa ag =
     rw (da, aa, ag) ((λ h. absurd (let e = h in cc)), (λ d. absurd (differs-none r ag d.1)))
@@ -93,7 +93,7 @@ differs-when r false b c da aa ag =
 pub verdict-differs : (r : RoundData) → (verdict_of r ≡ Some false) ↔ ((MissesRow r → ⊥) × PairDiffers r)
 verdict-differs r = differs-when r (all_in r.dones) (all_in r.askeds) (agrees r.nodes r.askeds r.dones) refl refl refl
 
--- all are in exactly where none is missing
+-- all are in exactly if none is missing
 in-when : (ks : NodeRows) (b : Bool) → all_in ks ≡ b → IsTrue (all_in ks) ↔ ((p : ℕ) → IsMissing ks p → ⊥)
 in-when ks true all = rw all ((λ _ p missing. missing-nowhere ks p all missing), (λ _. refl))
 in-when ks false fails =

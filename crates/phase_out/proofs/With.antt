@@ -5,7 +5,7 @@ use Rattle.std.proofs.lemmas.List.{take_rest}
 use Rattle.std.proofs.Math.Numerals.{add-one}
 use Rattle.phase_out.specs.Rounds.{NodeRows, RoundData, all_in, verdict_of}
 
--- where one row is put, none is missing where none of the others is
+-- if one row is put in, none is missing if none of the others is
 in-around : (ks : NodeRows) (p : ℕ) (row : List ℕ) → p < length ks
     → all_in (slice_set ks p (Some row)) ≡ (all_in (take p ks) && all_in (drop (suc p) ks))
 in-around [] p row lt = absurd (omega (arith, lt))

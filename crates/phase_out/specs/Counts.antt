@@ -50,7 +50,7 @@ MayKeep (Asked from row) r = IsRowOf from.0 row r
 abbrev pub nudged : CountData → CountData
 nudged c = record c { flag = true }
 
--- what the verdict asks for: where a pair differs another round begins at once if a tree was answered, else with the
+-- what the verdict asks for: if a pair differs, another round begins at once if a tree was answered, else with the
 -- next nudge
 abbrev pub by_verdict : Option Bool → Bool → Counted
 by_verdict None flag = Goes
@@ -78,8 +78,8 @@ count_stays c = record { state = c; counted = Goes }
 abbrev pub count_takes : RowChange → CountData → CountOut
 count_takes row c = record { state = count_with row c; counted = counted_with row c }
 
--- what a look at a row says that the count is told so: nothing comes of it; or it is kept, as the round may, and asks
--- for this
+-- what a look at a row finds is what the count is told: nothing comes of it; or the row is kept, as the round may, and
+-- asks for this
 abbrev pub IsLookAt : RowChange → CountData → CountOut → Option Counted → Type 0
 IsLookAt row c told looked = MatchOption looked (told ≡ count_stays c)
     (λ counted. (told ≡ record { state = count_with row c; counted = counted }) × MayKeep row c.current)

@@ -4,6 +4,7 @@
 #![tactic(auto)]
 
 mod count;
+mod public;
 mod round;
 
 pub use count::{Count, Counted, RowChange};

@@ -1,5 +1,5 @@
-ghost use Rattle.std.specs.Prelude.{ℕ, ◌≡◌, ◌<◌, ◌↔◌, List, length, replicate, slice_set, if◌then◌else◌, ◌&&◌, false, IfOk, IsNone, IsTrue, Some, None};
-ghost use Rattle.phase_out.specs.Rounds.{AreRows, MissesRow, PairDiffers, IsMissing, new_round, is_of, all_in, number_at, kept_number, pair_agrees, all_below, agrees, verdict_of};
+ghost use Rattle.std.specs.Prelude.{ℕ, ◌≡◌, ◌<◌, ◌↔◌, List, length, replicate, slice_set, if◌then◌else◌, ◌&&◌, IfOk, IsTrue, Some, None};
+ghost use Rattle.phase_out.specs.Rounds.{AreRows, IsMissing, new_round, is_of, all_in, number_at, kept_number, pair_agrees, all_below, agrees, verdict_of};
 
 use pair_counters::Row;
 use std::alloc::Global;
@@ -7,7 +7,7 @@ use std::marker::Model;
 use tv_base::{NoMemory, NodeNo, Seq, Version};
 
 /// A row for each node, or None if it is missing.
-type NodeRows = Seq<Option<Row>, 0xff>;
+pub(crate) type NodeRows = Seq<Option<Row>, 0xff>;
 
 /// A round of counting one version: the rows of numbers that the nodes have sent, first of completions, then of
 /// requests.
@@ -17,7 +17,7 @@ pub struct Round {
     number: u64,
     nodes: u8,
     dones: NodeRows,
-    askeds: NodeRows,
+    pub(crate) askeds: NodeRows,
 }
 
 impl Model for Round {
@@ -73,13 +73,6 @@ impl Round {
         self.number
     }
 
-    /// The number of nodes.
-    pub fn nodes(&self) -> u8
-        ensures { result ≡ self.now.nodes }
-    {
-        self.nodes
-    }
-
     /// Whether a row from this sender, with this version and round number, belongs to this round: both are the round's,
     /// the sender is one of its nodes, and the row has a number for each node.
     pub fn is_of(&self, from: NodeNo, version: Version, number: u64, row: &Row) -> bool
@@ -125,21 +118,6 @@ impl Round {
         ensures { (row : List ℕ) → result ≡ all_in (slice_set self.now.dones from.0 (Some row)) }
     {
         all_others_in(self.dones.items(), from.0 as usize)
-    }
-
-    /// Whether every pair of nodes agrees: the one has sent as many requests to the other as the other has completions
-    /// from it. None exactly if a row is missing.
-    pub fn verdict(&self) -> Option<bool>
-        ensures verdict { result ≡ verdict_of self.now }
-        ensures missing { IsNone result ↔ MissesRow self.now }
-        ensures differs { (result ≡ Some false) ↔ ((MissesRow self.now → ⊥) × PairDiffers self.now) }
-    {
-        match self.askeds.items().first() {
-            None => Some(true),
-            Some(None) => None,
-            // The row of node 0 in place of itself.
-            Some(Some(row)) => self.verdict_with(NodeNo(0), row),
-        }
     }
 
     /// The verdict as it would be with this row of requests from a node, in place of an earlier one.

@@ -44,7 +44,7 @@ worths_get s h v x row e =
     let same : 0 + x ≡ x = omega arith in
     by_number_get (λ (n : ℕ). worth s h n v) 0 s.items x row e ∙ ap (λ (n : ℕ). Some (worth s h n v)) same
 
--- an operation's text, where its item is there
+-- an operation's text, if its item is there
 op_text : (s : ScriptData) (h : List Entry) (v : ℕ) (kind : TreeKind) (node : ℕ) (o : SubOp) (r : Option ItemRow)
     → slice_get s.items o.item.0 ≡ r → OpAt kind node o r
     → found_text (slice_get s.items o.item.0) (slice_get (worths s h v) o.item.0) ≡ get_text (item_text s o.item.0) (worth s h o.item.0 v)
@@ -82,7 +82,7 @@ subs_text s h v kind k (x ∷ ss) all =
     ∙ ap (λ (z : List ℕ). got_text s (shown s h v x.ops) ++ z) rest
     ∙ sym (shown-append s h v x.ops (ops_in ss))
 
--- a text at each place, which is that of the read tree there, where the list begins with tree t
+-- a text at each place, which is that of the read tree there, if the list begins with tree t
 abbrev pub ReadFrom : ScriptData → List Entry → ℕ → List Tree → List (List ℕ) → Type 0
 ReadFrom s h t ts texts =
     (i : ℕ) (tree : Tree) (v : Version) → slice_get ts i ≡ Some tree → is_read tree.kind ≡ true → version_of h (t + i) ≡ Some v

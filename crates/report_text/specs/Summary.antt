@@ -34,7 +34,7 @@ part_of SumKind SumKind w = number_of w
 part_of TopKind TopKind w = number_of w
 part_of _ _ w = pos 0
 
--- what the items of a kind are worth at version v, added up, where the list begins with item x
+-- what the items of a kind are worth at version v, added up, if the list begins with item x
 abbrev pub kind_worth : ScriptData → List Entry → Kind → ℕ → ℕ → List ItemRow → ℤ
 kind_worth s h kind v x [] = pos 0
 kind_worth s h kind v x (row ∷ rows) = part_of kind row.kind (worth s h x v) +ℤ kind_worth s h kind v (x + 1) rows

@@ -65,7 +65,7 @@ fn push_decided(
     }
 }
 
-// The values of the yes votes, by subtransaction.
+// The values of the positive votes, by subtransaction.
 fn push_all_got(text: &mut Text, script: &Script, voters: Voters) -> Result<(), NoMemory>
     ensures { OnOk result (text.new ≡ text.old ++ votes_text script.now voters.entry) }
 {
@@ -87,7 +87,7 @@ fn push_vote_got(text: &mut Text, script: &Script, vote: Option<&Vote>) -> Resul
     }
 }
 
-// The cause of the first subtransaction that votes no.
+// The cause of the first negative vote, by subtransaction.
 fn first_cause<'a>(voters: Voters<'a>) -> Option<&'a Cause>
     ensures { option_copied result ≡ cause_from voters.entry.ballot.now voters.entry.number.0 0 voters.entry.tree.now.subs }
 {

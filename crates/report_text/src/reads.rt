@@ -90,7 +90,7 @@ fn push_ops(
     Ok(())
 }
 
-// The item's value after its name, where both are there.
+// The item's value after its name, if both are there.
 #[tactic(auto, using(history_text::proofs::Plain::item_ascii))]
 fn push_found(
     text: &mut Text,

@@ -17,9 +17,9 @@ use tx_trees::Script;
 /// The report of a script's run. It has a line for each transaction that is begun, with its version. For a read the
 /// line also has the value of each get at that version in the serial order of the whole history; for a strict
 /// transaction whether it commits, with the values of its votes, or aborts, with the cause of the first subtransaction
-/// that voted no. Then comes a line for each node, with its update and read version after the script's advancements,
-/// and a line for each item, with its value at the version that reads are shown, and at the next one if it is written
-/// there.
+/// that voted negatively. Then comes a line for each node, with its update and read version after the script's
+/// advancements, and a line for each item, with its value at the version that reads are shown, and at the next one if
+/// it is written there.
 ///
 /// One pass over the history gives the transactions' versions, which of them are complete, and the serial order; if one
 /// is strict, a second pass gives the votes and decisions. One pass over the serial order carries the values of all
@@ -58,7 +58,7 @@ pub fn report(alloc: Global, script: &Script, history: &History) -> Result<Text,
     Ok(text)
 }
 
-// The history in which trees may have voted, which only strict ones do: this one, or `none` where no tree is strict.
+// The history in which trees may have voted, which only strict ones do: this one, or `none` if no tree is strict.
 fn history_of_votes<'a>(script: &Script, history: &'a History, none: &'a History) -> &'a History
     requires { none.now ≡ [] }
     ensures { result.now ≡ history_of_votes script.now history.now }

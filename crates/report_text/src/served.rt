@@ -29,7 +29,7 @@ pub(crate) struct Shown {
     pub(crate) later: Balances,
 }
 
-// What the run shows after so many advancements.
+// What the run shows after `advances` advancements.
 pub(crate) fn shown_of(
     alloc: Global,
     run: Run,

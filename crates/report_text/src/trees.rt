@@ -91,7 +91,7 @@ fn push_read(text: &mut Text, name: &Name, version: Version, values: &Text) -> R
     text.push_all(b"\n")
 }
 
-// The lines of so many nodes after so many advancements.
+// The lines of `nodes` nodes after `advances` advancements.
 pub(crate) fn push_nodes(text: &mut Text, advances: u32, nodes: u8) -> Result<(), NoMemory>
     ensures { OnOk result (text.new ≡ text.old ++ nodes_text advances nodes) }
 {

@@ -6,7 +6,7 @@ use commute_ops::{Amount, Value};
 use sim_runner::Picks;
 use std::alloc::Global;
 use std::test::Fail;
-use tv_base::{ActorNo, ItemNo, NodeNo, Version};
+use tv_base::{ActorNo, ItemNo, NoMemory, Version};
 use tx_trees::Script;
 use world_core::{ActorState, NodeState, World};
 
@@ -69,18 +69,24 @@ fn a_late_older_step_writes_the_newer_version_too(rt: HostRuntime) -> Result<(),
 const ONE_TREE: &[u8] =
     b"nodes,2\nitem,a,0,sum,10\nitem,b,1,sum,0\nupdate,t,0\nadd,a,5\nsub,0,1\nadd,b,7\n";
 
-/// The requests of version 1 that a node counts to another, and the completions from it.
-fn counted(script: &Script, world: &World, node: u8, other: u8) -> Option<(u64, u64)>
+/// The requests of version 1 that node 0 counts to another node, and the completions from it.
+fn counted(
+    alloc: Global,
+    script: &Script,
+    world: &World,
+    other: usize,
+) -> Result<Option<(u64, u64)>, NoMemory>
     requires { IsWorldOf script.now world.now }
 {
-    let counters = node_at(script, world, node)?.counters();
-    if other >= counters.nodes() {
-        return None;
+    let Some(state) = node_at(script, world, 0) else {
+        return Ok(None);
+    };
+    let asked = state.counters().asked_row(alloc, Version(1))?;
+    let done = state.counters().done_row(alloc, Version(1))?;
+    match (asked.items().get(other), done.items().get(other)) {
+        (Some(asked), Some(done)) => Ok(Some((*asked, *done))),
+        _ => Ok(None),
     }
-    Some((
-        counters.asked_at(Version(1), NodeNo(other)),
-        counters.done_at(Version(1), NodeNo(other)),
-    ))
 }
 
 /// Whether the client has finished.
@@ -100,8 +106,8 @@ fn counted_after(alloc: Global, entries: u32) -> Result<([Option<(u64, u64)>; 2]
     let mut oldest = Picks::new(&[], None);
     take(&script, &mut world, &mut oldest, entries)?;
     let counts = [
-        counted(&script, &world, 0, 0),
-        counted(&script, &world, 0, 1),
+        counted(alloc, &script, &world, 0)?,
+        counted(alloc, &script, &world, 1)?,
     ];
     Ok((counts, has_finished(&script, &world)))
 }

@@ -1,5 +1,5 @@
 -- Lists that grow at their end, or whose last is changed: what holds of all, what is distinct, and what is a sum.
-use Rattle.std.proofs.Common.{◌≡◌, ◌<◌, ◌≤◌, ◌+◌, ℕ, Bool, true, false, List, [], ◌∷◌, ◌++◌, get_or, length, refl, ap, ◌∙◌, subst, arith, length-append}
+use Rattle.std.proofs.Common.{◌≡◌, ◌<◌, ◌≤◌, ◌+◌, ℕ, zero, suc, Bool, true, false, List, [], ◌∷◌, ◌++◌, get_or, length, replicate, refl, ap, ◌∙◌, subst, arith, length-append}
 use Rattle.std.specs.Prelude.{◌||◌, Option, Some, None, slice_get}
 use Rattle.std.specs.List.{AllByRecursion, IsDistinct, list_any}
 use Rattle.std.proofs.Math.Seq.{get_or-append_seam}
@@ -24,6 +24,12 @@ pub slice_get-seam : {A : Type 0} (xs ys : List A) (y : A) → slice_get (xs ++ 
 slice_get-seam xs ys y =
     let more : length xs < length (xs ++ y ∷ ys) = omega (arith, length-append xs (y ∷ ys)) in
     slice_get-get_or (xs ++ y ∷ ys) (length xs) y more ∙ ap Some (get_or-append_seam xs y ys y)
+
+-- each of a list of equal ones
+pub get_replicate : {A : Type 0} (n i : ℕ) (a : A) → get_or (replicate n a) i a ≡ a
+get_replicate zero i a = refl
+get_replicate (suc n) zero a = refl
+get_replicate (suc n) (suc i) a = get_replicate n i a
 
 -- what holds of all
 

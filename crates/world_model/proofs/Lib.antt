@@ -6,6 +6,7 @@ pub mod Bags
 pub mod Bridge
 pub mod Calls
 pub mod Cases
+pub mod Clients
 pub mod Coordination
 pub mod CoreCounts
 pub mod CoreSends

@@ -2,7 +2,7 @@
 use Rattle.std.proofs.Common.{◌≡◌, ℕ, zero, suc, ◌<◌, List, ◌∷◌, length, refl, subst, arith, Some, [], None, Option, false, sym, true, ◌∙◌}
 use Rattle.std.specs.Prelude.{slice_get}
 use Rattle.tv_base.proofs.ByPlace.{get_some}
-use Rattle.script_parts.specs.ScriptData.{ScriptData, subs_at, sub_at, node_of, ops_of}
+use Rattle.script_parts.specs.ScriptData.{ScriptData, subs_at, sub_at, node_of, ops_of, updates}
 use Rattle.script_parts.specs.declared.parts.Sub.{Sub}
 use Rattle.script_parts.specs.declared.parts.Tree.{Tree}
 use Rattle.world_model.specs.Named.{is_strict_at, tree_kind_at}
@@ -49,6 +49,11 @@ tree_below s t k c = get_below s.trees t c.tree c.at
 pub strict_there : (s : ScriptData) (t : ℕ) (o : Option Tree) → slice_get s.trees t ≡ o → is_strict_at s t ≡ true → t < length s.trees
 strict_there s t None at is = absurd (let none : false ≡ true = sym (rw (at, is_strict_at, tree_kind_at) refl) ∙ is in cc none)
 strict_there s t (Some u) at is = get_below s.trees t u at
+
+-- and so is an update tree
+pub update_below : (s : ScriptData) (t : ℕ) (o : Option Tree) → slice_get s.trees t ≡ o → updates s t ≡ true → t < length s.trees
+update_below s t None at is = absurd (let none : false ≡ true = sym (rw (at, updates) refl) ∙ is in cc none)
+update_below s t (Some u) at is = get_below s.trees t u at
 
 -- where there is no tree, no node is asked for its subtransactions
 pub no_node : (s : ScriptData) (t k : ℕ) (found : Option Tree) → slice_get s.trees t ≡ found → tree_kind_at s t ≡ None → node_of s t k ≡ s.nodes

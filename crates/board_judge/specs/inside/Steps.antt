@@ -1,5 +1,5 @@
 -- Acts that were noted one after the other, and how they are taken back.
-use Rattle.std.specs.Prelude.{◌≡◌, List, [], ◌∷◌, ◌++◌, Decides, Bool, true}
+use Rattle.std.specs.Prelude.{◌≡◌, List, [], ◌∷◌, ◌++◌, Decides, Bool, true, IfSome, IsNone, Option}
 use Rattle.std.specs.List.{list_all}
 use Rattle.letter_types.specs.declared.entries.Entry.{Entry}
 use Rattle.script_parts.specs.ScriptData.{ScriptData}
@@ -49,7 +49,10 @@ restored (st ∷ sts) b = taken_back st.noted (restored sts b)
 abbrev pub IsStepOf : Basis → BoardData → List WorthsData → Place → BoardData → NotedStep → Type 0
 IsStepOf basis b ws x new st = OfMidway basis b ws (λ h xs. IsStepped basis.script.now h xs x st new)
 
--- where the act x is a move, it was noted behind those of its entry, whichever were noted with the first steps and
+abbrev pub IsStepIfNoted : Basis → BoardData → List WorthsData → Place → BoardData → Option NotedStep → Type 0
+IsStepIfNoted basis b ws x new step = IfSome step (IsStepOf basis b ws x new)
+
+-- if the act x is a move, it was noted behind those of its entry, whichever were noted with the first steps and
 -- tallies: with it these are the second ones
 abbrev pub AreNotedIf : Basis → List WorthsData → Place → List NotedStep → BoardData → List NotedStep → BoardData → Bool
     → Type 0
@@ -57,9 +60,13 @@ AreNotedIf basis ws x steps b steps' b' moves = moves ≡ true → (h : List Ent
     → IsMidway basis.script.now basis.gates basis.users h (places_of h ++ ys) b ws
     → AreNoted basis.script.now h ys steps b → AreNoted basis.script.now h (ys ++ x ∷ []) steps' b'
 
--- all acts of an entry were noted with these steps and tallies; and the first of them that isn't a move is of this rule
+-- all acts of an entry were noted with these steps and tallies; the same unless a rule is broken; and the first act that
+-- isn't a move is of this rule
 abbrev pub AreAllNoted : Basis → BoardData → List WorthsData → Entry → List NotedStep → BoardData → Type 0
 AreAllNoted basis b ws e steps new = OfHistory basis b ws (λ h. AreNoted basis.script.now h (places_at e) steps new)
+
+abbrev pub AreAllNotedUnless : Basis → BoardData → List WorthsData → Entry → List NotedStep → BoardData → Option Rule → Type 0
+AreAllNotedUnless basis b ws e steps new broken = IsNone broken → AreAllNoted basis b ws e steps new
 
 abbrev pub FailsFirst : Basis → BoardData → List WorthsData → Entry → Rule → Type 0
 FailsFirst basis b ws e rule = OfHistory basis b ws (λ h. FirstFails basis.script.now h e rule)

@@ -32,3 +32,7 @@ IsTried j h e (Some rule) b ws = Breaks j.script h e rule
 -- the same, whatever history the judge has taken
 abbrev pub IsTriedBy : JudgeData → Entry → BoardData → List WorthsData → Option Rule → Type 0
 IsTriedBy j e b ws broken = (h : List Entry) → HasJudged j h → IsTried j h e broken b ws
+
+-- the same of what was made of a script, with the tallies and worths from which the entry is tried
+abbrev pub IsTriedFrom : Basis → BoardData → List WorthsData → Entry → BoardData → List WorthsData → Option Rule → Type 0
+IsTriedFrom basis b ws e b' ws' broken = IsTriedBy (judge_of basis b ws) e b' ws' broken

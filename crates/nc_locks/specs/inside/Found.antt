@@ -15,7 +15,7 @@ abbrev pub IsFirstOf : (Lock → Bool) → Option Lock → Type 0
 IsFirstOf test None = (q : Lock) → test q ≡ false
 IsFirstOf test (Some l) = (test l ≡ true) × ((q : Lock) → test q ≡ true → comes_first l q ≡ true)
 
--- the same of the locks that are
+-- the same of these locks
 abbrev pub IsFirst : (Lock → Bool) → List Lock → Option Lock → Type 0
 IsFirst test ls r = IsFirstOf (λ q. has_lock q ls && test q) r
 
@@ -33,7 +33,7 @@ is_of_greater own l = same_place own l && nat_lt own.tree.0 l.tree.0
 abbrev pub is_of_other : Lock → Lock → Bool
 is_of_other own l = same_place own l && not (l.tree.0 == own.tree.0)
 
--- the wanted locks that aren't yet
+-- the wanted locks that aren't there yet
 abbrev pub missing_locks : TreeNo → Wanted → List Lock → List Lock
 missing_locks t ws ls = filter (λ l. not (has_lock l ls)) (wanted_locks t ws)
 
@@ -58,17 +58,17 @@ pub record AreKept (ls : List Lock) (os : List Owned) : Type 0 where
   pub ascending : AreLocks ls
   pub mirrored : AreMirrored ls os
 
--- of these locks some more may be than before, and no other
+-- some of these locks may be there that weren't before, and no other
 pub record OthersStay (more old new : List Lock) : Type 0 where
   pub at : (l : Lock) → has_lock l more ≡ false → has_lock l new ≡ has_lock l old
   pub ascending : AreLocks new
 
--- these locks are besides those before, and no other
+-- there are these locks and those before, and no other
 pub record AreAdded (more old new : List Lock) : Type 0 where
   pub at : (l : Lock) → has_lock l new ≡ (has_lock l more || has_lock l old)
   pub ascending : AreLocks new
 
--- these locks are no more, and each other as before
+-- these locks are gone, and each other one is as before
 pub record AreTaken (gone old new : List Lock) : Type 0 where
   pub at : (l : Lock) → has_lock l new ≡ (not (has_lock l gone) && has_lock l old)
   pub ascending : AreLocks new
@@ -78,7 +78,7 @@ abbrev pub IsLockOf : TreeNo → List Lock → Option Lock → Type 0
 IsLockOf t ls None = (q : Lock) → has_lock q ls ≡ true → (q.tree.0 == t.0) ≡ false
 IsLockOf t ls (Some l) = (has_lock l ls ≡ true) × (l.tree.0 ≡ t.0)
 
--- of the tree's locks some may be no more, and each other as before
+-- some of the tree's locks may be gone, and each other one is as before
 pub record IsPartlyFree (t : TreeNo) (old new : List Lock) : Type 0 where
   pub at : (l : Lock) → (l.tree.0 == t.0) ≡ false → has_lock l new ≡ has_lock l old
   pub ascending : AreLocks new

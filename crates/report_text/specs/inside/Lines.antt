@@ -15,7 +15,7 @@ use Rattle.report_text.specs.Outcomes.{outcome_of}
 use Rattle.history_text.specs.Values.{get_text}
 use Rattle.report_text.specs.Report.{item_line, tree_line}
 
--- a value after the name of its item, where both are there
+-- a value after the name of its item, if both are there
 abbrev pub found_text : Option ItemRow → Option Value → List ℕ
 found_text None w = []
 found_text (Some row) (Some w) = get_text row.name w
@@ -31,7 +31,7 @@ abbrev pub subs_texts : List ItemRow → List Value → List Sub → List ℕ
 subs_texts rows ws [] = []
 subs_texts rows ws (k ∷ ks) = ops_texts rows ws k.ops ++ subs_texts rows ws ks
 
--- the lines of the trees of these standings, texts of values and ballots, where the list begins with tree t
+-- the lines of the trees of these standings, texts of values and ballots, if the list begins with tree t
 abbrev pub trees_lines : ScriptData → ℕ → List Tree → List Standing → List (List ℕ) → List (List Act) → List ℕ
 trees_lines s t (tree ∷ ts) (st ∷ sts) (r ∷ rs) (b ∷ bs) =
     tree_line tree tree.kind st.born (λ (v : ℕ). r) (outcome_of s b t tree.subs) ++ trees_lines s (t + 1) ts sts rs bs

@@ -10,7 +10,7 @@ use Rattle.report_text.specs.Outcomes.{decided_text, outcome_of, strict_line}
 use Rattle.report_text.specs.Report.{tree_line}
 use Rattle.report_text.specs.declared.outcomes.Voters.{Voters}
 
--- the values of a vote, if it is there; and of all yes votes
+-- the values of a vote, if it is there; and of all positive votes
 abbrev pub vote_text : ScriptData → Option Vote → List ℕ
 vote_text s vote = got_text s (option_map_or got_of vote [])
 

@@ -1,5 +1,5 @@
 -- How many entries a run has at most, at any time, in every script.
-use Rattle.std.proofs.Common.{◌≡◌, ℕ, zero, suc, ◌+◌, ◌*◌, ◌<◌, ◌≤◌, ◌==◌, ◌&&◌, Bool, true, false, List, [], ◌∷◌, length, refl, sym, ap, subst, ◌∙◌, arith, Option, Some, None}
+use Rattle.std.proofs.Common.{◌≡◌, ℕ, zero, suc, ◌+◌, ◌*◌, ◌<◌, ◌≤◌, ◌==◌, ◌&&◌, Bool, true, false, List, [], ◌∷◌, length, refl, sym, ap, subst, ◌∙◌, arith, Some}
 use Rattle.std.specs.Prelude.{if◌then◌else◌, slice_get}
 use Rattle.std.proofs.Math.Nat.{mul-le-mul_left}
 use Rattle.std.proofs.lemmas.Bool.{eqb-true, not-false}
@@ -37,7 +37,7 @@ use Rattle.world_model.proofs.Every.{each_none, each_zero}
 use Rattle.world_model.proofs.Flows.{outstanding_flow}
 use Rattle.world_model.proofs.Lawful.{is_nudge, nudged}
 use Rattle.world_model.proofs.Outstanding.{outstanding_first}
-use Rattle.world_model.proofs.Scripts.{SubAt, sub_here, sub_there}
+use Rattle.world_model.proofs.Scripts.{SubAt, sub_here, sub_there, update_below}
 use Rattle.world_model.proofs.Sends.{on, roots_none, subs_none}
 use Rattle.world_model.specs.Meant.{IsMeant}
 use Rattle.world_model.proofs.MeantRows.{strict_below}
@@ -223,10 +223,6 @@ ack_by_tree : (s : ScriptData) (from to : ℕ) (b : Body) → IsMeant s from to 
 ack_by_tree s from to (Decided u v) meant = sym (over_hit 0 u.0 s.trees (omega arith) (omega (arith, strict_below s u.0 meant.strict)))
 ack_by_tree s from to Go meant = sym (over_none 0 (λ t. 0) s.trees (λ t. refl))
 ack_by_tree s from to _ meant = sym (over_none 0 (λ t. 0) s.trees (λ t. refl))
-
-update_below : (s : ScriptData) (t : ℕ) (found : Option Tree) → slice_get s.trees t ≡ found → updates s t ≡ true → t < length s.trees
-update_below s t None at up = let none : updates s t ≡ false = rw (at, updates) refl in absurd (cc (none, up))
-update_below s t (Some tree) at up = tree_lt s.trees t tree at
 
 release_by_tree : (s : ScriptData) (from to : ℕ) (b : Body) → IsMeant s from to b → is_release b ≡ over 0 (λ t. release_of t b) s.trees
 release_by_tree s from to (Release u) meant =

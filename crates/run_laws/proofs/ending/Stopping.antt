@@ -14,6 +14,7 @@ use Rattle.tx_trees.specs.Valid.{IsValid}
 use Rattle.world_model.specs.Client.{Client, have_ended, nudge, submit, with_answer, with_end}
 use Rattle.world_model.specs.Counts.{one_if, tally}
 use Rattle.world_model.specs.Runs.{IsStepRun, MayFollow, client_in}
+use Rattle.world_model.proofs.Clients.{answered_places}
 use Rattle.world_model.proofs.Flows.{client_kept, flow}
 use Rattle.world_model.proofs.Nexts.{MadeByClient}
 use Rattle.world_model.proofs.Sends.{on}
@@ -22,7 +23,7 @@ use Rattle.world_model.proofs.Meant.{took_meant}
 use Rattle.advance_laws.proofs.right.ClientSteps.{Aside, Begins, ClientStep, Ends, Hears, Tells, client_step}
 use Rattle.tree_laws.specs.Dids.{answers, goes, is_go, replies, replies_to}
 use Rattle.tree_laws.specs.Ends.{is_finish}
-use Rattle.tree_laws.proofs.histories.Client.{IsStopped, answered_places, finish_count, finished_then, finishes_once, stopped, stopped_most}
+use Rattle.tree_laws.proofs.histories.Client.{IsStopped, finish_count, finished_then, finishes_once, stopped, stopped_most}
 
 -- once Go is taken the client has stopped, and has finished if all is over; and it tells so
 pub record Stopping (s : ScriptData) (past : List Entry) : Type 0 where

@@ -53,6 +53,7 @@ use Rattle.world_model.proofs.Outstanding.{IsOutstanding, keeping_elsewhere}
 use Rattle.world_model.proofs.Scripts.{get_below}
 use Rattle.board_rules.specs.Histories.{Place, places_at, places_of, version_in}
 use Rattle.board_rules.proofs.Places.{version_stays, places_more}
+use Rattle.board_rules.proofs.Precedence.{held_by}
 use Rattle.tree_laws.specs.Dids.{asks}
 use Rattle.tree_laws.proofs.apt.AptItems.{Applies, Changes, Collects, Follows, Raises, Rests, Shows, Touches, core_changes}
 use Rattle.tree_laws.proofs.decided.AptDecisions.{dated_here}
@@ -128,19 +129,13 @@ not_met s c t k _ one kind none = absurd (cc one)
 abbrev pub AreHeldBy : TreeNo → List Lock → List SubOp → Type 0
 AreHeldBy t ls os = AllByRecursion (λ (o : SubOp). overwrites o.deed ≡ true → has_lock (lock_of t o.item Hold) ls ≡ true) os
 
-holds_over : (d : Deed) → overwrites d ≡ true → mode_wanted d ≡ Hold
-holds_over (Apply op) is = absurd (cc is)
-holds_over Get is = absurd (cc is)
-holds_over (Set n) is = refl
-holds_over (Draw n) is = refl
-
 wanted_held : (t : TreeNo) (ls : List Lock) (os : List SubOp) → AreAmong (wanted_locks t (wanted_by os)) ls → AreHeldBy t ls os
 wanted_held t ls [] among = tt
 wanted_held t ls (o ∷ os) among =
     let own : Lock = lock_of t o.item (mode_wanted o.deed) in
     let rest : List Lock = wanted_locks t (wanted_by os) in (
       (λ over.
-          subst (λ (m : Mode). has_lock (lock_of t o.item m) ls ≡ true) (holds_over o.deed over)
+          subst (λ (m : Mode). has_lock (lock_of t o.item m) ls ≡ true) (held_by o.deed over)
           (among own (or_left (is_eq (lock_order own own)) (has_lock own rest) (itself own)))),
       wanted_held t ls os (λ l there. among l (or_right (is_eq (lock_order l own)) (has_lock l rest) there)),
     )

@@ -49,6 +49,7 @@ use Rattle.world_model.proofs.Flows.{client_kept, flow, submit_none}
 use Rattle.world_model.proofs.Lawful.{is_nudge, nudged}
 use Rattle.world_model.proofs.Outstanding.{IsOutstanding}
 use Rattle.world_model.proofs.Scripts.{SubAt, get_below, sub_here}
+use Rattle.world_model.proofs.Clients.{answered_places}
 use Rattle.world_model.proofs.Sends.{on, subs_none, asked_each}
 use Rattle.tree_laws.specs.Dids.{answers, letters_asking, replies, replies_to}
 use Rattle.tree_laws.specs.Stages.{StageAt, Answered, Gathers, Holds, Unborn, held_at, home_at}
@@ -59,7 +60,6 @@ use Rattle.tree_laws.proofs.stages.AptStagesSteps.{sent_by}
 use Rattle.tree_laws.proofs.apt.AptSteps.{client_moves}
 use Rattle.tree_laws.proofs.apt.AptTurns.{no_turn_yet}
 use Rattle.tree_laws.proofs.apt.AptVersions.{before, dated_run, is_right, is_version, misdated, version_is}
-use Rattle.tree_laws.proofs.histories.Client.{answered_places}
 use Rattle.tree_laws.proofs.kept.Nudges.{nudge_sent, orders_none, rows_no_nudges, unheard, unheard_first, unheard_less}
 use Rattle.tree_laws.proofs.histories.Turns.{answers_none, each_told, releases_none, replies_none}
 use Rattle.world_model.proofs.Epochs.{ask_each, order_each}

@@ -1,27 +1,19 @@
--- The client submits rows until a settle row has to wait, finishes once all is over, and finishes once. Its places for
--- answers.
+-- The client submits rows until a settle row has to wait, finishes once all is over, and finishes once.
 use Rattle.std.proofs.Common.{◌≡◌, ◌⊎◌, inl, inr, ℕ, zero, suc, ◌+◌, ◌≤◌, ◌==◌, ◌&&◌, ◌||◌, Bool, true, false, not, List, ◌∷◌, ◌++◌, length, get_or, set, take, drop, refl, sym, ap, subst, ◌∙◌, arith, append_assoc, append-nil, length-drop, Some, []}
-use Rattle.std.specs.Prelude.{if◌then◌else◌, min, nat_le, slice_get, ◌-◌, ◌^◌, nat_lt}
+use Rattle.std.specs.Prelude.{if◌then◌else◌, min, nat_le, slice_get, ◌-◌, ◌^◌}
 use Rattle.std.proofs.Math.Seq.{take-add}
 use Rattle.std.proofs.lemmas.Bool.Decides.{nat_tests}
 use Rattle.std.proofs.lemmas.Bool.{and_from, and_parts}
 use Rattle.letter_types.specs.declared.acts.Act.TheVariants.{Finished}
 use Rattle.letter_types.specs.declared.entries.Entry.{Entry}
 use Rattle.letter_types.specs.declared.entries.Outgoing.{Outgoing}
-use Rattle.tx_trees.specs.ScriptData.{ScriptData, client_of}
+use Rattle.tx_trees.specs.ScriptData.{ScriptData}
 use Rattle.tx_trees.specs.declared.parts.ScriptRow.{ScriptRow}
 use Rattle.tx_trees.specs.declared.parts.ScriptRow.TheVariants.{Tree as TreeRow, Advance as AdvanceRow, Settle as SettleRow, Lose as LoseRow}
-use Rattle.world_model.specs.Client.{Client, all_answered, have_ended, submitted, next_after, client_finishes, submit, client_row, with_answer, nudge}
+use Rattle.world_model.specs.Client.{Client, all_answered, have_ended, submitted, next_after, client_finishes, submit}
 use Rattle.world_model.specs.Counts.{tally, one_if}
 use Rattle.tree_laws.specs.Ends.{is_finish}
 use Rattle.world_model.proofs.Scripts.{get_below}
-use Rattle.std.proofs.lemmas.List.{length-set, length-replicate}
-use Rattle.tv_base.specs.declared.numbers.TreeNo.{TreeNo}
-use Rattle.letter_types.specs.declared.bodies.Body.{Body}
-use Rattle.letter_types.specs.declared.bodies.Body.TheVariants.{Go, Reply, Advanced, Ask}
-use Rattle.letter_types.specs.Steps.{still, Out}
-use Rattle.world_model.specs.Runs.{client_in}
-use Rattle.world_model.proofs.Sends.{asked_each}
 
 -- How far the client submits.
 
@@ -165,26 +157,3 @@ end_grows n k small is =
 abbrev pub finish_count : List Entry → ℕ
 finish_count [] = 0
 finish_count (e ∷ past) = tally is_finish e.acts + finish_count past
-
--- Hearing an answer.
-reply_places : (s : ScriptData) (c : Client) (t : TreeNo) (test : Bool)
-    → length (if test then submit s (with_answer t.0 c) (nudge s ∷ []) else still c).state.answered ≡ length c.answered
-reply_places s c t true = length-set c.answered t.0 true
-reply_places s c t false = refl
-
-row_places : (s : ScriptData) (c : Client) (b : Body) → length (client_row s c b).state.answered ≡ length c.answered
-row_places s c Go = refl
-row_places s c (Reply t v answer) = reply_places s c t (nat_lt t.0 (length s.trees))
-row_places s c (Advanced v) = refl
-row_places s c (Ask e) = asked_each (λ (o : Out Client). length o.state.answered ≡ length c.answered) s c e refl (λ is. refl)
-row_places s c _ = refl
-
-places_by : (s : ScriptData) (past : List Entry) (e : Entry) (test : Bool) → length (client_in s past).answered ≡ length s.trees
-    → length (if test then (client_row s (client_in s past) e.took.body).state else client_in s past).answered ≡ length s.trees
-places_by s past e true is = row_places s (client_in s past) e.took.body ∙ is
-places_by s past e false is = is
-
--- each tree has its place among the answers
-pub answered_places : (s : ScriptData) (past : List Entry) → length (client_in s past).answered ≡ length s.trees
-answered_places s [] = length-replicate (length s.trees) false
-answered_places s (e ∷ past) = places_by s past e (e.actor.0 == client_of s) (answered_places s past)

@@ -4,7 +4,7 @@ use Rattle.world_model.specs.Client.{rows_letters}
 use Rattle.client_rows.specs.News.{sent_first}
 use Rattle.client_rows.proofs.letters.letters.Given as goal
 
--- the letters so far, and those of the rows that are left, are all of them; and so many more advancements fit
+-- the messages so far, and those of the rows that are left, are all of them; and the advancements that are left fit
 abbrev pub invariant-loop-row : goal.invariant-loop-row
 invariant-loop-row l = record {
   sent : l.sent ++ rows_letters l.script l.asked (drop l.row-index l.rows)
