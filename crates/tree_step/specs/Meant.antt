@@ -4,7 +4,7 @@ use Rattle.tv_base.specs.declared.numbers.NodeNo.{NodeNo}
 use Rattle.tv_base.specs.declared.numbers.SubNo.{SubNo}
 use Rattle.tv_base.specs.declared.numbers.TreeNo.{TreeNo}
 use Rattle.tv_base.specs.declared.numbers.Version.{Version}
-use Rattle.item_versions.specs.Table.{Table}
+use Rattle.item_versions.specs.Table.{StagedItems}
 use Rattle.letter_types.specs.declared.entries.StepOut.{StepOut}
 use Rattle.letter_types.specs.Steps.{Out}
 use Rattle.tree_home.specs.Homes.{Gets}
@@ -56,7 +56,7 @@ abbrev pub home_meant : TreePlan → Gets → HomeChange
 home_meant p values = home_planned_at p.tree p.sub values p.home
 
 -- what a node does for a subtransaction or a notice, by what is staged and by the values of the notice
-abbrev pub tree_by : TreePlan → Table → Gets → TreeChange
+abbrev pub tree_by : TreePlan → StagedItems → Gets → TreeChange
 tree_by p staged values = record {
   raises = p.raises;
   staged = staged;
@@ -68,7 +68,7 @@ abbrev pub tree_meant : TreePlan → Scratch → TreeChange
 tree_meant p x = tree_by p x.staged x.values
 
 -- what its parts do, by the same
-abbrev pub doing_by : Doing → Table → Gets → Change
+abbrev pub doing_by : Doing → StagedItems → Gets → Change
 doing_by doings.Still staged values = changes.Still
 doing_by (doings.Tree p) staged values = changes.Tree (tree_by p staged values)
 doing_by (doings.Turn v) staged values = changes.Turn v

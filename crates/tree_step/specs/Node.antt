@@ -1,6 +1,6 @@
 -- A node's parts, and what its table sees of them.
 use Rattle.std.specs.Prelude.{ℕ, ◌≡◌, ◌+◌, ◌<◌, ◌≤◌}
-use Rattle.item_versions.specs.Table.{Table, pending}
+use Rattle.item_versions.specs.Table.{StagedItems, Table, pending}
 use Rattle.item_versions.specs.Window.{IsWindowedTable}
 use Rattle.letter_types.specs.declared.bodies.Notice.{Notice}
 use Rattle.node_versions.specs.declared.turns.Turns.{Turns}
@@ -50,7 +50,7 @@ pub record CanStep (s : ScriptData) (n : NodeParts) : Type 0 where
 
 -- what the operations of a subtransaction make: items that the table has yet to take, and what its tree's home is told
 pub record Staging : Type 0 where
-  pub staged : Table
+  pub staged : StagedItems
   pub notice : Notice
 
 -- what is staged, at these items

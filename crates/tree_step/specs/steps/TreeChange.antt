@@ -1,6 +1,6 @@
 -- What a node does for a subtransaction, or for a notice of one.
 use Rattle.std.specs.Prelude.{Bool}
-use Rattle.item_versions.specs.Table.{Table}
+use Rattle.item_versions.specs.Table.{StagedItems}
 use Rattle.tree_step.specs.declared.counting.Counting.{Counting}
 use Rattle.tree_step.specs.steps.HomeChange.{HomeChange}
 
@@ -8,6 +8,6 @@ use Rattle.tree_step.specs.steps.HomeChange.{HomeChange}
 -- home of the tree does
 pub record TreeChange : Type 0 where
   pub raises : Bool
-  pub staged : Table
+  pub staged : StagedItems
   pub counting : Counting
   pub home : HomeChange
