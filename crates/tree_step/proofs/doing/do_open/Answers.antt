@@ -25,7 +25,7 @@ begin-requires c =
     let o = c.args.opening in
     let opens = opening_same c.args.plan.doing x c.args.opening c.requires.opens in
     let shut = is_shut (doing_meant c.args.plan.doing x) o x.sent c.args.core.now.parts opens c.requires.may.parts in
-    record { some = omega (arith, shut.0); absent = shut.1 }
+    record { some = omega (arith, shut.0); few = shut.2; absent = shut.1 }
 
 pub do_holds-requires-clause-may : goal.do_holds-requires-clause-may
 do_holds-requires-clause-may c =

@@ -20,7 +20,7 @@ begin-requires c =
     let o = c.in-Some.opening in
     let opens = opening_same c.args.doing x o (sym c.opening_by.ensures ∙ c.in-Some.is) in
     let shut = is_shut (doing_meant c.args.doing x) o x.sent c.args.parts.now opens c.requires in
-    record { some = omega (arith, shut.0); absent = shut.1 }
+    record { some = omega (arith, shut.0); few = shut.2; absent = shut.1 }
 
 pub do_parts-requires-2-clause-may : goal.do_parts-requires-2-clause-may
 do_parts-requires-2-clause-may c =
