@@ -20,7 +20,6 @@ use tx_trees::{Deed, Script, SubOp};
 /// Stages what the operations of an update make of a node's items in version `v`, and drops what was staged. False
 /// exactly if one of them may not be made; then a part may be staged.
 fn stage_ops(
-    alloc: Global,
     node: &NodeParts,
     v: Version,
     ops: &[SubOp],
@@ -35,7 +34,8 @@ fn stage_ops(
     let items = &node.items;
     // The reader says that the versions of each item ascend.
     let _count = items.count();
-    *staged = Staged::with_capacity(alloc, ops.len())?;
+    staged.clear();
+    staged.make_room(ops.len())?;
     for op in ops {
         let Deed::Apply(change) = &op.deed else {
             return Ok(false);
@@ -60,7 +60,7 @@ pub fn can_update(
 {
     let asked = asked_version(letter, node.turns.update);
     let mut staged = Staged::new(alloc);
-    let can = stage_ops(alloc, node, asked, asked_ops(letter, script), &mut staged)?;
+    let can = stage_ops(node, asked, asked_ops(letter, script), &mut staged)?;
     Ok(can)
 }
 
@@ -88,7 +88,7 @@ pub fn plan_update(
 {
     let version = asked_version(letter, node.turns.update);
     let ops = asked_ops(letter, script);
-    if !stage_ops(alloc, node, version, ops, &mut scratch.staged)? {
+    if !stage_ops(node, version, ops, &mut scratch.staged)? {
         return Ok(None);
     }
     let raises = is_above(&node.turns, version);
