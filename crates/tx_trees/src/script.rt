@@ -5,7 +5,7 @@ ghost use Rattle.tv_base.specs.declared.numbers.TheConstants.{MOST_SUBS_OF_TREE}
 ghost use Rattle.commute_ops.specs.declared.kinds.TheConstants.{MOST_AMOUNT};
 ghost use Rattle.script_parts.specs.Adding.{Steps, adds_advance, adds_item, adds_lose, adds_op, adds_pick, adds_settle, adds_sub, adds_tree, are_crowded, fresh, has_no_op_left, has_no_sub_left, has_no_tree_left, is_heavy, item_kind_at, last_kind, last_may_fail, last_node, last_subs, last_tree_subs, names_tree, node_at, place_of, puts_undone, with_failed, with_item, with_op, with_sub, with_tree, upgraded};
 ghost use Rattle.script_parts.specs.Amounts.{magnitude};
-ghost use Rattle.script_parts.specs.Counts.{advances_in, all_ops, all_subs, has_strict, loses_in, update_subs, is_lossy};
+ghost use Rattle.script_parts.specs.Counts.{advances_in, all_ops, all_subs, has_strict, update_subs, is_lossy};
 ghost use Rattle.script_parts.specs.Forms.{most_amount, most_nodes};
 ghost use Rattle.script_parts.specs.Undone.{undone};
 ghost use Rattle.script_parts.specs.inside.Passing.{MayAddItem, MayAddOp, MayAddSub, MayAddTree, MayUndo};
@@ -236,13 +236,6 @@ impl Script {
         ensures { result ≡ advances_in self.now.rows }
     {
         self.advances
-    }
-
-    /// How often the client makes the coordinator forget, 0 to 100. It takes constant time.
-    pub fn loses(&self) -> u32
-        ensures { result ≡ loses_in self.now.rows }
-    {
-        self.loses
     }
 
     /// Whether a row makes the coordinator forget. It takes constant time.
