@@ -1,5 +1,6 @@
--- The trees that take effect, in order of closing, with one act more that is a move: the order is the one before, and
--- the tree that the act closes, if it does, comes last. What is done, has voted or takes effect is born.
+-- The transactions that take effect, in order of closing, with one act more that is a move: the order is the one
+-- before, and the transaction that the act closes, if it does, comes last. What is done, has voted or takes effect is
+-- born.
 use Rattle.std.proofs.Common.{take-take, ◌≡◌, ◌⊎◌, inl, inr, ◌==◌, ◌&&◌, ◌||◌, ℕ, zero, suc, ◌<◌, Bool, true, false, List, [], ◌∷◌, ◌++◌, length, refl, sym, ap, subst, ◌∙◌, arith, append-nil, Option, Some, None, take}
 use Rattle.std.specs.Prelude.{if◌then◌else◌, cond, filter, not, slice_get, is_some}
 use Rattle.std.specs.List.{AllByRecursion, list_any}

@@ -1,4 +1,4 @@
--- What the client does with a letter is its row of the table.
+-- What the client does with a message is its row of the table.
 use Rattle.std.proofs.Common.{if◌then◌else◌, ◌≡◌, ℕ, ◌+◌, ◌-◌, ◌^◌, ◌≤◌, ◌==◌, ◌&&◌, ◌||◌, Bool, true, false, List, [], ◌∷◌, ◌++◌, length, take, drop, refl, sym, ap, ◌∙◌, arith}
 use Rattle.std.specs.Prelude.{max, min, nat_lt, not}
 use Rattle.std.proofs.lemmas.List.{take_all}

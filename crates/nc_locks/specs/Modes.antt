@@ -1,4 +1,4 @@
--- The modes in which trees have items, and which of them go together.
+-- The modes in which transactions have items, and which of them go together.
 use Rattle.std.specs.Prelude.{ℕ, Bool, true, false}
 use Rattle.nc_locks.specs.declared.modes.Mode.{Mode}
 use Rattle.nc_locks.specs.declared.modes.Mode.TheVariants.{Mark, Look, Hold}

@@ -3,7 +3,7 @@ use Rattle.std.specs.Prelude.{◌≡◌, ◌≢◌, ℕ, zero, suc, ◌<◌, Boo
 use Rattle.std.specs.List.{All}
 use Rattle.tv_base.specs.declared.numbers.Version.{Version}
 
--- a row for each node, or none where it is missing
+-- a row for each node, or none if it is missing
 abbrev pub NodeRows : Type 0
 NodeRows = List (Option (List ℕ))
 
@@ -36,7 +36,7 @@ all_in [] = true
 all_in (None ∷ ks) = false
 all_in (Some row ∷ ks) = all_in ks
 
--- the number at place q of what is kept of a node, 0 where that is no row
+-- the number at place q of what is kept of a node, 0 if that is no row
 abbrev pub number_at : Option (Option (List ℕ)) → ℕ → ℕ
 number_at (Some (Some row)) q = slice_index row q
 number_at _ q = 0

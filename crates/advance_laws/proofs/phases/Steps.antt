@@ -1,4 +1,4 @@
--- The round that a coordinator counts has a place for each node; no letter is of a later round; and what the rows of
+-- The round that a coordinator counts has a place for each node; no message is of a later round; and what the rows of
 -- completions in flight say.
 use Rattle.std.proofs.Common.{if◌then◌else◌, ◌≡◌, ◌≢◌, ◌⊎◌, inl, inr, ℕ, zero, suc, ◌<◌, ◌≤◌, Bool, true, false, List, [], ◌∷◌, ◌++◌, length, refl, sym, ap, subst, ◌∙◌, arith, Some, None}
 use Rattle.std.specs.Prelude.{slice_index}

@@ -23,7 +23,7 @@ pub record IsStepped (s : ScriptData) (h : List Entry) (xs : List Place) (x : Pl
   pub closes : tree_number st.noted.closed ≡ closes_in s (xs ++ x ∷ []) x.act
   pub board : IsBoardOf s (xs ++ x ∷ []) b
 
--- what the steps say of the trees that these acts close, after the acts xs
+-- what the steps say of the transactions that these acts close, after the acts xs
 abbrev pub AreClosings : ScriptData → List Place → List Place → List NotedStep → Type 0
 AreClosings s xs [] [] = Unit {0}
 AreClosings s xs [] (st ∷ sts) = ⊥
@@ -49,7 +49,7 @@ restored (st ∷ sts) b = taken_back st.noted (restored sts b)
 abbrev pub IsStepOf : Basis → BoardData → List WorthsData → Place → BoardData → NotedStep → Type 0
 IsStepOf basis b ws x new st = OfMidway basis b ws (λ h xs. IsStepped basis.script.now h xs x st new)
 
--- where the act x is a move, it was noted behind those of its entry, whichever were noted with the first steps and
+-- if the act x is a move, it was noted behind those of its entry, whichever were noted with the first steps and
 -- tallies: with it these are the second ones
 abbrev pub AreNotedIf : Basis → List WorthsData → Place → List NotedStep → BoardData → List NotedStep → BoardData → Bool
     → Type 0

@@ -1,4 +1,5 @@
--- What the client does with a letter, by what it hears from it. These are the definitions that private code alone cites.
+-- What the client does with a message, by what it hears from it. These are the definitions that private code alone
+-- cites.
 use Rattle.std.specs.Prelude.{if◌then◌else◌, nat_lt, length}
 use Rattle.tv_base.specs.declared.numbers.Version.{Version}
 use Rattle.tx_trees.specs.ScriptData.{ScriptData}
@@ -17,7 +18,7 @@ use Rattle.client_rows.specs.declared.news.Heard.TheVariants.{Nothing, Told, Ask
 abbrev pub news_of_end : ScriptData → Version → News
 news_of_end s v = if is_lossy s then EndedTo v else Ended
 
--- what the client of a script hears from a letter of this body
+-- what the client of a script hears from a message of this body
 abbrev pub heard_of : ScriptData → Body → Heard
 heard_of s Go = Told Begun
 heard_of s (Reply t v answer) = if nat_lt t.0 (length s.trees) then Told (Answered t) else Nothing

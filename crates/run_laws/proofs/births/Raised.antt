@@ -1,5 +1,5 @@
--- In every run of every valid script a node raises its numbers one by one, each where what was given allows it, and
--- shows and sweeps to a version only once the trees up to there are whole.
+-- In every run of every valid script a node raises its numbers one by one, each if what was given allows it, and
+-- shows and sweeps to a version only once the transactions up to there are complete.
 use Rattle.std.proofs.Common.{◌≡◌, ℕ, ◌+◌, ◌<◌, ◌≤◌, not, true, false, List, ◌∷◌, refl, sym, ap, subst, ◌∙◌, arith, Some}
 use Rattle.std.specs.Prelude.{nat_lt, slice_get}
 use Rattle.std.proofs.lemmas.Bool.Decides.{nat_tests}

@@ -1,5 +1,5 @@
--- An act of a read tree at its position in a run: its version was shown before its entry. And from what holds of each act at
--- its position to what holds of each act of each entry.
+-- An act of a read transaction at its position in a run: its version was shown before its entry. And from what holds of
+-- each act at its position to what holds of each act of each entry.
 use Rattle.std.proofs.Common.{◌≡◌, ◌⊎◌, inl, inr, ℕ, zero, suc, ◌+◌, ◌<◌, ◌≤◌, true, false, List, [], ◌∷◌, ◌++◌, length, take, reverse, sym, ap, subst, ◌∙◌, append_assoc, arith, Some}
 use Rattle.std.specs.Prelude.{slice_get}
 use Rattle.std.proofs.lemmas.List.{length-append, length-take, take-append-le}

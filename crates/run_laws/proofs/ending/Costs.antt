@@ -1,4 +1,4 @@
--- What the letters of advancements cost, where the coordinator remembers.
+-- What the messages of advancements cost, if the coordinator remembers.
 use Rattle.std.proofs.Common.{if◌then◌else◌, ◌≡◌, ◌≢◌, ℕ, zero, suc, ◌+◌, ◌*◌, ◌<◌, ◌≤◌, ◌==◌, Bool, true, false, List, [], ◌∷◌, ◌++◌, replicate, set, take, drop, refl, sym, ap, subst, ◌∙◌, arith, Some, None}
 use Rattle.std.proofs.Math.Seq.{take-add}
 use Rattle.std.proofs.lemmas.Bool.{eqb-true, not-false}

@@ -1,4 +1,5 @@
--- What becomes of a held answer where it is acknowledged: with the last acknowledgement it is sent, and its no forgotten.
+-- What becomes of a held answer if it is acknowledged: with the last acknowledgement it is sent, and its negative vote
+-- forgotten.
 use Rattle.std.proofs.Common.{◌≡◌, ◌≢◌, ◌⊎◌, inl, inr, ℕ, ◌-◌, Bool, true, false, List, refl, sym, ap, subst, ◌∙◌, Option, Some, None}
 use Rattle.std.specs.Prelude.{if◌then◌else◌, nat_lt}
 use Rattle.std.proofs.lemmas.Bool.{cases_eq}

@@ -1,4 +1,4 @@
--- What subtransactions told first, and what was first decided, among acts: more acts leave it, and none is told where
+-- What subtransactions told first, and what was first decided, among acts: more acts leave it, and none is told if
 -- none is counted.
 use Rattle.std.proofs.Common.{◌≡◌, ℕ, ◌+◌, ◌==◌, ◌&&◌, Bool, true, false, not, List, [], ◌∷◌, ◌++◌, map, reverse, refl, sym, ap, ◌∙◌, arith, Option, Some, None}
 use Rattle.std.specs.Prelude.{if◌then◌else◌}

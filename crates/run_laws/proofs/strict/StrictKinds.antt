@@ -1,4 +1,4 @@
--- A tree that is strict, by the test and by its kind.
+-- A transaction that is strict, by the test and by its kind.
 use Rattle.std.proofs.Common.{◌≡◌, ℕ, true, refl, ap, ◌∙◌, Option, Some}
 use Rattle.tx_trees.specs.ScriptData.{ScriptData}
 use Rattle.tx_trees.specs.declared.parts.TreeKind.{TreeKind}
