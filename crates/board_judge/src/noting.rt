@@ -1,6 +1,5 @@
 // The acts of an entry, noted one after the other on the Board's tallies.
-ghost use Rattle.std.specs.Prelude.{◌≡◌, [], true, false, IfOk, IfSome, IsNone, OnErr};
-ghost use Rattle.letter_types.specs.declared.entries.Entry.{Entry};
+ghost use Rattle.std.specs.Prelude.{◌≡◌, [], false, IfOk, IfSome, IsNone, OnErr};
 ghost use Rattle.board_rules.specs.Histories.{act_at};
 ghost use Rattle.board_rules.specs.Judging.{rule_of};
 ghost use Rattle.board_tallies.specs.TakenBack.{taken_back};

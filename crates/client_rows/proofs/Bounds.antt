@@ -1,5 +1,5 @@
 -- What every row of the client's table keeps; and what is prepared is a row.
-use Rattle.std.proofs.Common.{if◌then◌else◌, ◌≡◌, ℕ, ◌+◌, ◌≤◌, Bool, true, false, List, [], ◌∷◌, ◌++◌, length, take, drop, refl, sym, ◌∙◌, ap, arith}
+use Rattle.std.proofs.Common.{◌≡◌, ◌+◌, ◌≤◌, Bool, true, false, List, [], ◌∷◌, ◌++◌, length, take, drop, refl, sym, ◌∙◌, ap, arith}
 use Rattle.std.proofs.lemmas.List.{length-set, length-drop, length-replicate}
 use Rattle.tv_base.proofs.Chosen.{if_within}
 use Rattle.tx_trees.specs.ScriptData.{ScriptData}

@@ -4,7 +4,7 @@ ghost use Rattle.tx_trees.specs.Adding.{advances_in};
 ghost use Rattle.tx_trees.specs.Valid.{NamesInOrder};
 ghost use Rattle.client_rows.specs.News.{answered_after};
 ghost use Rattle.client_rows.specs.inside.Places.{is_over, furthest_place};
-ghost use Rattle.client_rows.specs.inside.Places.{place_at, furthest, waits};
+ghost use Rattle.client_rows.specs.inside.Places.{place_at, waits};
 
 use crate::news::{News, is_answered};
 use tx_trees::ScriptRow;

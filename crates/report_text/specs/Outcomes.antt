@@ -1,5 +1,5 @@
 -- How strict transactions came out: the text of what was decided of them, by their votes.
-use Rattle.std.specs.Prelude.{ℕ, ◌+◌, Bool, true, false, List, [], ◌++◌, codes, Option}
+use Rattle.std.specs.Prelude.{ℕ, Bool, true, false, List, [], ◌++◌, codes, Option}
 use Rattle.std.specs.Option.{option_map_or}
 use Rattle.letter_types.specs.declared.acts.Act.{Act}
 use Rattle.letter_types.specs.declared.votes.Cause.{Cause}

@@ -1,6 +1,6 @@
 -- Orders and questions of a coordinator that forgets: each is of one of its epochs, and an order stands for one of a coordinator
 -- that remembers.
-use Rattle.std.specs.Prelude.{if◌then◌else◌, ℕ, Bool, true, not, ◌==◌, ◌&&◌, ◌||◌, nat_lt, []}
+use Rattle.std.specs.Prelude.{if◌then◌else◌, ℕ, Bool, true, not, ◌&&◌, ◌||◌, nat_lt}
 use Rattle.tv_base.specs.declared.numbers.Version.{Version}
 use Rattle.letter_types.specs.declared.bodies.Body.{Body}
 use Rattle.letter_types.specs.declared.bodies.Body.TheVariants.{Ask, Lose, AdvanceNo, Numbers, Obeyed, Order, Wanted, Turn, Show, Sweep, Turned, Shown, Swept, Advance}

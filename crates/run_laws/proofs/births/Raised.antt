@@ -20,7 +20,7 @@ use Rattle.board_rules.specs.Histories.{Place}
 use Rattle.board_rules.specs.Moves.{IsShowing, IsSweeping, IsTurn}
 use Rattle.tree_laws.proofs.apt.AptVersions.{before}
 use Rattle.advance_laws.specs.Given.{greatest_given}
-use Rattle.advance_laws.specs.Phases.{Stage, ShowStage, SweepStage, TurnStage, stage_of}
+use Rattle.advance_laws.specs.Phases.{TurnStage, stage_of}
 use Rattle.advance_laws.proofs.governed.Advancing.{IsOrderGiven, brought_turned, taken_ahead, taken_given}
 use Rattle.advance_laws.proofs.governed.Brought.{BringsTo, IsAsking}
 use Rattle.advance_laws.proofs.phases.Progress.{itself}

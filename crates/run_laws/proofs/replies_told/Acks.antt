@@ -14,10 +14,9 @@ use Rattle.tree_home.specs.declared.homes.Answered.{Answered}
 use Rattle.tree_home.specs.declared.homes.Held.{Held}
 use Rattle.tree_home.specs.declared.homes.OpenTree.{OpenTree}
 use Rattle.tx_trees.specs.ScriptData.{ScriptData}
-use Rattle.tx_trees.specs.declared.parts.TreeKind.TheVariants.{Update, Read, Strict}
 use Rattle.world_model.specs.declared.refusal.NegativeVote.{NegativeVote}
 use Rattle.world_model.specs.Core.{Refusals}
-use Rattle.world_model.specs.Named.{is_strict_at, tree_kind_at}
+use Rattle.world_model.specs.Named.{is_strict_at}
 use Rattle.world_model.specs.Strict.{answer_by, refusals_after}
 use Rattle.run_laws.proofs.strict.StrictKinds.{strict_by_kind}
 use Rattle.run_laws.proofs.replies_told.Homes.{put_cases}

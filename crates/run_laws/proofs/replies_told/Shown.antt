@@ -17,7 +17,7 @@ use Rattle.letter_types.specs.declared.entries.Entry.{Entry}
 use Rattle.letter_types.specs.declared.entries.Outgoing.{Outgoing}
 use Rattle.tree_home.specs.Homes.{Gets}
 use Rattle.tx_trees.specs.Counts.{ops_in}
-use Rattle.tx_trees.specs.ScriptData.{ScriptData, ops_of, reads, sub_at, subs_at}
+use Rattle.tx_trees.specs.ScriptData.{ScriptData, ops_of, reads, subs_at}
 use Rattle.tx_trees.specs.Valid.{IsValid}
 use Rattle.tx_trees.specs.declared.parts.Sub.{Sub}
 use Rattle.tx_trees.specs.declared.parts.SubOp.{SubOp}

@@ -35,7 +35,7 @@ use Rattle.world_model.proofs.Scripts.{SubAt}
 use Rattle.tree_laws.specs.Applied.{applies_as}
 use Rattle.tree_laws.specs.Dids.{asks}
 use Rattle.tree_laws.specs.Effects.{effects}
-use Rattle.tree_laws.specs.Turns.{has_turn, turns}
+use Rattle.tree_laws.specs.Turns.{has_turn}
 use Rattle.tree_laws.proofs.apt.AptItems.{Applies, Changes, Collects, Follows, Raises, Rests, Shows, Touches, core_changes}
 use Rattle.tree_laws.proofs.stages.AptStagesOwn.{sub_of_node}
 use Rattle.tree_laws.proofs.apt.AptTurns.{core_turns}
