@@ -3,6 +3,7 @@ pub mod Changes
 pub mod Meant
 pub mod Again
 pub mod inside
+pub mod steps
 pub mod Plans
 pub mod Apt
 pub mod Meeting

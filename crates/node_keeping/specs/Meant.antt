@@ -1,4 +1,4 @@
--- What a plan of a node and a scratch mean: a step that was prepared.
+-- What a plan of a node and a scratch mean: a step.
 use Rattle.std.specs.Prelude.{Ok, Option, Some, None}
 use Rattle.letter_types.specs.declared.bodies.Body.{Body}
 use Rattle.letter_types.specs.declared.entries.Letter.{Letter}
@@ -6,12 +6,11 @@ use Rattle.letter_types.specs.Steps.{Out}
 use Rattle.world_model.specs.Keeping.{KeepingNode}
 use Rattle.tree_step.specs.Meant.{core_meant, out_in}
 use Rattle.tree_step.specs.declared.plan.Scratch.{Scratch}
-use Rattle.node_keeping.specs.declared.change.Keep.{Keep}
-use Rattle.node_keeping.specs.declared.change.Keep.TheVariants.{New, Again}
-use Rattle.node_keeping.specs.declared.change.KeptChange.{KeptChange}
-use Rattle.node_keeping.specs.declared.change.KeptChange.TheVariants as changes
-use Rattle.node_keeping.specs.declared.change.KeepingPrepared.{KeepingPrepared}
-use Rattle.node_keeping.specs.declared.change.KeepingPrepared.TheVariants as steps
+use Rattle.node_keeping.specs.steps.Keep.{Keep, New, Again}
+use Rattle.node_keeping.specs.steps.KeptChange.{KeptChange}
+use Rattle.node_keeping.specs.steps.KeptChange as changes
+use Rattle.node_keeping.specs.steps.KeepingStep.{KeepingStep}
+use Rattle.node_keeping.specs.steps.KeepingStep as steps
 use Rattle.node_keeping.specs.declared.node_plan.KeepPlan.{KeepPlan}
 use Rattle.node_keeping.specs.declared.node_plan.KeptPlan.{KeptPlan}
 use Rattle.node_keeping.specs.declared.node_plan.KeptPlan.TheVariants as plans
@@ -36,7 +35,7 @@ kept_meant (plans.LetGo t k) calls = changes.LetGo t k
 kept_meant plans.Call calls = calls_meant calls
 
 -- the step
-abbrev pub node_meant : NodePlan → Scratch → KeepingPrepared
+abbrev pub node_meant : NodePlan → Scratch → KeepingStep
 node_meant nodes.Still x = steps.Still (out_in x)
 node_meant (nodes.Keeps k) x = steps.Keeps (keep_meant k x.letter) k.raises (out_in x)
 node_meant (nodes.Does p k) x = steps.Does (core_meant p x) (kept_meant k x.calls)

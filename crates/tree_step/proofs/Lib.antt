@@ -4,13 +4,10 @@ pub mod Made
 pub mod Rooted
 pub mod Replied
 pub mod Dues
-pub mod KindsAt
 pub mod Ordered
 pub mod Noticed
 pub mod Opened
 pub mod Asking
 pub mod Stepped
 pub mod Undone
-pub mod HeldAside
 pub mod PlanOpened
-pub mod SameDoing

@@ -1,5 +1,5 @@
--- How a node changes in a step that was prepared, and when it may.
-use Rattle.std.specs.Prelude.{◌≡◌, ◌<◌, ◌≤◌, ◌+◌, ◌&&◌, ⊤, if◌then◌else◌, List, [], ◌++◌, length, take, nat_le, All, IfOk, IsTrue, IsSome, None, OnErr, OnOk, Result}
+-- How a node's parts change in a step, and when they may.
+use Rattle.std.specs.Prelude.{◌≡◌, ◌<◌, ◌≤◌, ◌+◌, ⊤, if◌then◌else◌, List, [], ◌++◌, length, take, nat_le, All, IfOk, IsTrue, IsSome, None, OnErr, OnOk, Result}
 use Rattle.tv_base.specs.declared.numbers.NoMemory.{NoMemory}
 use Rattle.item_versions.specs.Table.{pending}
 use Rattle.item_versions.specs.Window.{in_window, IsWindowedTable}
@@ -15,16 +15,15 @@ use Rattle.tree_home.specs.Homes.{OpenTrees, begun, forgotten, home_in, misses, 
 use Rattle.item_versions.specs.Collecting.{collected_all}
 use Rattle.world_model.specs.Done.{TreeOut, counted_root, counted_sub, raised_if}
 use Rattle.world_model.specs.Notices.{reply_letters}
+use Rattle.tree_step.specs.Due.{is_left_behind}
 use Rattle.tree_step.specs.Node.{IsInWindow, Node, data_of}
 use Rattle.tree_step.specs.declared.node.NodeParts.{NodeParts}
 use Rattle.tree_step.specs.declared.counting.Counting.{Counting}
-use Rattle.tree_step.specs.declared.change.HomeChange.{HomeChange}
-use Rattle.tree_step.specs.declared.change.HomeChange.TheVariants.{Stay, Open, Note, Forget}
-use Rattle.tree_step.specs.declared.change.TreeChange.{TreeChange}
-use Rattle.tree_step.specs.declared.change.Change.{Change}
-use Rattle.tree_step.specs.declared.change.Change.TheVariants.{Still, Tree, Turn, Show, Sweep}
-use Rattle.tree_step.specs.declared.change.Prepared.{Prepared}
-use Rattle.tree_step.specs.declared.change.TreePrepared.{TreePrepared}
+use Rattle.tree_step.specs.steps.HomeChange.{HomeChange, Stay, Open, Note, Forget}
+use Rattle.tree_step.specs.steps.TreeChange.{TreeChange}
+use Rattle.tree_step.specs.steps.Change.{Change, Still, Tree, Turn, Show, Sweep}
+use Rattle.tree_step.specs.steps.PartsStep.{PartsStep}
+use Rattle.tree_step.specs.steps.TreeStep.{TreeStep}
 use Rattle.tx_trees.specs.ScriptData.{ScriptData, client_of}
 use Rattle.tree_step.specs.inside.Sent.{MOST_SENT}
 
@@ -35,11 +34,11 @@ home_after (Open t n v values) hs = noted t (record { 0 = 0 }) values (begun t n
 home_after (Note t k values) hs = noted t k values hs
 home_after (Forget t) hs = forgotten t hs
 
--- what is opened isn't open yet and has more than one subtransaction, what is noted is missing beside another, and
--- what is forgotten is open
+-- what is opened isn't open yet and has more than one subtransaction and at most 64, what is noted is missing beside
+-- another, and what is forgotten is open
 abbrev pub MayHome : HomeChange → OpenTrees → Type 0
 MayHome Stay hs = ⊤
-MayHome (Open t n v values) hs = (1 < n) × (home_in t hs ≡ None)
+MayHome (Open t n v values) hs = (1 < n) × (home_in t hs ≡ None) × (n ≤ 64)
 MayHome (Note t k values) hs = IsTrue (misses t k hs) × (1 < missing_in t hs)
 MayHome (Forget t) hs = IsSome (home_in t hs)
 
@@ -105,8 +104,7 @@ MayChange Still sent n = ⊤
 MayChange (Tree c) sent n = MayChangeTree c sent n
 MayChange (Turn v) sent n = IsTrue (nat_le v.0 (n.turns.low.0 + 2))
 MayChange (Show v) sent n = IsTrue (in_window n.turns.low.0 v.0)
-MayChange (Sweep v) sent n =
-    IsTrue (nat_le n.turns.low.0 v.0 && (nat_le v.0 n.turns.read.0 && nat_le v.0 n.turns.update.0))
+MayChange (Sweep v) sent n = IsTrue (is_left_behind v n.turns)
 
 -- a node may make a change beside which these letters go out
 pub record MayDo (c : Change) (sent : List Outgoing) (n : NodeParts) : Type 0 where
@@ -114,13 +112,13 @@ pub record MayDo (c : Change) (sent : List Outgoing) (n : NodeParts) : Type 0 wh
   pub small : AllBelow MOST_COUNT (counts_of n.counters).numbers
   pub window : IsInWindow n
 
--- a node, and what goes out, after a step that was prepared, as a table's row
-abbrev pub prepared_row : Prepared → Node → Out Node
-prepared_row p st = made (after_change p.change p.out.sent st) p.out
+-- a node, and what goes out, after a step, as a table's row
+abbrev pub step_row : PartsStep → Node → Out Node
+step_row p st = made (after_change p.change p.out.sent st) p.out
 
--- a step that was prepared is this row of a node, and the node may do it
-pub record IsNodeStepOf (o : Out Node) (n : NodeParts) (p : Prepared) : Type 0 where
-  pub row : prepared_row p (data_of n) ≡ o
+-- a step is this row of a node, and the node may do it
+pub record IsNodeStepOf (o : Out Node) (n : NodeParts) (p : PartsStep) : Type 0 where
+  pub row : step_row p (data_of n) ≡ o
   pub may : MayDo p.change p.out.sent n
 
 -- the letters that are sent are just the requests that are counted
@@ -128,15 +126,15 @@ abbrev pub SendsRequests : Change → List Outgoing → Type 0
 SendsRequests (Tree c) sent = c.counting.asked ≡ length sent
 SendsRequests _ sent = sent ≡ []
 
--- a step of a tree's letter that was prepared, before the tree is answered, as a table's row
-abbrev pub part_row : TreePrepared → Node → TreeOut
-part_row p st = record { out = prepared_row p.prepared st; answered = p.answered }
+-- the step of a tree's letter, before the tree is answered, as a table's row
+abbrev pub part_row : TreeStep → Node → TreeOut
+part_row p st = record { out = step_row p.parts st; answered = p.answered }
 
 -- it is this row of a node, the node may do it, and it sends no more than is counted
-pub record IsTreePartOf (o : TreeOut) (n : NodeParts) (p : TreePrepared) : Type 0 where
+pub record IsTreePartOf (o : TreeOut) (n : NodeParts) (p : TreeStep) : Type 0 where
   pub row : part_row p (data_of n) ≡ o
-  pub may : MayDo p.prepared.change p.prepared.out.sent n
-  pub counted : SendsRequests p.prepared.change p.prepared.out.sent
+  pub may : MayDo p.parts.change p.parts.out.sent n
+  pub counted : SendsRequests p.parts.change p.parts.out.sent
 
 -- a row with the answer to the client of script s behind what it sends
 abbrev pub replied : ScriptData → TreeOut → Out Node
@@ -148,12 +146,12 @@ replied s o = record {
 
 -- the same step with the answer to the client of script s behind what it sends: at any node its row is that of the
 -- step with the answer, and a node that may do the one may do the other
-pub record IsReplied (s : ScriptData) (part : TreePrepared) (p : Prepared) : Type 0 where
-  pub row : (st : Node) → prepared_row p st ≡ replied s (part_row part st)
-  pub may : (n : NodeParts) → MayDo part.prepared.change part.prepared.out.sent n → MayDo p.change p.out.sent n
+pub record IsReplied (s : ScriptData) (part : TreeStep) (p : PartsStep) : Type 0 where
+  pub row : (st : Node) → step_row p st ≡ replied s (part_row part st)
+  pub may : (n : NodeParts) → MayDo part.parts.change part.parts.out.sent n → MayDo p.change p.out.sent n
 
 -- what came of a step of a node: it was done, and the node afterwards and what goes out are this row; or no memory was
--- found, and the node is as it was. The answers that it holds stay, it counts by as many nodes as before, and its
+-- found, and the node is unchanged. The answers that it holds stay, it counts by as many nodes as before, and its
 -- versions are in their window
 pub record IsDone (o : Out Node) (old new : NodeParts) (r : Result StepOut NoMemory) : Type 0 where
   pub row : IfOk r (λ out. made (data_of new) out ≡ o)
@@ -162,7 +160,7 @@ pub record IsDone (o : Out Node) (old new : NodeParts) (r : Result StepOut NoMem
   pub window : OnOk r (IsInWindow new)
   pub err : OnErr r (new ≡ old)
 
--- the same, where an equal copy of what goes out is kept
+-- the same, with an equal copy of what goes out
 pub record IsDoneTwice (o : Out Node) (old new : NodeParts) (r : Result Step NoMemory) : Type 0 where
   pub row : IfOk r (λ step. made (data_of new) step.given ≡ o)
   pub kept : IfOk r (λ step. step.kept ≡ step.given)

@@ -2,7 +2,7 @@
 use Rattle.std.specs.Prelude.{Option, Some, None}
 use Rattle.tree_step.specs.declared.plan.Doing.{Doing}
 use Rattle.tree_step.specs.declared.plan.Doing.TheVariants.{Tree}
-use Rattle.tree_step.specs.declared.core_change.Opening.{Opening}
+use Rattle.tree_step.specs.declared.doing.Opening.{Opening}
 use Rattle.tree_step.specs.declared.plan.HomePlan.{HomePlan}
 use Rattle.tree_step.specs.declared.plan.HomePlan.TheVariants.{Open, Note}
 use Rattle.tree_step.specs.declared.plan.Plan.{Plan}
@@ -17,7 +17,7 @@ abbrev pub opening_by : Doing → Option Opening
 opening_by (Tree p) = opening_at p p.home
 opening_by _ = None
 
--- what is left once it is open: its root's notice is taken down
+-- what is left once it is open: its root's notice is noted
 abbrev pub tree_once_open : TreePlan → HomePlan → TreePlan
 tree_once_open p (Open n v) = record p { sub = record { 0 = 0 }; home = Note }
 tree_once_open p _ = p

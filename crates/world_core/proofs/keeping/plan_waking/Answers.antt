@@ -1,16 +1,16 @@
 use Rattle.std.proofs.Common.{◌≡◌, [], length, sym, subst, rules, ◌∙◌}
 use Rattle.std.proofs.lemmas.List.{nil_from_length}
 use Rattle.letter_types.specs.Kept.{wakes, wakes_by}
-use Rattle.tree_step.specs.CoreChanges.{core_prepared_row}
+use Rattle.tree_step.specs.CoreChanges.{core_step_row}
 use Rattle.tree_step.specs.Core.{core_of}
 use Rattle.tree_step.specs.Meant.{core_meant}
-use Rattle.tree_step.specs.declared.core_change.CorePrepared.{CorePrepared}
+use Rattle.tree_step.specs.steps.CoreStep.{CoreStep}
 use Rattle.tree_step.specs.declared.plan.Scratch.{Scratch}
 use Rattle.node_keeping.specs.Changes.{IsKeepingStepOf}
 use Rattle.node_keeping.specs.Meant.{IsPlanned}
 use Rattle.node_keeping.specs.State.{keeping_of}
-use Rattle.node_keeping.specs.declared.change.KeepingPrepared.TheVariants as steps
-use Rattle.node_keeping.specs.declared.change.KeptChange.TheVariants as changes
+use Rattle.node_keeping.specs.steps.KeepingStep as steps
+use Rattle.node_keeping.specs.steps.KeptChange as changes
 use Rattle.node_keeping.specs.declared.node_plan.KeptPlan.TheVariants.{Call}
 use Rattle.node_keeping.specs.declared.node_plan.NodePlan.TheVariants.{Does}
 use Rattle.world_core.specs.inside.Bringing.{waking_out}
@@ -26,7 +26,7 @@ returns-then-is_empty c =
     sym c.in_ok-wakes.ensures ∙ nil_from_length c.in_ok-wakes.wakes empty in
     record {
       row = silent c.args.body.now (keeping_of n)
-          (core_prepared_row (core_meant c.args.plan c.args.scratch.now) (core_of n.core)) none;
+          (core_step_row (core_meant c.args.plan c.args.scratch.now) (core_of n.core)) none;
       may = c.requires;
     }
 
@@ -36,8 +36,8 @@ returns c =
     let b = c.args.body.now in
     let more = c.in_ok-wakes.wakes in
     let done = core_meant c.args.plan c.args.scratch.now in
-    let out = waking_out b (keeping_of n) (core_prepared_row done (core_of n.core)) in
+    let out = waking_out b (keeping_of n) (core_step_row done (core_of n.core)) in
     let step = waking_step b n done more c.requires c.in_ok-wakes.ensures in
     subst (λ (x : Scratch). IsPlanned out n (Does c.args.plan Call) x) (sym c.in_ok-put_wakes.ensures)
-    (subst (λ (p : CorePrepared). IsKeepingStepOf out n (steps.Does p (changes.Call b)))
+    (subst (λ (p : CoreStep). IsKeepingStepOf out n (steps.Does p (changes.Call b)))
     (sym (meant_behind c.args.plan more b c.args.scratch.now)) step)

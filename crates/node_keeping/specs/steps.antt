@@ -1,0 +1,5 @@
+pub mod Keep
+pub mod KeptChange
+pub mod KeepingStep
+pub mod CoreKept
+pub mod ChosenStep
