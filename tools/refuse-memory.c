@@ -82,7 +82,7 @@ static unsigned long number_of(const char *name) {
     return said ? strtoul(said, NULL, 10) : 0;
 }
 
-/* From here on the system gives so many bytes of addresses. The stack of `main` has grown before, so it asks for none. */
+/* From here on the system gives this many bytes of addresses. The stack of `main` has grown before, so it asks for none. */
 static void limit_space(unsigned long bytes) {
     volatile char stack[1 << 20];
     for (size_t at = 0; at < sizeof stack; at += 4096) stack[at] = 0;

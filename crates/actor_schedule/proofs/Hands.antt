@@ -1,4 +1,4 @@
--- What goes into a worker's hand, also where a mailbox has no letter.
+-- What goes into a worker's hand, also if a mailbox has no message.
 use Rattle.std.proofs.Common.{◌≡◌, Bool, List, [], ◌∷◌, ◌++◌, refl}
 use Rattle.std.specs.Prelude.{IsNone, slice_get}
 use Rattle.stamp_post.specs.Shown.{EnvelopeData}

@@ -1,4 +1,4 @@
--- The trays of a desk: letters that are sorted in one after the other, and trays that are emptied one after the other.
+-- The trays of a desk: messages that are sorted in one after the other, and trays that are emptied one after the other.
 use Rattle.std.proofs.Common.{◌≡◌, ap, sym, ◌∙◌, arith, ℕ, zero, suc, ◌+◌, ◌<◌, ◌≤◌, List, [], ◌∷◌, ◌++◌, append_assoc, drop, get_or, length, set}
 use Rattle.std.proofs.Math.Seq.{set-append_seam, drop-nil}
 use Rattle.std.proofs.lemmas.List.{at_drop_more, drop_more, length-replicate, replicate-append-replicate}

@@ -6,7 +6,7 @@ use Rattle.stamp_post.specs.Shown.{EnvelopeData, OutboxData, PostId, envelope_da
 use Rattle.actor_schedule.specs.declared.stop.InHand.{InHand}
 use Rattle.actor_schedule.specs.declared.stop.InHand.TheVariants.{Unplaced}
 
--- a worker's desk: the letters in hand, and a tray for each actor with those that are to be put into its mailbox
+-- a worker's desk: the messages in hand, and a tray for each actor with those that are to be put into its mailbox
 pub record DeskData : Type 0 where
   pub hand : List EnvelopeData
   pub trays : List (List EnvelopeData)
@@ -14,24 +14,24 @@ pub record DeskData : Type 0 where
 abbrev pub desk_data : List EnvelopeData → List (List EnvelopeData) → DeskData
 desk_data hand trays = record { hand = hand; trays = trays }
 
--- so many trays in which nothing lies
+-- that many trays in which nothing lies
 abbrev pub empty_trays : ℕ → List (List EnvelopeData)
 empty_trays actors = replicate actors []
 
--- the trays with this letter last in its addressee's
+-- the trays with this message last in its addressee's
 abbrev pub sorted_in : EnvelopeData → List (List EnvelopeData) → List (List EnvelopeData)
 sorted_in e trays = slice_set trays e.letter.to.0 (slice_index_or trays e.letter.to.0 [] ++ e ∷ [])
 
--- the trays with these letters of a post sorted in, one after the other
+-- the trays with these messages of a post sorted in, one after the other
 abbrev pub all_sorted_in : PostId → List Letter → List (List EnvelopeData) → List (List EnvelopeData)
 all_sorted_in post [] trays = trays
 all_sorted_in post (l ∷ ls) trays = all_sorted_in post ls (sorted_in (envelope_data post l) trays)
 
--- the letters of an outbox that aren't out yet
+-- the messages of an outbox that aren't out yet
 abbrev pub left_in : OutboxData → List Letter
 left_in o = drop o.next (letters_sent o.posting)
 
--- the letters that are held, those of an outbox that are left among them
+-- the messages that are held, those of an outbox that are left among them
 abbrev pub letters_held : InHand → List Letter
 letters_held (Unplaced e rest) = e.letter ∷ left_in rest
 letters_held _ = []

@@ -17,7 +17,7 @@ at_first = record {
   stopped = false;
 }
 
--- so many actors one after the other, from a place on, in cyclic order
+-- that many actors one after the other, from a place on, in cyclic order
 abbrev pub in_turn : (actors from count : ℕ) → List ℕ
 in_turn actors from zero = []
 in_turn actors from (suc count) = (from % actors) ∷ in_turn actors (from + 1) count

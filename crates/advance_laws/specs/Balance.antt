@@ -1,4 +1,4 @@
--- Requests, completions and the counted letters between them.
+-- Requests, completions and the counted messages between them.
 use Rattle.std.specs.Prelude.{ℕ, Bool, false, ◌==◌, ◌&&◌, ◌+◌, ◌<◌, ◌≤◌, ◌≡◌, ◌⊎◌, List}
 use Rattle.letter_types.specs.declared.bodies.Body.{Body}
 use Rattle.letter_types.specs.declared.bodies.Body.TheVariants.{Sub, Done, Decide, Decided}
@@ -10,7 +10,7 @@ use Rattle.world_model.specs.Kept.{outstanding}
 use Rattle.world_model.specs.Runs.{node_in}
 pub use Rattle.world_model.specs.Taking.{MOST_COUNTED}
 
--- a counted letter of version v: a Sub, a Done, a Decide or a Decided
+-- a counted message of version v: a Sub, a Done, a Decide or a Decided
 abbrev pub version_is : ℕ → Body → Bool
 version_is v (Sub t k w) = w.0 == v
 version_is v (Done t k w notice) = w.0 == v
@@ -18,11 +18,11 @@ version_is v (Decide t w commit) = w.0 == v
 version_is v (Decided t w) = w.0 == v
 version_is v _ = false
 
--- 1 for a counted letter of version v from p to q
+-- 1 for a counted message of version v from p to q
 abbrev pub goes_between : ℕ → ℕ → ℕ → Letter → ℕ
 goes_between v p q l = one_if (version_is v l.body && ((l.from.0 == p) && (l.to.0 == q)))
 
--- how many counted letters of version v from p to q have still to be done: in flight, or kept by a node
+-- how many counted messages of version v from p to q have still to be done: in flight, or deferred by a node
 abbrev pub out : ScriptData → List Entry → ℕ → ℕ → ℕ → ℕ
 out s past v p q = tally (goes_between v p q) (outstanding s past)
 
@@ -30,8 +30,8 @@ out s past v p q = tally (goes_between v p q) (outstanding s past)
 abbrev pub HasLeft : ScriptData → List Entry → ℕ → ℕ → Type 0
 HasLeft s past v p = v < (node_in s past p).turns.low.0
 
--- in a version that both still count, the requests of p to q are the completions of q from p and the counted letters
--- that have still to be done; in a version that one of them has left there is no such letter
+-- in a version that both still count, the requests of p to q are the completions of q from p and the counted messages
+-- that have still to be done; in a version that one of them has left there is no such message
 pub record IsBalanced (s : ScriptData) (past : List Entry) : Type 0 where
   pub equal : (v p q : ℕ) → p < s.nodes → q < s.nodes
       → (node_in s past p).turns.low.0 ≤ v → (node_in s past q).turns.low.0 ≤ v

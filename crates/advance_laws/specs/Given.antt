@@ -38,7 +38,8 @@ abbrev pub greatest_given : Stage → List Entry → ℕ
 greatest_given g [] = first_given g
 greatest_given g (e ∷ past) = max (greatest_told g e.sent) (greatest_given g past)
 
--- a version is shown, or swept to, that is no later than the latest one so far, or is the next one, in quiet
+-- a version is shown, or swept to, that is no later than the latest one so far, or is the next one, once it is
+-- quiescent
 abbrev pub IsShownAnew : ScriptData → List Entry → ℕ → Type 0
 IsShownAnew s past v = (v ≤ greatest_given ShowStage past) ⊎ ((v ≡ greatest_given ShowStage past + 1) × IsQuietForUpdates s past v)
 

@@ -13,7 +13,7 @@ use Rattle.world_model.specs.declared.phase.Phase.TheVariants.{Idle, Turning, Co
 use Rattle.world_model.specs.Counts.{tally}
 use Rattle.world_model.specs.Runs.{coordinator_in, node_in, in_flight}
 
--- a number over the bodies of the letters in flight
+-- a number over the bodies of the messages in flight
 abbrev pub count_in_flight : (Body → ℕ) → ScriptData → List Entry → ℕ
 count_in_flight f s past = tally (λ (l : Letter). f l.body) (in_flight s past)
 

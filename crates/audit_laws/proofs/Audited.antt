@@ -1,13 +1,11 @@
 -- A script's text, the line `history` and the lines of a run that has finished pass an audit.
-use Rattle.std.proofs.Common.{◌≡◌, ℕ, true, List, [], ap, refl, subst, sym, ◌∙◌, Result, Ok, Some}
+use Rattle.std.proofs.Common.{◌≡◌, ℕ, true, List, [], ap, refl, subst, sym, ◌∙◌, Ok, Some}
 use Rattle.std.specs.Prelude.{length}
 use Rattle.std.proofs.lemmas.List.{append-nil}
 use Rattle.letter_types.specs.declared.entries.Entry.{Entry}
 use Rattle.tx_trees.specs.ScriptData.{ScriptData}
-use Rattle.script_parts.specs.declared.why.Why.{Why}
 use Rattle.history_text.specs.History.{history_lines_of}
 use Rattle.script_reader.specs.Reading.{read_of}
-use Rattle.script_reader.specs.declared.reading.ScriptFault.{ScriptFault}
 use Rattle.history_audit.specs.Audits.{HasNoHistoryLine, IsAuditOf, audited, ends_in_feed, history_part, script_part}
 use Rattle.history_audit.specs.Verdicts.{Verdict}
 use Rattle.history_audit.proofs.Joined.{joined}

@@ -1,4 +1,4 @@
--- In every run what nodes gather, letters carry and actors do is of the script.
+-- In every run what nodes gather, messages carry and actors do is of the script.
 use Rattle.std.proofs.Common.{ℕ, ◌≡◌, ◌≢◌, ◌⊎◌, inl, inr, ◌<◌, ◌+◌, Bool, true, false, List, [], ◌∷◌, refl, sym, subst, ◌∙◌, arith, Option, Some, None}
 use Rattle.std.specs.Prelude.{if◌then◌else◌, drop, length, nat_lt, reverse, take}
 use Rattle.std.specs.List.{AllByRecursion}

@@ -1,4 +1,4 @@
--- The values that a home gathers and the noes that it keeps in mind are of the script.
+-- The values that a home gathers and the negative votes that it keeps in mind are of the script.
 use Rattle.std.proofs.Common.{ℕ, zero, suc, ◌≡◌, ◌==◌, Bool, true, false, List, [], ◌∷◌, refl, subst, arith, Option, Some, None}
 use Rattle.std.specs.Prelude.{if◌then◌else◌, nat_lt, replicate, slice_get, slice_set}
 use Rattle.std.specs.List.{AllByRecursion}

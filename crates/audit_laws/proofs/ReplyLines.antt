@@ -1,4 +1,4 @@
--- In every run the report's line of a tree says what its reply says.
+-- In every run the report's line of a transaction says what its reply says.
 use Rattle.std.proofs.Common.{◌≡◌, ℕ, Bool, true, false, List, [], ◌++◌, reverse, refl, sym, ap, subst, ◌∙◌, Option, Some, None}
 use Rattle.std.specs.Prelude.{codes}
 use Rattle.std.specs.Option.{option_map_or}

@@ -1,5 +1,5 @@
 -- What an entry's lines say of the script: what they name is there, rows have one number for each node, notices and
--- answers are of the kind of their tree, and values are of their items' kinds, with magnitudes that are allowed.
+-- answers are of the kind of their transaction, and values are of their items' kinds, with magnitudes that are allowed.
 use Rattle.std.specs.Prelude.{ℕ, ◌≡◌, true, false, List, length, slice_get}
 use Rattle.std.specs.List.{AllByRecursion}
 use Rattle.letter_types.specs.declared.acts.Act.{Act}
@@ -28,13 +28,13 @@ abbrev pub IsVoteOf : ScriptData → Vote → Type 0
 IsVoteOf s (votes.Yes vs) = AreGot s vs
 IsVoteOf s (votes.No cause) = IsCauseOf s cause
 
--- a notice of tree t
+-- a notice of transaction t
 abbrev pub IsNoticeOf : ScriptData → ℕ → Notice → Type 0
 IsNoticeOf s t (notices.Did vs) = HasStrictness false (slice_get s.trees t) × AreGot s vs
 IsNoticeOf s t (notices.Yes vs) = HasStrictness true (slice_get s.trees t) × AreGot s vs
 IsNoticeOf s t (notices.No cause) = HasStrictness true (slice_get s.trees t) × IsCauseOf s cause
 
--- what the client is told of tree t
+-- what the client is told of transaction t
 abbrev pub IsAnswerOf : ScriptData → ℕ → Answer → Type 0
 IsAnswerOf s t (answers.Whole vs) = IsTreeOf s t × AreGot s vs
 IsAnswerOf s t (answers.Aborted cause) = HasStrictness true (slice_get s.trees t) × IsCauseOf s cause
@@ -43,7 +43,7 @@ IsAnswerOf s t (answers.Aborted cause) = HasStrictness true (slice_get s.trees t
 abbrev pub IsNodeRow : ScriptData → List ℕ → Type 0
 IsNodeRow s row = length row ≡ s.nodes
 
--- a letter that is sent says this; Go isn't sent
+-- a message that is sent says this; Go isn't sent
 abbrev pub IsBodyOf : ScriptData → Body → Type 0
 IsBodyOf s Go = ⊥
 IsBodyOf s (Root t) = IsTreeOf s t.0

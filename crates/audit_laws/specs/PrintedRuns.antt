@@ -21,7 +21,7 @@ abbrev pub OfEachFinished : (ScriptData → List Entry → Type 0) → Type 0
 OfEachFinished P = (s : ScriptData) (h : List Entry) → IsValid s → IsWorldRun s h → HasFinished h
     → AllByRecursion (IsPrintable s) h → P s h
 
--- the lines of the history are read as it, with the letters that were taken
+-- the lines of the history are read as it, with the messages that were taken
 abbrev pub ReadsBack : ScriptData → List Entry → Type 0
 ReadsBack s h = Reading s (history_lines_of s h) (Ok h)
 
@@ -29,7 +29,7 @@ ReadsBack s h = Reading s (history_lines_of s h) (Ok h)
 abbrev pub IsPassed : ScriptData → List Entry → Type 0
 IsPassed s h = Verdict s (history_lines_of s h) (Ok (length h))
 
--- mode audit accepts them behind the script's text and the line `history`, where the text ends with a line feed and has
+-- mode audit accepts them behind the script's text and the line `history`, if the text ends with a line feed and has
 -- no such line
 abbrev pub PassesAudits : ScriptData → List Entry → Type 0
 PassesAudits s h =

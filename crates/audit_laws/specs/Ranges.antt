@@ -39,7 +39,7 @@ HasAnswerRanges (answers.Aborted cause) = HasCauseRanges cause
 abbrev pub AreWords : List ℕ → Type 0
 AreWords row = AllByRecursion IsWord row
 
--- the numbers of what a letter says
+-- the numbers of what a message says
 abbrev pub HasBodyRanges : Body → Type 0
 HasBodyRanges Go = Unit {0}
 HasBodyRanges (Root t) = Unit {0}
@@ -71,7 +71,7 @@ HasBodyRanges (Wanted e i) = IsWord e × IsHalfWord i
 HasBodyRanges (Order e what v) = IsWord e × IsWord v.0
 HasBodyRanges (Obeyed e what v) = IsWord e × IsWord v.0
 
--- the numbers of a letter that is sent
+-- the numbers of a message that is sent
 abbrev pub HasSentRanges : Outgoing → Type 0
 HasSentRanges o = HasBodyRanges o.body
 

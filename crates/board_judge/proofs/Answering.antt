@@ -1,5 +1,5 @@
--- Whether acts answer what is asked for: what is found among them, and how many park. So an entry does at once what it
--- is asked for just where the tallies say so.
+-- Whether acts answer what is asked for: what is found among them, and how many defer. So an entry does at once what it
+-- is asked for exactly if the tallies say so.
 use Rattle.std.proofs.Common.{◌≡◌, ◌&&◌, ◌||◌, ◌==◌, ℕ, ◌+◌, ◌<◌, ◌≤◌, Bool, true, false, List, [], ◌∷◌, length, refl, sym, ap, subst, ◌∙◌, arith, Option, Some, None, take, drop, get_or, eqb-true}
 use Rattle.std.specs.Prelude.{if◌then◌else◌, cond, filter, is_none, is_some, not, Decides}
 use Rattle.std.specs.List.{list_any}

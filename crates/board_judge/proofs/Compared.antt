@@ -1,4 +1,4 @@
--- Acts that close trees: the worths with what those did, act by act, and what reads show.
+-- Acts that close transactions: the worths with what those did, act by act, and what reads show.
 use Rattle.std.proofs.Common.{◌≡◌, ℕ, zero, suc, min, Bool, true, false, List, [], ◌∷◌, ◌++◌, length, refl, sym, ap, subst, ◌∙◌, arith, append_assoc, append-nil, Option, Some, None, map, take, drop}
 use Rattle.std.specs.Prelude.{is_some, if◌then◌else◌, slice_get}
 use Rattle.std.specs.Option.{option_map}

@@ -1,4 +1,5 @@
--- The holder that the look back names is the tree of the first operation on the item that stands against the need.
+-- The holder that the look back names is the transaction of the first operation on the item that stands against the
+-- need.
 use Rattle.std.proofs.Common.{◌≡◌, ◌⊎◌, inl, inr, ◌==◌, ◌&&◌, ◌||◌, ℕ, zero, suc, ◌+◌, ◌≤◌, Bool, true, false, List, [], ◌∷◌, ◌++◌, length, refl, sym, ap, subst, ◌∙◌, arith, Option, Some, None, take, drop, append_assoc}
 use Rattle.std.specs.Prelude.{if◌then◌else◌, cond, filter, map, min, not, slice_get}
 use Rattle.std.specs.List.{list_any}

@@ -1,5 +1,5 @@
--- The worth of an item is that of the deeds of the trees that take effect, noted in order of closing; and one act more notes
--- the deeds of the tree that it closes.
+-- The worth of an item is that of the deeds of the transactions that take effect, noted in order of closing; and one
+-- act more notes the deeds of the transaction that it closes.
 use Rattle.std.proofs.Common.{◌≡◌, ◌==◌, ◌&&◌, ℕ, zero, suc, Bool, true, false, List, [], ◌∷◌, ◌++◌, refl, sym, ap, ◌∙◌, append_assoc, append-nil, Option, Some, None}
 use Rattle.std.specs.Prelude.{if◌then◌else◌, cond, filter, fold, slice_get, is_some}
 use Rattle.std.specs.List.{AllByRecursion}

@@ -1,11 +1,11 @@
--- The trees that take effect, in order of closing, with one act more that is a move: the order is the one before, and
--- the tree that the act closes, if it does, comes last. What is done, has voted or takes effect is born.
+-- The transactions that take effect, in order of closing, with one act more that is a move: the order is the one
+-- before, and the transaction that the act closes, if it does, comes last. What is done, has voted or takes effect is
+-- born.
 use Rattle.std.proofs.Common.{take-take, ◌≡◌, ◌⊎◌, inl, inr, ◌==◌, ◌&&◌, ◌||◌, ℕ, zero, suc, ◌<◌, Bool, true, false, List, [], ◌∷◌, ◌++◌, length, refl, sym, ap, subst, ◌∙◌, arith, append-nil, Option, Some, None, take}
 use Rattle.std.specs.Prelude.{if◌then◌else◌, cond, filter, not, slice_get, is_some}
-use Rattle.std.specs.List.{AllByRecursion, list_any}
+use Rattle.std.specs.List.{AllByRecursion}
 use Rattle.std.specs.Option.{option_or}
 use Rattle.std.proofs.lemmas.Bool.{and_from, and_parts, eqb-true, false_from_ne_true, or_cases, or_left, or_right}
-use Rattle.std.proofs.lemmas.List.{take_all}
 use Rattle.std.proofs.lemmas.List.Elements.{filter-append}
 use Rattle.std.proofs.lemmas.Option.{slice_get_within, cond_some}
 use Rattle.tv_base.proofs.Truths.{left_true, right_true, same_test}
@@ -26,7 +26,7 @@ use Rattle.board_rules.proofs.ActTests.{decides_as_is, does_is}
 use Rattle.board_rules.proofs.Closings.{closings-append, is_out}
 use Rattle.board_rules.proofs.Once.{clash, same_tests}
 use Rattle.board_rules.proofs.Places.{version_in-append, was_decided_as-append, was_done-append}
-use Rattle.board_rules.proofs.Positions.{found_all, taken_is, there}
+use Rattle.board_rules.proofs.Positions.{found_all, taken_is}
 use Rattle.board_rules.proofs.SerialOrder.{done_of}
 use Rattle.board_rules.proofs.Wholes.{any_more, born_version, strict_there, update_not_strict, updates_there, version_more, whole_done, whole_more}
 use Rattle.board_rules.proofs.ReadDids.{filter_same}

@@ -1,5 +1,6 @@
--- Which locks of a tree stand, by what it has done and voted and by where it was freed or applied: after acts that are
--- moves nothing is locked for a tree that was let go. So what stands is what was done or voted and wasn't let go.
+-- Which locks of a transaction stand, by what it has done and voted and by where it was freed or applied: after acts
+-- that are moves nothing is locked for a transaction that was let go. So what stands is what was done or voted and
+-- wasn't let go.
 use Rattle.std.proofs.Common.{◌≡◌, inl, inr, ◌==◌, ◌&&◌, ◌||◌, ℕ, ◌<◌, Bool, true, false, List, [], ◌∷◌, ◌++◌, length, refl, sym, ap, subst, ◌∙◌, arith, append_assoc, append-nil, take}
 use Rattle.std.specs.Prelude.{if◌then◌else◌, not}
 use Rattle.std.specs.List.{list_any}

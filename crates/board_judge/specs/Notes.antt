@@ -1,5 +1,5 @@
--- What the trees that take effect have done to an item, as deeds with versions, and the worths that are kept of all
--- items.
+-- What the transactions that take effect have done to an item, as deeds with versions, and the worths that are kept of
+-- all items.
 use Rattle.std.specs.Prelude.{if◌then◌else◌, ℕ, ◌≡◌, ◌==◌, List, [], ◌∷◌, ◌++◌, length, IsTrue, Option, Some, None, slice_get}
 use Rattle.script_parts.specs.ScriptData.{ScriptData, subs_at}
 use Rattle.script_parts.specs.Valid.{IsValid}
@@ -22,7 +22,7 @@ abbrev pub subs_noted : ℕ → ℕ → List Sub → List Noted
 subs_noted v x [] = []
 subs_noted v x (sub ∷ subs) = ops_noted v x sub.ops ++ subs_noted v x subs
 
--- those of a tree, in its version
+-- those of a transaction, in its version
 abbrev pub tree_noted : ScriptData → List Place → ℕ → ℕ → List Noted
 tree_noted s xs x t = subs_noted (version_or 0 (version_in t xs)) x (subs_at s t)
 
@@ -30,7 +30,7 @@ abbrev pub trees_noted : ScriptData → List Place → ℕ → List ℕ → List
 trees_noted s xs x [] = []
 trees_noted s xs x (t ∷ ts) = tree_noted s xs x t ++ trees_noted s xs x ts
 
--- those of all trees that take effect, in order of closing
+-- those of all transactions that take effect, in order of closing
 abbrev pub noted_on : ScriptData → List Place → ℕ → List Noted
 noted_on s xs x = trees_noted s xs x (settled_order s xs)
 

@@ -14,12 +14,12 @@ use Rattle.board_judge.specs.Settled.{IsMoveRun}
 use Rattle.board_judge.specs.inside.Users.{AreUsersBy}
 use Rattle.board_judge.specs.declared.users.User.{User}
 
--- the operations on each item: of strict trees, and of update trees
+-- the operations on each item: of strict transactions, and of update transactions
 pub record UsersData : Type 0 where
   pub strict : List (List User)
   pub updates : List (List User)
 
--- they are the script's; those of update trees are listed where there is a strict tree
+-- they are the script's; those of update transactions are listed if there is a strict transaction
 pub record AreUsersOf (s : ScriptData) (u : UsersData) : Type 0 where
   pub strict : AreUsersBy s true u.strict
   pub updates : has_strict s ≡ true → AreUsersBy s false u.updates
@@ -35,7 +35,7 @@ pub record IsView (s : ScriptData) (xs : List Place) (b : BoardData) (u : UsersD
 abbrev pub OfView : ScriptData → BoardData → UsersData → (List Place → Type 0) → Type 0
 OfView s b u P = (xs : List Place) → IsView s xs b u → P xs
 
--- an item may be needed in this mode, and by each of these operations: a mark, or any where there is a strict tree
+-- an item may be needed in this mode, and by each of these operations: a mark, or any if there is a strict transaction
 abbrev pub MayNeed : ScriptData → Mode → Type 0
 MayNeed s mode = (mode ≡ Mark) ⊎ (has_strict s ≡ true)
 

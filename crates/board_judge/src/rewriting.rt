@@ -1,6 +1,5 @@
 // The worths of the items, act by act: what the deeds of the trees that acts close make of them, compared with what reads show.
 ghost use Rattle.std.specs.Prelude.{◌≡◌, [], ℕ, IfOk, OnErr, OnOk, slice_get};
-ghost use Rattle.letter_types.specs.declared.acts.Act.{Act};
 ghost use Rattle.script_parts.specs.ScriptData.{subs_at};
 ghost use Rattle.board_judge.specs.Notes.{ops_noted};
 ghost use Rattle.board_judge.specs.inside.Rewriting.{AllSubsSuit, AllSuit, AreOfKinds, HasNoted, SuitsKind, altered_back, kinds_of, unaltered, ComesBack, HasNotedClosed, HasNotedOne, HasNotedSubs, IsComparedBy, IsRewrittenBy};

@@ -1,7 +1,7 @@
 // What operations see of their items: what the items are worth at a version.
-ghost use Rattle.std.specs.Prelude.{◌≡◌, ◌<◌, false, Some, None, IfOk};
+ghost use Rattle.std.specs.Prelude.{◌≡◌, IfOk};
 ghost use Rattle.board_rules.specs.Right.{is_get};
-ghost use Rattle.board_judge.specs.inside.Shorts.{draws, short_item, DecidesShown, DecidesWorth, NamesShort, NamesShortOf};
+ghost use Rattle.board_judge.specs.inside.Shorts.{draws, DecidesShown, DecidesWorth, NamesShort, NamesShortOf};
 
 use commute_ops::Value;
 use letter_types::{Cause, short_cause};

@@ -1,11 +1,10 @@
 // What is in the way of a subtransaction at its node, and in which versions its items were written.
-ghost use Rattle.std.specs.Prelude.{◌≡◌, ◌<◌, true, List, max};
-ghost use Rattle.tv_base.specs.declared.numbers.TreeNo.{TreeNo};
+ghost use Rattle.std.specs.Prelude.{◌≡◌, List};
 ghost use Rattle.nc_locks.specs.Modes.{modes_conflict};
 ghost use Rattle.script_parts.specs.ScriptData.{ScriptData, updates};
-ghost use Rattle.board_rules.specs.Histories.{Place, version_in, version_or, was_done};
+ghost use Rattle.board_rules.specs.Histories.{Place, version_in, version_or};
 ghost use Rattle.board_tallies.specs.Board.{IsBoardOf, OfBoard};
-ghost use Rattle.board_judge.specs.inside.Users.{changes_in, has_taken, has_written, is_mark, lesser_tree, newer_item, newest_by, stands_against, newest_with, was_updated};
+ghost use Rattle.board_judge.specs.inside.Users.{changes_in, has_taken, has_written, is_mark, lesser_tree, newest_by, stands_against, newest_with, was_updated};
 ghost use Rattle.board_judge.specs.inside.Standing.{IsNewestWritten, NamesConflict, NamesFirst, NamesHolder, NamesNewer, NamesNewerOf};
 
 use crate::users::{User, Users, lock_mode, on};

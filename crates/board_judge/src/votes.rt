@@ -1,7 +1,6 @@
 // What votes name, and what votes and reads show.
-ghost use Rattle.std.specs.Prelude.{◌≡◌, true, IfOk};
+ghost use Rattle.std.specs.Prelude.{◌≡◌, IfOk};
 ghost use Rattle.std.specs.Option.{option_map};
-ghost use Rattle.script_parts.specs.ScriptData.{ops_of};
 ghost use Rattle.board_rules.specs.Histories.{act_at};
 ghost use Rattle.board_rules.specs.Stands.{refusal_in};
 ghost use Rattle.board_judge.specs.inside.Votes.{ballot_of, did_of, given_by, same_cause, yes_of, DecidesGiven, DecidesMove, DecidesRead, DecidesYes, IsCauseThere};

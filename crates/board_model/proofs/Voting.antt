@@ -1,4 +1,5 @@
--- The votes and decisions that are kept of each tree are those of the history, and say the same of votes and decisions.
+-- The votes and decisions that are kept of each transaction are those of the history, and say the same of votes and
+-- decisions.
 use Rattle.std.proofs.Common.{◌≡◌, ℕ, zero, suc, ◌+◌, ◌<◌, Bool, true, false, List, [], ◌∷◌, ◌++◌, length, refl, ap, sym, ◌∙◌, append_assoc, arith}
 use Rattle.std.specs.Prelude.{◌==◌, ◌&&◌, cond, filter, Option, Some, None}
 use Rattle.std.specs.Option.{option_or}

@@ -9,7 +9,7 @@ use Rattle.tx_trees.specs.declared.parts.Sub.{Sub}
 use Rattle.tx_trees.specs.declared.parts.SubOp.{SubOp}
 use Rattle.board_rules.specs.Worth.{after_deed, first_value, is_written, worth}
 
--- f of the number of each item, where the list begins with item x
+-- f of the number of each item, if the list begins with item x
 abbrev pub by_number : {A : Type 0} → (ℕ → A) → ℕ → List ItemRow → List A
 by_number f x [] = []
 by_number f x (row ∷ rows) = f x ∷ by_number f (x + 1) rows
@@ -27,7 +27,7 @@ abbrev pub first_values : List ItemRow → List Value
 first_values [] = []
 first_values (row ∷ rows) = first_value (Some row) ∷ first_values rows
 
--- the value of item x changed, where it is there
+-- the value of item x changed, if it is there
 abbrev pub on_item : ℕ → (Value → Value) → List Value → List Value
 on_item x f [] = []
 on_item zero f (w ∷ ws) = f w ∷ ws
@@ -45,6 +45,6 @@ abbrev pub all_after_subs : List Sub → List Value → List Value
 all_after_subs [] ws = ws
 all_after_subs (k ∷ ks) ws = all_after_subs ks (all_after_ops k.ops ws)
 
--- the values after tree t
+-- the values after transaction t
 abbrev pub all_after_tree : ScriptData → List Value → ℕ → List Value
 all_after_tree s ws t = all_after_subs (subs_at s t) ws

@@ -1,4 +1,5 @@
--- The serial order as a list of trees with their versions, and how it is made. Only the code of the report cites it.
+-- The serial order as a list of transactions with their versions, and how it is made. Only the code of the report cites
+-- it.
 use Rattle.std.specs.Prelude.{◌≡◌, ℕ, Bool, ◌==◌, nat_le, List, filter, map}
 use Rattle.std.specs.List.Sorted.{IsNonDecreasingBy, IsPermutation}
 use Rattle.letter_types.specs.declared.entries.Entry.{Entry}
@@ -18,7 +19,7 @@ pub record IsByVersion (xs ys : List Member) : Type 0 where
   pub ascending : IsNonDecreasingBy (λ (m : Member). m.version.0) ys
   pub stable : (v : ℕ) → filter (is_of_version v) ys ≡ filter (is_of_version v) xs
 
--- the numbers of the trees
+-- the numbers of the transactions
 abbrev pub trees_of_members : List Member → List ℕ
 trees_of_members ms = map (λ (m : Member). m.tree.0) ms
 

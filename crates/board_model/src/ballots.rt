@@ -1,5 +1,5 @@
 // How the subtransactions of trees vote in a history, and what is decided of them.
-ghost use Rattle.std.specs.Prelude.{◌≡◌, [], ◌∷◌, ◌++◌, IfOk, OnOk};
+ghost use Rattle.std.specs.Prelude.{◌≡◌, [], IfOk, OnOk};
 ghost use Rattle.std.specs.Option.{option_copied};
 ghost use Rattle.board_rules.specs.Outcomes.{decision_by, decision_in, vote_by, vote_in};
 ghost use Rattle.board_model.specs.Ballots.{ballots_of};

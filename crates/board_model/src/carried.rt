@@ -1,5 +1,5 @@
 // What all items are worth, version after version, in one pass over the serial order.
-ghost use Rattle.std.specs.Prelude.{◌≡◌, ◌<◌, ◌≤◌, IfOk};
+ghost use Rattle.std.specs.Prelude.{◌≡◌, ◌≤◌, IfOk};
 ghost use Rattle.board_model.specs.Balances.{worths};
 ghost use Rattle.board_model.specs.Carried.{IsCarried};
 ghost use Rattle.board_model.specs.SerialList.{IsSerial};

@@ -1,4 +1,4 @@
--- Where all operations commute, what an item is worth doesn't depend on the order.
+-- If all operations commute, what an item is worth doesn't depend on the order.
 use Rattle.std.proofs.Common.{◌≡◌, ℕ, zero, suc, ◌+◌, Bool, true, false, IsTrue, List, ◌∷◌, ◌++◌, refl, ap, sym, ◌∙◌, subst, []}
 use Rattle.std.specs.Prelude.{if◌then◌else◌, ◌==◌, fold, Option, Some, None, slice_get}
 use Rattle.std.specs.List.{AllByRecursion}

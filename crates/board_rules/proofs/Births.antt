@@ -1,4 +1,4 @@
--- Where a strict tree is born, every writer of a smaller version, whenever it is born, is whole: it follows from
+-- If a strict transaction is born, every writer of a smaller version, whenever it is born, is complete: it follows from
 -- births, turns and showings being moves.
 use Rattle.std.proofs.Common.{◌≡◌, ◌⊎◌, inl, inr, ◌==◌, ℕ, zero, suc, ◌+◌, ◌<◌, ◌≤◌, Bool, true, false, List, [], ◌∷◌, length, refl, sym, ap, subst, ◌∙◌, arith, Option, Some, None, take, take_all}
 use Rattle.std.specs.Prelude.{if◌then◌else◌, ◌-◌, fold, slice_get, is_some}

@@ -1,4 +1,4 @@
--- What the acts of a node have made of its item is what the item is worth, where all that changed it is closed.
+-- What the acts of a node have made of its item is what the item is worth, if all that changed it is closed.
 use Rattle.std.proofs.Common.{◌≡◌, ◌≢◌, ◌⊎◌, inl, inr, ℕ, ◌+◌, ◌<◌, ◌≤◌, ◌==◌, ◌&&◌, Bool, true, List, length, refl, sym, ap, ◌∙◌, arith, Option, Some, None}
 use Rattle.std.specs.Prelude.{slice_get}
 use Rattle.std.specs.List.{list_any}

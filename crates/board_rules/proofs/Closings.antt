@@ -1,4 +1,4 @@
--- The trees in order of their last closing act: each occurs there once.
+-- The transactions in order of their last closing act: each occurs there once.
 use Rattle.std.proofs.Common.{◌≡◌, ℕ, Bool, true, false, List, [], ◌∷◌, ◌++◌, refl, ap, sym, ◌∙◌, arith}
 use Rattle.std.specs.Prelude.{if◌then◌else◌, cond, not, ◌||◌, ◌&&◌, ◌==◌, filter, Option, Some, None}
 use Rattle.std.specs.List.{list_any}

@@ -1,4 +1,4 @@
--- What a committed strict tree got of an item is the fold over the members of the serial order before it.
+-- What a committed strict transaction got of an item is the fold over the members of the serial order before it.
 use Rattle.std.proofs.Common.{◌≡◌, ◌≢◌, ◌⊎◌, inl, inr, ℕ, ◌+◌, ◌<◌, ◌≤◌, ◌==◌, ◌&&◌, true, List, length, sym, ap, ◌∙◌, arith, Some, take, drop}
 use Rattle.std.specs.Prelude.{slice_get}
 use Rattle.std.specs.List.{list_any}

@@ -1,5 +1,5 @@
--- Where the locks of a node are those of the look back, the lock that a tree meets is the one that the look back names.
--- And the least number that passes a test.
+-- If the locks of a node are those of the look back, the lock that a transaction meets is the one that the look back
+-- names. And the least number that passes a test.
 use Rattle.std.proofs.Common.{◌≡◌, ◌≢◌, ◌⊎◌, inl, inr, ◌==◌, ◌&&◌, ◌||◌, ℕ, zero, suc, ◌+◌, ◌<◌, ◌≤◌, Bool, true, false, List, [], ◌∷◌, length, refl, sym, ap, ◌∙◌, arith, Option, Some, None}
 use Rattle.std.specs.Prelude.{if◌then◌else◌, not, nat_lt}
 use Rattle.std.specs.List.{list_any}

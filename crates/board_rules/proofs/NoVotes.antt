@@ -1,4 +1,4 @@
--- Where no tree has voted, nothing is in the way of an update tree: all locks are marks.
+-- If no transaction has voted, nothing is in the way of an update transaction: all locks are marks.
 use Rattle.std.proofs.Common.{◌≡◌, ◌==◌, ◌&&◌, ℕ, suc, Bool, true, false, List, [], ◌∷◌, ◌++◌, refl, ap, ◌∙◌, Some, None}
 use Rattle.std.specs.Prelude.{if◌then◌else◌, filter, fold, length, map, not, slice_get}
 use Rattle.std.specs.List.{AllByRecursion, list_any}

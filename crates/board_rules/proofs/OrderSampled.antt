@@ -1,7 +1,8 @@
--- A small list of acts, with two update trees and strict trees of two versions at one node, follows its rules; what its
--- item is worth, computed. Between the decision and the Applied of a strict tree the item isn't closed, and what the
--- node has made of it is another. What a strict tree gets is the fold over the trees before it. What would be if an
--- update slipped in, or a vote came too late; where an update is parked, and where it is done.
+-- A small list of acts, with two update transactions and strict transactions of two versions at one node, follows its
+-- rules; what its item is worth, computed. Between the decision and the Applied of a strict transaction the item isn't
+-- closed, and what the node has made of it is another. What a strict transaction gets is the fold over the transactions
+-- before it. What would be if an update slipped in, or a vote came too late; where an update is deferred, and where it
+-- is done.
 use Rattle.std.proofs.Common.{◌≡◌, ◌==◌, ℕ, zero, suc, ◌<◌, ◌≤◌, true, false, List, [], ◌∷◌, ◌++◌, refl, sym, ap, ◌∙◌, arith, Some, take}
 use Rattle.std.specs.Prelude.{ℤ, pos, None, slice_get}
 use Rattle.std.specs.List.{IsDistinct}

@@ -1,4 +1,4 @@
--- Who comes first where two trees that conflict touch one item, in a list of acts that follow their rules. Each act
+-- Who comes first if two transactions that conflict touch one item, in a list of acts that follow their rules. Each act
 -- comes once.
 use Rattle.std.proofs.Common.{◌≡◌, ◌⊎◌, inl, inr, ◌==◌, ◌&&◌, ℕ, zero, suc, ◌<◌, ◌≤◌, Bool, true, false, List, [], ◌∷◌, length, refl, sym, ap, subst, ◌∙◌, arith, Some, None, take}
 use Rattle.std.specs.Prelude.{if◌then◌else◌, ◌||◌, fold, max, nat_lt, slice_get}

@@ -1,4 +1,4 @@
--- The Did of a read tree changes no worth.
+-- The Did of a read transaction changes no worth.
 use Rattle.std.proofs.Common.{◌≡◌, ℕ, zero, suc, Bool, true, false, List, [], ◌∷◌, ◌++◌, length, refl, sym, ap, ◌∙◌, arith, Option, Some, None}
 use Rattle.std.specs.Prelude.{if◌then◌else◌, ◌==◌, ◌&&◌, ◌||◌, filter, is_some, slice_get}
 use Rattle.std.proofs.Math.Bool.{or-false}

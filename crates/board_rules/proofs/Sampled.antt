@@ -1,5 +1,5 @@
--- One entry with the Did of a read tree and the last Did of an update tree of its version. No run has such an entry,
--- and what is right in it depends on the order of its acts.
+-- One entry with the Did of a read transaction and the last Did of an update transaction of its version. No run has
+-- such an entry, and what is right in it depends on the order of its acts.
 use Rattle.std.proofs.Common.{◌≡◌, zero, suc, List, [], ◌∷◌, ◌++◌, refl, ap, subst, Some}
 use Rattle.std.specs.Prelude.{ℤ, pos, false, None}
 use Rattle.tv_base.specs.declared.numbers.ItemNo.{ItemNo}

@@ -1,4 +1,4 @@
--- Where each writer of version at most v is whole, what a node has made of its item up to v is what it is worth: so of
+-- If each writer of version at most v is complete, what a node has made of its item up to v is what it is worth: so of
 -- reads, and at the end.
 use Rattle.std.proofs.Common.{◌≡◌, ℕ, List}
 use Rattle.std.proofs.lemmas.Bool.{or_left, or_right}

@@ -1,4 +1,4 @@
--- A lock is until it is let go: where a later subtransaction meets none, it has been.
+-- A lock is until it is let go: if a later subtransaction meets none, it has been.
 use Rattle.std.proofs.Common.{◌≡◌, ◌⊎◌, inl, inr, ◌==◌, ◌&&◌, ℕ, zero, suc, ◌+◌, ◌<◌, ◌≤◌, Bool, true, false, List, [], ◌∷◌, ◌++◌, length, refl, sym, ap, ◌∙◌, arith, Option, Some, None, take}
 use Rattle.std.specs.Prelude.{if◌then◌else◌, cond, not, fold, filter, map, slice_get}
 use Rattle.std.specs.List.{list_any}

@@ -1,5 +1,5 @@
--- What a node has made of its item in versions up to one stays, where nothing of these versions changes it later; and
--- so does its worth, where it is closed. What takes effect was born before.
+-- What a node has made of its item in versions up to one stays, if nothing of these versions changes it later; and
+-- so does its worth, if it is closed. What takes effect was born before.
 use Rattle.std.proofs.Common.{◌≡◌, ℕ, zero, suc, ◌+◌, ◌<◌, ◌≤◌, ◌==◌, ◌&&◌, Bool, true, false, List, ◌∷◌, refl, sym, ap, ◌∙◌, inl, inr, arith, Option, Some, take, []}
 use Rattle.std.specs.Prelude.{if◌then◌else◌, fold, filter, is_some, slice_get}
 use Rattle.std.proofs.lemmas.Bool.{and_from, false_from_ne_true}

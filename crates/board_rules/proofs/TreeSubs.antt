@@ -1,5 +1,5 @@
--- Trees as their subtransactions, in order: what they make is one fold over these, and who is ahead among trees is
--- ahead among these.
+-- Transactions as their subtransactions, in order: what they make is one fold over these, and who is ahead among
+-- transactions is ahead among these.
 use Rattle.std.proofs.Common.{◌≡◌, ◌≢◌, ◌⊎◌, inl, inr, ℕ, zero, suc, ◌+◌, ◌<◌, ◌≤◌, ◌==◌, ◌&&◌, Bool, true, false, List, [], ◌∷◌, ◌++◌, length, refl, ap, sym, subst, ◌∙◌, arith, Option, Some, None}
 use Rattle.std.specs.Prelude.{◌||◌, fold, slice_get}
 use Rattle.std.proofs.lemmas.Bool.Decides.{nat_tests}

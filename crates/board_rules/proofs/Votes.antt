@@ -1,6 +1,6 @@
--- What a vote finds: where a subtransaction of a strict tree meets no lock that conflicts, what changed its items is
--- closed, so the node has made of them what they are worth. The acts of its entry before it change nothing. The first
--- acts of a list follow its rules too.
+-- What a vote finds: if a subtransaction of a strict transaction meets no lock that conflicts, what changed its items
+-- is closed, so the node has made of them what they are worth. The acts of its entry before it change nothing. The
+-- first acts of a list follow its rules too.
 use Rattle.std.proofs.Common.{◌≡◌, ◌⊎◌, inl, inr, ℕ, ◌<◌, ◌≤◌, ◌==◌, ◌&&◌, Bool, true, false, List, [], length, refl, sym, ap, subst, ◌∙◌, arith, Option, Some, None, take, take-take}
 use Rattle.std.specs.Prelude.{slice_get}
 use Rattle.std.proofs.lemmas.Bool.{and_from, cases_lt, eqb-true, false_from_ne_true}

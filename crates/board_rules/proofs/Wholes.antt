@@ -1,4 +1,4 @@
--- Versions, births and whole trees after a part of the acts and after all of them.
+-- Versions, births and complete transactions after a part of the acts and after all of them.
 use Rattle.std.proofs.Common.{◌≡◌, ◌==◌, ◌&&◌, ℕ, zero, suc, ◌<◌, ◌≤◌, Bool, true, false, List, [], ◌∷◌, ◌++◌, length, refl, sym, ap, ◌∙◌, arith, Option, Some, None, take, drop, take-append-drop, take-take}
 use Rattle.std.specs.Prelude.{if◌then◌else◌, slice_get, is_some}
 use Rattle.std.specs.List.{list_any}

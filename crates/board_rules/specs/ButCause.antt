@@ -1,5 +1,5 @@
--- Which acts are moves of the Board, but for the cause of a vote: that a no names what is in the way is said of votes
--- alone.
+-- Which acts are moves of the Board, but for the cause of a vote: that a negative vote names what is in the way is said
+-- of votes alone.
 use Rattle.std.specs.Prelude.{ℕ, false, ◌≡◌, ◌<◌, IsTrue, List}
 use Rattle.letter_types.specs.declared.acts.Act.{Act}
 use Rattle.letter_types.specs.declared.acts.Act.TheVariants.{Voted, Finished}
@@ -9,7 +9,7 @@ use Rattle.board_rules.specs.Histories.{Place, is_strict_tree, was_born}
 use Rattle.board_rules.specs.Moves.{IsAsked, IsMoveAt}
 use Rattle.board_rules.specs.Stands.{was_voted}
 
--- a subtransaction of a strict tree votes at its node, once, in a tree that is born, and after its parent
+-- a subtransaction of a strict transaction votes at its node, once, in a transaction that is born, and after its parent
 pub record IsVotingAsked (s : ScriptData) (xs : List Place) (p t k : ℕ) : Type 0 where
   pub strict : IsTrue (is_strict_tree s t)
   pub born : IsTrue (was_born xs t)

@@ -18,7 +18,7 @@ abbrev pub is_settle_row : ScriptRow → Bool
 is_settle_row SettleRow = true
 is_settle_row _ = false
 
--- the rows before the last `settle` among these; there are none where none is among them
+-- the rows before the last `settle` among these; there are none if none is among them
 abbrev pub before_settle : List ScriptRow → List ScriptRow
 before_settle [] = []
 before_settle (r ∷ rs) = if list_any is_settle_row rs then r ∷ before_settle rs else []
@@ -31,13 +31,13 @@ awaited s i = before_settle (take i s.rows)
 abbrev pub was_swept : ℕ → ℕ → List Place → Bool
 was_swept p v xs = list_any (λ (x : Place). (x.node == p) && is_version v (swept_to x.act)) xs
 
--- the gate of row i is open after these acts: each tree for which it waits is whole, and for each advancement, the
--- first of which ends with version 1, every node has collected to its version
+-- the gate of row i is open after these acts: each transaction for which it waits is complete, and for each
+-- advancement, the first of which ends with version 1, every node has collected to its version
 pub record IsOpen (s : ScriptData) (xs : List Place) (i : ℕ) : Type 0 where
   pub trees : (j t : ℕ) → slice_get (awaited s i) j ≡ Some (TreeRow (record { 0 = t })) → IsTrue (is_whole_in s xs t)
   pub advances : (a p : ℕ) → a < advances_in (awaited s i) → p < s.nodes → IsTrue (was_swept p (a + 1) xs)
 
--- a tree is born when the gate of its row is open
+-- a transaction is born when the gate of its row is open
 pub record IsBornByItsRow (s : ScriptData) (xs : List Place) (t : ℕ) : Type 0 where
   pub row : ℕ
   pub there : slice_get s.rows row ≡ Some (TreeRow (record { 0 = t }))
@@ -50,7 +50,7 @@ pub record IsTurnedByItsRow (s : ScriptData) (xs : List Place) (v : ℕ) : Type 
   pub number : advances_in (take row s.rows) + 2 ≡ v
   pub gate : IsOpen s xs row
 
--- the client finishes, once, when every tree is whole and every node has gone through all advancements
+-- the client finishes, once, when every transaction is complete and every node has gone through all advancements
 pub record IsEnd (s : ScriptData) (xs : List Place) (p : ℕ) : Type 0 where
   pub client : p ≡ client_of s
   pub once : has_finished xs ≡ false

@@ -44,7 +44,7 @@ IsAccepted s h = (n : ℕ) (e : Entry) → slice_get h n ≡ Some e → MayCome 
 abbrev pub KeepsAllRules : ScriptData → List Entry → Type 0
 KeepsAllRules s h = IsBoardRun s h × Fits s h × IsRight s h × IsAtOnce s h
 
--- the rule of an act that isn't a move; the end and the parking of a letter always are
+-- the rule of an act that isn't a move; the end and the deferral of a message always are
 abbrev pub rule_of : Act → Rule
 rule_of (Born t v) = rules.Born
 rule_of (Waits t u r) = rules.Born

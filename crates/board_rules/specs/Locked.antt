@@ -33,7 +33,7 @@ locks_at s xs p = fold (locks_after_place s p) [] xs
 abbrev pub is_same_mode : Mode → Mode → Bool
 is_same_mode m n = mode_rank m == mode_rank n
 
--- tree k has item x in mode m, by the locks and by the modes
+-- transaction k has item x in mode m, by the locks and by the modes
 abbrev pub lock_at : ℕ → ℕ → Mode → Lock
 lock_at k x m = lock_of (record { 0 = k }) (record { 0 = x }) m
 
@@ -44,12 +44,12 @@ AreModesOf k x ls modes = (m : Mode) → has_lock (lock_at k x m) ls ≡ list_an
 abbrev pub IsApartFrom : ScriptData → ℕ → ℕ → ℕ → Place → Type 0
 IsApartFrom s p x k y = (y.node == p) ≡ false → modes_on x (locked_by s k y.act) ≡ []
 
--- on item x these locks of node p are those of the look back, and each is of a tree of the script
+-- on item x these locks of node p are those of the look back, and each is of a transaction of the script
 pub record AreStanding (s : ScriptData) (xs : List Place) (p : ℕ) (ls : List Lock) (x : ℕ) : Type 0 where
   pub modes : (k : ℕ) → AreModesOf k x ls (modes_standing s xs p x k)
   pub trees : (l : Lock) → has_lock l ls ≡ true → l.tree.0 < length s.trees
 
--- the tree of a lock that is found
+-- the transaction of a lock that is found
 abbrev pub tree_of_lock : Option Lock → Option ℕ
 tree_of_lock None = None
 tree_of_lock (Some l) = Some l.tree.0

@@ -1,5 +1,5 @@
 -- The Board: the three version numbers of each node, and the acts so far. Which acts are moves of it.
-use Rattle.std.specs.Prelude.{if◌then◌else◌, ℕ, Bool, true, false, ◌≡◌, ◌≤◌, ◌<◌, ◌==◌, ◌+◌, ◌&&◌, ◌||◌, List, [], ◌∷◌, ◌++◌, fold, length, take, Option, Some, None, IsTrue, slice_get}
+use Rattle.std.specs.Prelude.{if◌then◌else◌, ℕ, Bool, true, false, ◌≡◌, ◌≤◌, ◌<◌, ◌==◌, ◌+◌, ◌||◌, List, [], ◌∷◌, ◌++◌, fold, length, take, Option, Some, None, IsTrue, slice_get}
 use Rattle.tv_base.specs.declared.numbers.ItemNo.{ItemNo}
 use Rattle.tv_base.specs.declared.numbers.Version.{Version}
 use Rattle.commute_ops.specs.declared.value.Value.{Value}
@@ -43,7 +43,7 @@ low_after xs p = fold (number_after swept_to p) 0 xs
 
 -- The moves at node p, after the acts xs.
 
--- each of these trees that is born in a version at most v, or below v, is whole
+-- each of these transactions that is born in a version at most v, or below v, is complete
 abbrev pub AllWholeTo : (ℕ → Bool) → ScriptData → List Place → ℕ → Type 0
 AllWholeTo are s xs v =
     (t : ℕ) (w : Version) → IsTrue (are t) → version_in t xs ≡ Some w → w.0 ≤ v → IsTrue (is_whole_in s xs t)
@@ -52,8 +52,8 @@ abbrev pub AllWholeBelow : (ℕ → Bool) → ScriptData → List Place → ℕ 
 AllWholeBelow are s xs v =
     (t : ℕ) (w : Version) → IsTrue (are t) → version_in t xs ≡ Some w → w.0 < v → IsTrue (is_whole_in s xs t)
 
--- a tree is born at its home, once: an update tree takes the update version, a read tree the read version, and a strict
--- tree the update version where that is the one after the read version
+-- a transaction is born at its home, once: an update transaction takes the update version, a read transaction the read
+-- version, and a strict transaction the update version if that is the one after the read version
 pub record IsBirth (s : ScriptData) (xs : List Place) (p t v : ℕ) : Type 0 where
   pub unborn : version_in t xs ≡ None
   pub home : (p < s.nodes) × (home_of s t ≡ p)
@@ -69,7 +69,8 @@ IsAskedBy had k (Some sub) = IsTrue ((k == 0) || had sub.parent.0)
 abbrev pub IsAsked : ScriptData → (ℕ → Bool) → ℕ → ℕ → Type 0
 IsAsked s had t k = IsAskedBy had k (sub_at s t k)
 
--- a subtransaction of an update or a read tree is done at its node, once, in a tree that is born, and after its parent
+-- a subtransaction of an update or a read transaction is done at its node, once, in a transaction that is born, and
+-- after its parent
 pub record IsDeed (s : ScriptData) (xs : List Place) (p t k : ℕ) (given : List (ItemNo × Value)) : Type 0 where
   pub commutes : IsTrue (updates s t || reads s t)
   pub born : IsTrue (was_born xs t)
@@ -84,23 +85,23 @@ pub record IsTurn (s : ScriptData) (xs : List Place) (p v : ℕ) : Type 0 where
   pub next : v ≡ update_after xs p + 1
   pub near : (q : ℕ) → q < s.nodes → v ≤ low_after xs q + 2
 
--- a node's read version is raised by one, to below every update version, where each update and strict tree that is born
--- up to there is whole
+-- a node's read version is raised by one, to below every update version, if each update and strict transaction that is
+-- born up to there is complete
 pub record IsShowing (s : ScriptData) (xs : List Place) (p v : ℕ) : Type 0 where
   pub node : p < s.nodes
   pub next : v ≡ read_after xs p + 1
   pub below : (q : ℕ) → q < s.nodes → v < update_after xs q
   pub whole : AllWholeTo (λ (t : ℕ). updates s t || is_strict_tree s t) s xs v
 
--- a node's low version is raised by one, to at most every read version, where each read tree that is born below it is
--- whole
+-- a node's low version is raised by one, to at most every read version, if each read transaction that is born below it
+-- is complete
 pub record IsSweeping (s : ScriptData) (xs : List Place) (p v : ℕ) : Type 0 where
   pub node : p < s.nodes
   pub next : v ≡ low_after xs p + 1
   pub below : (q : ℕ) → q < s.nodes → v ≤ read_after xs q
   pub whole : AllWholeBelow (reads s) s xs v
 
--- a strict tree isn't born yet, since its home's update version isn't the one after the read version
+-- a strict transaction isn't born yet, since its home's update version isn't the one after the read version
 pub record IsWaiting (s : ScriptData) (xs : List Place) (p t u r : ℕ) : Type 0 where
   pub strict : IsTrue (is_strict_tree s t)
   pub unborn : version_in t xs ≡ None
@@ -109,8 +110,8 @@ pub record IsWaiting (s : ScriptData) (xs : List Place) (p t u r : ℕ) : Type 0
   pub read : r ≡ read_after xs p
   pub apart : (u == r + 1) ≡ false
 
--- a subtransaction of a strict tree votes at its node, once, and after its parent: no where there is a cause, which it
--- names
+-- a subtransaction of a strict transaction votes at its node, once, and after its parent: no if there is a cause, which
+-- it names
 pub record IsVoting (s : ScriptData) (before : List Entry) (xs : List Place) (p t k : ℕ) (vote : Vote) : Type 0 where
   pub strict : IsTrue (is_strict_tree s t)
   pub born : IsTrue (was_born xs t)
@@ -119,18 +120,18 @@ pub record IsVoting (s : ScriptData) (before : List Entry) (xs : List Place) (p 
   pub node : (p < s.nodes) × (node_of s t k ≡ p)
   pub cause : refusal_in vote ≡ cause_of s before xs p t (ops_of s t k)
 
--- the marks of a whole update tree go at a node that it visits, once
+-- the marks of a complete update transaction go at a node that it visits, once
 pub record IsFreeing (s : ScriptData) (xs : List Place) (p t : ℕ) : Type 0 where
   pub update : IsTrue (updates s t)
   pub visited : IsTrue (visits (subs_at s t) p)
   pub whole : IsTrue (is_whole_in s xs t)
   pub once : was_freed t p xs ≡ false
 
--- each of the first n subtransactions of tree t has voted, or has voted yes
+-- each of the first n subtransactions of transaction t has voted, or has voted yes
 abbrev pub AllVoted : (ℕ → ℕ → List Place → Bool) → ScriptData → List Place → ℕ → Type 0
 AllVoted voted s xs t = (k : ℕ) → k < length (subs_at s t) → IsTrue (voted t k xs)
 
--- a strict tree is decided at its home, once, when all have voted: it commits where all have voted yes
+-- a strict transaction is decided at its home, once, when all have voted: it commits if all have voted yes
 pub record IsDecision (s : ScriptData) (xs : List Place) (p t : ℕ) (commit : Bool) : Type 0 where
   pub strict : IsTrue (is_strict_tree s t)
   pub home : (p < s.nodes) × (home_of s t ≡ p)
@@ -139,7 +140,7 @@ pub record IsDecision (s : ScriptData) (xs : List Place) (p t : ℕ) (commit : B
   pub yes_if : AllVoted voted_yes s xs t → commit ≡ true
   pub only_if : commit ≡ true → AllVoted voted_yes s xs t
 
--- what was decided of a strict tree is applied at a node that it visits, once
+-- what was decided of a strict transaction is applied at a node that it visits, once
 pub record IsApplying (s : ScriptData) (xs : List Place) (p t : ℕ) (commit : Bool) : Type 0 where
   pub strict : IsTrue (is_strict_tree s t)
   pub visited : IsTrue (visits (subs_at s t) p)
@@ -149,7 +150,7 @@ pub record IsApplying (s : ScriptData) (xs : List Place) (p t : ℕ) (commit : B
 -- The Board's run.
 
 -- the act is a move at node p, after the acts xs, in an entry before which the history was this one. The client's end
--- and the parking of a letter leave the Board as it is
+-- and the deferral of a message leave the Board as it is
 abbrev pub IsMoveAt : ScriptData → List Entry → List Place → ℕ → Act → Type 0
 IsMoveAt s before xs p (Born t v) = IsBirth s xs p t.0 v.0
 IsMoveAt s before xs p (Did t k values) = IsDeed s xs p t.0 k.0 values

@@ -1,4 +1,5 @@
--- How a tree comes out, by acts: what its subtransactions did and voted, what was decided of it, and what it gives.
+-- How a transaction comes out, by acts: what its subtransactions did and voted, what was decided of it, and what it
+-- gives.
 use Rattle.std.specs.Prelude.{if◌then◌else◌, ℕ, ◌+◌, Bool, ◌==◌, ◌&&◌, List, [], ◌∷◌, ◌++◌, map, Option, Some, None}
 use Rattle.std.specs.Option.{option_and_then, option_map_or, option_or, unwrap_or}
 use Rattle.tv_base.specs.declared.numbers.ItemNo.{ItemNo}
@@ -16,7 +17,7 @@ use Rattle.board_rules.specs.Stands.{refusal_in}
 abbrev pub acts_in : List Place → List Act
 acts_in xs = map (λ (x : Place). x.act) xs
 
--- the values of a Did of subtransaction k of tree t
+-- the values of a Did of subtransaction k of transaction t
 abbrev pub did_by : ℕ → ℕ → Act → Option (List (ItemNo × Value))
 did_by t k (Did u j values) = if (u.0 == t) && (j.0 == k) then Some values else None
 did_by t k _ = None
@@ -26,27 +27,27 @@ abbrev pub did_in : ℕ → ℕ → List Act → Option (List (ItemNo × Value))
 did_in t k [] = None
 did_in t k (a ∷ acts) = option_or (did_by t k a) (did_in t k acts)
 
--- the vote that the act is of subtransaction k of tree t
+-- the vote that the act is of subtransaction k of transaction t
 abbrev pub vote_by : ℕ → ℕ → Act → Option Vote
 vote_by t k (Voted u j vote) = if (u.0 == t) && (j.0 == k) then Some vote else None
 vote_by t k _ = None
 
--- the first vote of subtransaction k of tree t among these acts
+-- the first vote of subtransaction k of transaction t among these acts
 abbrev pub vote_in : ℕ → ℕ → List Act → Option Vote
 vote_in t k [] = None
 vote_in t k (a ∷ acts) = option_or (vote_by t k a) (vote_in t k acts)
 
--- what the act decides of tree t: whether it commits
+-- what the act decides of transaction t: whether it commits
 abbrev pub decision_by : ℕ → Act → Option Bool
 decision_by t (Decided u commit) = if u.0 == t then Some commit else None
 decision_by t _ = None
 
--- what these acts first decide of tree t
+-- what these acts first decide of transaction t
 abbrev pub decision_in : ℕ → List Act → Option Bool
 decision_in t [] = None
 decision_in t (a ∷ acts) = option_or (decision_by t a) (decision_in t acts)
 
--- the values of the Dids of tree t in these acts, by subtransaction, where the list begins with subtransaction k
+-- the values of the Dids of transaction t in these acts, by subtransaction, if the list begins with subtransaction k
 abbrev pub did_from : List Act → ℕ → ℕ → List Sub → List (ItemNo × Value)
 did_from acts t k [] = []
 did_from acts t k (sub ∷ subs) = unwrap_or (did_in t k acts) [] ++ did_from acts t (k + 1) subs
@@ -56,7 +57,8 @@ abbrev pub got_of : Vote → List (ItemNo × Value)
 got_of (Yes values) = values
 got_of (No cause) = []
 
--- the values of the yes votes of tree t in these acts, by subtransaction, where the list begins with subtransaction k
+-- the values of the yes votes of transaction t in these acts, by subtransaction, if the list begins with subtransaction
+-- k
 abbrev pub got_from : List Act → ℕ → ℕ → List Sub → List (ItemNo × Value)
 got_from acts t k [] = []
 got_from acts t k (sub ∷ subs) = option_map_or got_of (vote_in t k acts) [] ++ got_from acts t (k + 1) subs

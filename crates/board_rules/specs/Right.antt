@@ -46,13 +46,13 @@ is_get _ = false
 abbrev pub gets_among : List SubOp → List SubOp
 gets_among os = filter (λ (o : SubOp). is_get o.deed) os
 
--- a yes vote shows what its gets are worth at the tree's version, in the history before its entry
+-- a yes vote shows what its gets are worth at the transaction's version, in the history before its entry
 abbrev pub IsRightVote : ScriptData → List Entry → List SubOp → Option Version → Vote → Type 0
 IsRightVote s before ops born (Yes values) = IsShown (worth s before) (gets_among ops) values born
 IsRightVote s before ops born (No cause) = Unit {0}
 
--- a subtransaction of a read tree shows what its items are worth at the tree's version after these acts, of which its
--- own is the last; a strict tree's vote is right in the history before its entry
+-- a subtransaction of a read transaction shows what its items are worth at the transaction's version after these acts,
+-- of which its own is the last; a strict transaction's vote is right in the history before its entry
 abbrev pub IsRightAct : ScriptData → List Entry → List Place → Act → Type 0
 IsRightAct s before upto (Did t k values) =
     IsTrue (reads s t.0) → IsShown (worth_in s upto) (ops_of s t.0 k.0) values (version_in t.0 upto)
@@ -61,22 +61,22 @@ IsRightAct s before upto (Voted t k vote) =
 IsRightAct s before upto _ = Unit {0}
 
 -- Each read shows what was worth at its version up to its place: the acts of all entries before, and of its own entry
--- those up to and with its Did. Whether the Did itself is among them makes no difference, since a read tree's Did
--- changes no worth.
+-- those up to and with its Did. Whether the Did itself is among them makes no difference, since a read transaction's
+-- Did changes no worth.
 abbrev pub IsRight : ScriptData → List Entry → Type 0
 IsRight s h =
     AtEachAct (λ (before : List Entry) (xs : List Place) (x : Place). IsRightAct s before (xs ++ x ∷ []) x.act) h
 
--- tree t is there, and is an update or a read tree
+-- transaction t is there, and is an update or a read transaction
 abbrev pub commutes : ScriptData → ℕ → Bool
 commutes s t = updates s t || reads s t
 
--- what is in the way of subtransaction k of tree t at node p after these acts: of an update tree's a strict tree's lock, as
--- the look back names it; of any other's nothing
+-- what is in the way of subtransaction k of transaction t at node p after these acts: of an update transaction's a
+-- strict transaction's lock, as the look back names it; of any other's nothing
 abbrev pub in_way_of : ScriptData → List Place → ℕ → ℕ → ℕ → Option Cause
 in_way_of s xs p t k = if updates s t then conflict_of s xs p t (ops_of s t k) else None
 
--- the acts of an entry that park
+-- the acts of an entry that defer
 abbrev pub is_parking : Act → Bool
 is_parking (Parked t k x holder) = true
 is_parking _ = false
@@ -90,21 +90,22 @@ parking_for t k None = []
 parking_for t k (Some (Conflict x holder)) = Parked t k x holder ∷ []
 parking_for t k (Some cause) = []
 
--- what the acts of an entry do for subtransaction k of tree t, where these acts came before: one of an update or read tree
--- is done if nothing is in its way; if something is, it is parked for that; and nothing else is parked
+-- what the acts of an entry do for subtransaction k of transaction t, if these acts came before: one of an update or
+-- read transaction is done if nothing is in its way; if something is, it is deferred for that; and nothing else is
+-- deferred
 pub record IsDoneOrParked (s : ScriptData) (xs : List Place) (p : ℕ) (t : TreeNo) (k : SubNo) (acts : List Act) : Type 0 where
   pub done : IsTrue (commutes s t.0) → list_any (does t.0 k.0) acts ≡ not (is_some (in_way_of s xs p t.0 k.0))
   pub parked : parkings acts ≡ parking_for t k (in_way_of s xs p t.0 k.0)
 
--- an entry that takes the letter of a subtransaction, or its Wake, does it or parks it; any other parks nothing
+-- an entry that takes the message of a subtransaction, or its Wake, does it or defers it; any other defers nothing
 abbrev pub IsDoneAtOnce : ScriptData → List Place → ℕ → Body → List Act → Type 0
 IsDoneAtOnce s xs p (Root t) acts = IsDoneOrParked s xs p t (record { 0 = 0 }) acts
 IsDoneAtOnce s xs p (SubLetter t k v) acts = IsDoneOrParked s xs p t k acts
 IsDoneAtOnce s xs p (Wake t k) acts = IsDoneOrParked s xs p t k acts
 IsDoneAtOnce s xs p _ acts = parkings acts ≡ []
 
--- each entry does at once what it is asked for: so no subtransaction of a read tree waits, and one of an update tree just
--- where a strict tree's lock is in its way
+-- each entry does at once what it is asked for: so no subtransaction of a read transaction waits, and one of an update
+-- transaction just if a strict transaction's lock is in its way
 abbrev pub IsAtOnce : ScriptData → List Entry → Type 0
 IsAtOnce s h =
     (n : ℕ) (e : Entry) → slice_get h n ≡ Some e → IsDoneAtOnce s (places_of (take n h)) e.actor.0 e.took.body e.acts

@@ -10,7 +10,8 @@ use Rattle.board_rules.specs.Histories.{Place, born_as, is_strict_tree, is_whole
 use Rattle.board_rules.specs.Moves.{IsApplying, IsDecision, IsFreeing}
 use Rattle.board_rules.specs.Stands.{conflict_of, newer_of, was_voted}
 
--- a Did is of a born tree's subtransaction at its node, once; that of an update tree meets no lock that conflicts
+-- a Did is of a born transaction's subtransaction at its node, once; that of an update transaction meets no lock that
+-- conflicts
 pub record IsFreeDeed (s : ScriptData) (xs : List Place) (p t k : ℕ) : Type 0 where
   pub born : IsTrue (was_born xs t)
   pub there : k < length (subs_at s t)
@@ -18,8 +19,8 @@ pub record IsFreeDeed (s : ScriptData) (xs : List Place) (p t k : ℕ) : Type 0 
   pub node : node_of s t k ≡ p
   pub free : IsTrue (updates s t) → conflict_of s xs p t (ops_of s t k) ≡ None
 
--- a yes vote is of a born strict tree's subtransaction at its node, once; it meets no lock that conflicts, and what it
--- writes is written in no newer version
+-- a yes vote is of a born strict transaction's subtransaction at its node, once; it meets no lock that conflicts, and
+-- what it writes is written in no newer version
 pub record IsFreeVote (s : ScriptData) (xs : List Place) (p t k : ℕ) : Type 0 where
   pub strict : IsTrue (is_strict_tree s t)
   pub born : IsTrue (was_born xs t)
@@ -43,11 +44,11 @@ IsByRule s xs p _ = Unit {0}
 abbrev pub AreByRule : ScriptData → List Place → Type 0
 AreByRule s zs = (i : ℕ) (y : Place) → slice_get zs i ≡ Some y → IsByRule s (take i zs) y.node y.act
 
--- tree t writes: it is an update or a strict tree
+-- transaction t writes: it is an update or a strict transaction
 abbrev pub is_writer : ScriptData → ℕ → Bool
 is_writer s t = updates s t || is_strict_tree s t
 
--- where a strict tree is born, each writer of a smaller version, whenever it is born, is whole
+-- if a strict transaction is born, each writer of a smaller version, whenever it is born, is complete
 abbrev pub AreBornLate : ScriptData → List Place → Type 0
 AreBornLate s zs =
     (i k t : ℕ) (y : Place) (v w : Version) → slice_get zs i ≡ Some y → born_as k y.act ≡ Some v → is_strict_tree s k ≡ true

@@ -1,5 +1,5 @@
--- Which locks are at a place of a history, and why a subtransaction of a strict tree votes no: a look back over the
--- acts.
+-- Which locks are at a place of a history, and why a subtransaction of a strict transaction votes no: a look back over
+-- the acts.
 use Rattle.std.specs.Prelude.{if◌then◌else◌, ℕ, zero, suc, Bool, false, ◌==◌, ◌&&◌, ◌||◌, not, max, nat_lt, List, [], ◌∷◌, ◌++◌, fold, filter, length, map, Option, Some, None}
 use Rattle.std.specs.List.{list_any}
 use Rattle.std.specs.Option.{option_or}
@@ -21,14 +21,14 @@ use Rattle.script_parts.specs.declared.parts.SubOp.{SubOp}
 use Rattle.board_rules.specs.Histories.{Place, applies, version_in, version_or}
 use Rattle.board_rules.specs.Worth.{ops_change, subs_change, worth}
 
--- the operations whose locks the act takes for tree k: those that an update tree has done, and those that a strict tree
--- has voted yes for; a read tree takes none
+-- the operations whose locks the act takes for transaction k: those that an update transaction has done, and those that
+-- a strict transaction has voted yes for; a read transaction takes none
 abbrev pub locked_by : ScriptData → ℕ → Act → List SubOp
 locked_by s k (Did t j values) = if (t.0 == k) && updates s k then ops_of s k j.0 else []
 locked_by s k (Voted t j (Yes values)) = if t.0 == k then ops_of s k j.0 else []
 locked_by s k _ = []
 
--- the marks of tree t went at node p
+-- the marks of transaction t went at node p
 abbrev pub frees : ℕ → Act → Bool
 frees t (Freed u) = u.0 == t
 frees t _ = false
@@ -40,8 +40,8 @@ was_freed t p xs = list_any (λ (x : Place). (x.node == p) && frees t x.act) xs
 abbrev pub modes_on : ℕ → List SubOp → List Mode
 modes_on x os = map (λ (o : SubOp). mode_wanted o.deed) (filter (λ (o : SubOp). o.item.0 == x) os)
 
--- the modes in which tree k has item x, which is at node p, after an act and after these acts: what it has at its node
--- goes with its marks, and where what was decided of it is applied
+-- the modes in which transaction k has item x, which is at node p, after an act and after these acts: what it has at
+-- its node goes with its marks, and if what was decided of it is applied
 abbrev pub modes_after : ScriptData → ℕ → ℕ → ℕ → List Mode → Place → List Mode
 modes_after s p x k modes y =
     if (y.node == p) && (frees k y.act || applies k y.act) then [] else modes ++ modes_on x (locked_by s k y.act)
@@ -49,7 +49,7 @@ modes_after s p x k modes y =
 abbrev pub modes_standing : ScriptData → List Place → ℕ → ℕ → ℕ → List Mode
 modes_standing s xs p x k = fold (modes_after s p x k) [] xs
 
--- tree k has the item in a mode that conflicts with this one
+-- transaction k has the item in a mode that conflicts with this one
 abbrev pub conflicts_with : ScriptData → List Place → ℕ → ℕ → Mode → ℕ → Bool
 conflicts_with s xs p x mode k = list_any (modes_conflict mode) (modes_standing s xs p x k)
 
@@ -58,7 +58,7 @@ abbrev pub least_from : (ℕ → Bool) → ℕ → ℕ → Option ℕ
 least_from test k zero = None
 least_from test k (suc n) = if test k then Some k else least_from test (suc k) n
 
--- the tree of least number, other than t, that has the item in a mode that conflicts with this one
+-- the transaction of least number, other than t, that has the item in a mode that conflicts with this one
 abbrev pub holder_of : ScriptData → List Place → ℕ → ℕ → ℕ → Mode → Option ℕ
 holder_of s xs p t x mode =
     least_from (λ (k : ℕ). not (k == t) && conflicts_with s xs p x mode k) 0 (length s.trees)
@@ -73,8 +73,8 @@ conflict_of s xs p t [] = None
 conflict_of s xs p t (o ∷ os) =
     option_or (conflict_with o.item (holder_of s xs p t o.item.0 (mode_wanted o.deed))) (conflict_of s xs p t os)
 
--- the version of the tree by whose act item x was written, else 0: an update tree's Did writes, and the Applied of a
--- commit at the item's node
+-- the version of the transaction by whose act item x was written, else 0: an update transaction's Did writes, and the
+-- Applied of a commit at the item's node
 abbrev pub written_by : ScriptData → List Place → ℕ → Bool → Act → ℕ
 written_by s xs x here (Did t j values) =
     if updates s t.0 && ops_change x (ops_of s t.0 j.0) then version_or 0 (version_in t.0 xs) else 0
@@ -101,8 +101,8 @@ abbrev pub short_of : ScriptData → List Entry → ℕ → List SubOp → Optio
 short_of s before v [] = None
 short_of s before v (o ∷ os) = option_or (short_cause o.item (found_short o.deed (worth s before o.item.0 v))) (short_of s before v os)
 
--- why a subtransaction of strict tree t with these operations at node p votes no, if it does: a lock that conflicts,
--- else a newer version, else a value that is short
+-- why a subtransaction of strict transaction t with these operations at node p votes no, if it does: a lock that
+-- conflicts, else a newer version, else a value that is short
 abbrev pub cause_of : ScriptData → List Entry → List Place → ℕ → ℕ → List SubOp → Option Cause
 cause_of s before xs p t os =
     let v = version_or 0 (version_in t xs) in
@@ -113,7 +113,7 @@ abbrev pub refusal_in : Vote → Option Cause
 refusal_in (Yes values) = None
 refusal_in (No cause) = Some cause
 
--- subtransaction k of tree t has voted, or has voted yes
+-- subtransaction k of transaction t has voted, or has voted yes
 abbrev pub votes : ℕ → ℕ → Act → Bool
 votes t k (Voted u j vote) = (u.0 == t) && (j.0 == k)
 votes t k _ = false

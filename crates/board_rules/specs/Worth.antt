@@ -25,7 +25,7 @@ after_ops x os w = fold (λ v o. if o.item.0 == x then after_deed o.deed v else 
 abbrev pub after_subs : ℕ → List Sub → Value → Value
 after_subs x ks w = fold (λ v k. after_ops x k.ops v) w ks
 
--- the value of item x after tree t
+-- the value of item x after transaction t
 abbrev pub after_tree : ScriptData → ℕ → Value → ℕ → Value
 after_tree s x w t = after_subs x (subs_at s t) w
 
@@ -34,7 +34,7 @@ abbrev pub first_value : Option ItemRow → Value
 first_value None = Sum (record { 0 = pos 0 })
 first_value (Some row) = value_start row.kind row.initial
 
--- what item x is worth after these trees, in order
+-- what item x is worth after these transactions, in order
 abbrev pub worth_after : ScriptData → ℕ → List ℕ → Value
 worth_after s x ts = fold (after_tree s x) (first_value (slice_get s.items x)) ts
 
@@ -58,22 +58,22 @@ ops_change x os = list_any (λ o. (o.item.0 == x) && changes o.deed) os
 abbrev pub subs_change : ℕ → List Sub → Bool
 subs_change x ks = list_any (λ k. ops_change x k.ops) ks
 
--- a tree of this kind writes, whatever it was born as: an update tree does, and a strict tree that was decided to
--- commit
+-- a transaction of this kind writes, whatever it was born as: an update transaction does, and a strict transaction that
+-- was decided to commit
 abbrev pub may_write : List Entry → ℕ → TreeKind → Bool
 may_write h t Update = true
 may_write h t Read = false
 may_write h t Strict = was_decided_as t true (places_of h)
 
--- tree t is of version v, writes, and changes item x
+-- transaction t is of version v, writes, and changes item x
 abbrev pub writes : List Entry → ℕ → ℕ → ℕ → Tree → Bool
 writes h x v t tree = (is_version v (version_of h t) && may_write h t tree.kind) && subs_change x tree.subs
 
--- the same of one of the trees, where the list begins with tree t
+-- the same of one of the transactions, if the list begins with transaction t
 abbrev pub trees_write : List Entry → ℕ → ℕ → ℕ → List Tree → Bool
 trees_write h x v t [] = false
 trees_write h x v t (tree ∷ ts) = writes h x v t tree || trees_write h x v (t + 1) ts
 
--- an update tree of version v, whole or not, or a committed strict tree of version v changes item x
+-- an update transaction of version v, complete or not, or a committed strict transaction of version v changes item x
 abbrev pub is_written : ScriptData → List Entry → ℕ → ℕ → Bool
 is_written s h x v = trees_write h x v 0 s.trees

@@ -1,4 +1,4 @@
--- Which trees are whole, by their states.
+-- Which transactions are complete, by their states.
 use Rattle.std.proofs.Common.{◌≡◌, ◌⊎◌, inl, inr, ℕ, zero, suc, ◌<◌, ◌≤◌, Bool, true, false, List, [], ◌∷◌, ◌++◌, length, refl, sym, ap, ◌∙◌, arith, Option, Some, None}
 use Rattle.std.specs.Prelude.{if◌then◌else◌, ◌&&◌, slice_get, is_some}
 use Rattle.std.proofs.lemmas.Bool.{cases_lt}

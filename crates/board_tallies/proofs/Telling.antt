@@ -1,4 +1,4 @@
--- What is known of trees after one act more.
+-- What is known of transactions after one act more.
 use Rattle.std.proofs.Common.{◌≡◌, ℕ, ◌<◌, ◌==◌, Bool, true, false, List, [], ◌∷◌, ◌++◌, length, refl, sym, ap, subst, ◌∙◌, get_or, arith, Option, Some, None}
 use Rattle.std.specs.Prelude.{if◌then◌else◌, not, ◌||◌, ◌&&◌, slice_set}
 use Rattle.std.specs.List.{list_any}

@@ -1,4 +1,5 @@
--- What was told of a tree, taken back; and the counts of the trees that aren't whole, after something is told.
+-- What was told of a transaction, taken back; and the counts of the transactions that aren't complete, after something
+-- is told.
 use Rattle.std.proofs.Common.{◌≡◌, ℕ, zero, suc, ◌+◌, ◌<◌, ◌≤◌, Bool, true, false, List, [], ◌∷◌, length, Option, Some, None, refl, sym, ap, ◌∙◌, slice_set, get_or, arith}
 use Rattle.std.specs.Prelude.{if◌then◌else◌, ◌||◌, slice_get}
 use Rattle.std.specs.Option.{option_or}

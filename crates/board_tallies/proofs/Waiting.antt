@@ -1,4 +1,4 @@
--- Where no tree is counted as not whole in versions up to one, the trees born up to it are whole.
+-- If no transaction is counted as not complete in versions up to one, the transactions born up to it are complete.
 use Rattle.std.proofs.Common.{◌≡◌, ◌⊎◌, inl, inr, ℕ, zero, suc, ◌<◌, ◌≤◌, ◌==◌, Bool, true, false, List, [], ◌∷◌, length, refl, sym, ap, subst, ◌∙◌, arith, Option, Some, None}
 use Rattle.std.specs.Prelude.{if◌then◌else◌, ◌&&◌, ◌||◌, is_some, nat_lt, not, slice_get}
 use Rattle.std.specs.Bool.{Decides}

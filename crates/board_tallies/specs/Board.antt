@@ -23,8 +23,8 @@ use Rattle.letter_types.specs.declared.entries.Entry.{Entry}
 use Rattle.board_rules.specs.ButCause.{IsMoveButCause}
 use Rattle.board_tallies.specs.GateRows.{AreGatesOf, GatesData}
 
--- the numbers of each node; what is known of each tree; how many born trees aren't whole, by version; how many trees
--- from the first on are whole; and whether the client has finished
+-- the numbers of each node; what is known of each transaction; how many born transactions aren't complete, by version;
+-- how many transactions from the first on are complete; and whether the client has finished
 pub record BoardData : Type 0 where
   pub nodes : List Numbers
   pub trees : List TreeState
@@ -39,7 +39,7 @@ first_numbers = record { update = record { 0 = 1 }; read = record { 0 = 0 }; low
 abbrev pub numbers_at : List Numbers → ℕ → Numbers
 numbers_at nodes p = get_or nodes p first_numbers
 
--- a tree of which nothing is known, and what is known of tree t
+-- a transaction of which nothing is known, and what is known of transaction t
 abbrev pub first_state : TreeState
 first_state = record {
   born = None;
@@ -61,12 +61,12 @@ pub record ShowsNode (p : ℕ) (xs : List Place) (n : Numbers) : Type 0 where
   pub read : n.read.0 ≡ read_after xs p
   pub low : n.low.0 ≡ low_after xs p
 
--- there are 64 marks, and they stand where the test says so
+-- there are 64 marks, and they stand if the test says so
 pub record AreMarks (marks : List Bool) (test : ℕ → Bool) : Type 0 where
   pub many : length marks ≡ 64
   pub each : (k : ℕ) → get_or marks k false ≡ test k
 
--- the state is that of tree t after these acts
+-- the state is that of transaction t after these acts
 pub record ShowsTree (t : ℕ) (xs : List Place) (state : TreeState) : Type 0 where
   pub born : state.born ≡ version_in t xs
   pub done : AreMarks state.done (λ (k : ℕ). was_done t k xs)
@@ -86,7 +86,7 @@ abbrev pub marked_for : List Sub → List Bool → Bool
 marked_for [] marks = true
 marked_for (k ∷ ks) marks = get_or marks k.node.0 false && marked_for ks marks
 
--- by its state, all that is to come of a tree has come; and the tree is whole
+-- by its state, all that is to come of a transaction has come; and the transaction is complete
 abbrev pub is_through : Tree → TreeState → Bool
 is_through tree state =
     if is_strict tree.kind then marked_for tree.subs state.applied else marked_to (length tree.subs) state.done
@@ -97,15 +97,15 @@ is_whole_by tree state = is_some state.born && is_through tree state
 abbrev pub whole_at : List Tree → List TreeState → ℕ → Bool
 whole_at trees states t = elim (slice_get trees t) [ Some tree ↦ is_whole_by tree (state_at states t) | None ↦ false ]
 
--- the version in which a born tree isn't whole yet
+-- the version in which a born transaction isn't complete yet
 abbrev pub pending_version : Tree → TreeState → Option Version
 pending_version tree state = if is_through tree state then None else state.born
 
--- one if it is this version, for a tree that reads or doesn't, as is asked
+-- one if it is this version, for a transaction that reads or doesn't, as is asked
 abbrev pub pends : Bool → ℕ → Bool → Option Version → ℕ
 pends reads v own found = if (if reads then own else not own) && is_version v found then 1 else 0
 
--- how many born trees of version v aren't whole: of the read trees, or of the others
+-- how many born transactions of version v aren't complete: of the read transactions, or of the others
 abbrev pub unwhole_of : Bool → ℕ → List Tree → List TreeState → ℕ
 unwhole_of reads v [] states = 0
 unwhole_of reads v (tree ∷ trees) [] = 0
@@ -125,7 +125,7 @@ pending_of reads v ps = sum_by (counted_in reads v) ps
 abbrev pub AreCounted : List Tree → List TreeState → List Pending → Type 0
 AreCounted trees states ps = (reads : Bool) (v : ℕ) → pending_of reads v ps ≡ unwhole_of reads v trees states
 
--- the first n trees are whole, and the next one isn't
+-- the first n transactions are complete, and the next one isn't
 pub record ArePassed (s : ScriptData) (xs : List Place) (n : ℕ) : Type 0 where
   pub within : n ≤ length s.trees
   pub each : (t : ℕ) → t < n → IsTrue (is_whole_in s xs t)
@@ -143,7 +143,7 @@ pub record IsBoardOf (s : ScriptData) (xs : List Place) (b : BoardData) : Type 0
   -- a node has collected to each version from 1 up to its low version
   pub swept : (p v : ℕ) → Decides (was_swept p v xs) ((1 ≤ v) × (v ≤ low_after xs p))
 
--- the tree that becomes a member of the serial order by this act, after which the acts are these
+-- the transaction that becomes a member of the serial order by this act, after which the acts are these
 abbrev pub closes_in : ScriptData → List Place → Act → Option ℕ
 closes_in s upto act = elim (commits_by s act) [ Some t ↦ if is_settled_in s upto t then Some t else None | None ↦ None ]
 
@@ -175,10 +175,10 @@ StraysBy s g b x = AreGatesOf s g → OfBoard s b (λ xs. KeepsTo s xs x → ⊥
 abbrev pub IsBoardWith : ScriptData → Place → BoardData → BoardData → Type 0
 IsBoardWith s x old new = OfBoardWith s old x (λ upto. IsBoardOf s upto new)
 
--- the number of a tree, if there is one
+-- the number of a transaction, if there is one
 abbrev pub tree_number : Option TreeNo → Option ℕ
 tree_number found = option_map (λ (t : TreeNo). t.0) found
 
--- the act x makes this tree, if one, a member of the serial order
+-- the act x makes this transaction, if one, a member of the serial order
 abbrev pub ClosesBy : ScriptData → BoardData → Place → Option TreeNo → Type 0
 ClosesBy s b x closed = OfBoardWith s b x (λ upto. tree_number closed ≡ closes_in s upto x.act)

@@ -7,7 +7,7 @@ use Rattle.script_parts.specs.declared.parts.ScriptRow.TheVariants as rows
 use Rattle.board_rules.specs.Gates.{before_settle}
 use Rattle.board_tallies.specs.declared.gates.RowGate.{RowGate}
 
--- the row is a tree's
+-- the row is a transaction's
 abbrev pub is_tree_row : ScriptRow → Bool
 is_tree_row (rows.Tree t) = true
 is_tree_row rows.Advance = false
@@ -19,7 +19,7 @@ abbrev pub rows_passing : (ScriptRow → Bool) → List ScriptRow → ℕ
 rows_passing test [] = 0
 rows_passing test (r ∷ rs) = (if test r then 1 else 0) + rows_passing test rs
 
--- how many trees, and how many advancements, stand before the last `settle` among these rows
+-- how many transactions, and how many advancements, stand before the last `settle` among these rows
 abbrev pub gate_behind : List ScriptRow → RowGate
 gate_behind rs = record {
   trees = rows_passing is_tree_row (before_settle rs);

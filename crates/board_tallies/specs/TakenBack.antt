@@ -19,12 +19,12 @@ state_back (was.Applied p applied) st = record st { applied = slice_set st.appli
 state_back (was.Freed p freed) st = record st { freed = slice_set st.freed p.0 freed }
 state_back (was.Decided committed aborted) st = record st { committed = committed; aborted = aborted }
 
--- the states, where one was changed
+-- the states, if one was changed
 abbrev pub states_back : Option (TreeNo × StateWas) → List TreeState → List TreeState
 states_back None states = states
 states_back (Some told) states = slice_set states told.0.0 (state_back told.1 (state_at states told.0.0))
 
--- the counts, where one was changed or a first one was added
+-- the counts, if one was changed or a first one was added
 abbrev pub pending_back : PendingWas → List Pending → List Pending
 pending_back counts.Same ps = ps
 pending_back (counts.Put place one) ps = slice_set ps place one

@@ -1,6 +1,5 @@
 // The Board's tallies: how they begin, go on and are taken back.
 ghost use Rattle.std.specs.Prelude.{◌≡◌, true, false, [], List, IfOk, OnErr, OnOk};
-ghost use Rattle.tv_base.specs.declared.numbers.TreeNo.{TreeNo};
 ghost use Rattle.script_parts.specs.ScriptData.{ScriptData};
 ghost use Rattle.board_rules.specs.Histories.{Place, act_at};
 

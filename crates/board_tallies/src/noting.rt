@@ -1,8 +1,8 @@
 // What an act makes of the states of trees, and of the counts of those that aren't whole.
-ghost use Rattle.std.specs.Prelude.{if◌then◌else◌, ◌≡◌, ◌<◌, ◌&&◌, ◌||◌, length, IfOk, None, OnErr, OnOk, Some};
+ghost use Rattle.std.specs.Prelude.{if◌then◌else◌, ◌≡◌, ◌<◌, ◌||◌, length, IfOk, None, OnErr, OnOk, Some};
 ghost use Rattle.board_rules.specs.Right.{finishes};
 ghost use Rattle.script_parts.specs.ScriptData.{is_strict, is_update};
-ghost use Rattle.board_tallies.specs.Board.{state_at, whole_at};
+ghost use Rattle.board_tallies.specs.Board.{state_at};
 ghost use Rattle.board_tallies.specs.TakenBack.{pending_back, states_back};
 ghost use Rattle.board_tallies.specs.inside.Noting.{GoesOn, closed_by, kind_passes, pending_at, reads_at, states_told, states_with, StayCounted};
 

@@ -1,5 +1,5 @@
 // How many born trees aren't whole, by version.
-ghost use Rattle.std.specs.Prelude.{◌≡◌, ◌+◌, ◌<◌, Some, filter, get_or, length, IfOk, IfSome, IsNone, OnErr, OnOk};
+ghost use Rattle.std.specs.Prelude.{◌≡◌, ◌<◌, filter, get_or, length, IfOk, IfSome, IsNone, OnErr, OnOk};
 ghost use Rattle.board_tallies.specs.Board.{count_of, pending_of};
 ghost use Rattle.board_tallies.specs.TakenBack.{pending_back};
 ghost use Rattle.board_tallies.specs.inside.Pending.{is_counted, none_to, with_count, AreRecounted, HaveOneLess, HaveOneMore};

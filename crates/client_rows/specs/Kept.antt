@@ -6,22 +6,22 @@ use Rattle.tx_trees.specs.declared.parts.ScriptRow.{ScriptRow}
 use Rattle.tx_trees.specs.declared.parts.ScriptRow.TheVariants.{Tree as TreeRow, Advance as AdvanceRow}
 use Rattle.world_model.specs.Client.{Client}
 
--- how many of these rows are trees
+-- how many of these rows are transactions
 abbrev pub trees_in : List ScriptRow → ℕ
 trees_in [] = 0
 trees_in (TreeRow t ∷ rows) = 1 + trees_in rows
 trees_in (AdvanceRow ∷ rows) = trees_in rows
 trees_in (_ ∷ rows) = trees_in rows
 
--- how many of their trees aren't answered
+-- how many of their transactions aren't answered
 abbrev pub unanswered_in : List Bool → List ScriptRow → ℕ
 unanswered_in answered [] = 0
 unanswered_in answered (TreeRow t ∷ rows) = (if get_or answered t.0 false then 0 else 1) + unanswered_in answered rows
 unanswered_in answered (AdvanceRow ∷ rows) = unanswered_in answered rows
 unanswered_in answered (_ ∷ rows) = unanswered_in answered rows
 
--- the client's state; of the rows submitted, how many are trees, how many of these aren't answered, and how many ask
--- for an advancement
+-- the client's state; of the rows submitted, how many are transactions, how many of these aren't answered, and how many
+-- ask for an advancement
 pub record Kept : Type 0 where
   pub client : Client
   pub sent : ℕ
@@ -37,7 +37,7 @@ kept_of s c = record {
   asked = advances_in (take c.next s.rows);
 }
 
--- the client is this script's: its numbers are right, it is within the rows, and it knows of each tree
+-- the client is this script's: its numbers are right, it is within the rows, and it knows of each transaction
 pub record IsKeptOf (s : ScriptData) (k : Kept) : Type 0 where
   pub numbers : k ≡ kept_of s k.client
   pub next : k.client.next ≤ length s.rows

@@ -6,7 +6,7 @@ use Rattle.world_model.specs.Client.{Client, nudge}
 use Rattle.client_rows.specs.declared.news.News.{News}
 use Rattle.client_rows.specs.declared.news.News.TheVariants.{Answered, Ended, EndedTo}
 
--- which trees are answered then
+-- which transactions are answered then
 abbrev pub answered_after : News → List Bool → List Bool
 answered_after (Answered t) answered = slice_set answered t.0 true
 answered_after Ended answered = answered

@@ -1,4 +1,4 @@
--- The words as clap takes them, where a word that looks like an option is no value, give the same line as the plain
+-- The words as clap takes them, if a word that looks like an option is no value, give the same line as the plain
 -- recursion: such a value meets no form.
 use Rattle.std.proofs.Common.{◌≡◌, ◌∙◌, List, [], ◌∷◌, Option, Some, None, codes, refl, sym, ap, subst, ℕ, Bool, true, false}
 use Rattle.std.specs.Prelude.{◌||◌, ◌&&◌, ◌==◌, drop, is_some, length, nat_le, option_and_then, slice_get, if◌then◌else◌}

@@ -28,7 +28,7 @@ abbrev pub put : Text → Option Text → Given → Option Given
 put name value g =
     if is_option name value && not (is_some (value_of name g)) then Some ((name, unwrap_or value []) ∷ g) else None
 
--- `name` or `name=value`: what is before the first `=` (61), and what is after it where there is one
+-- `name` or `name=value`: what is before the first `=` (61), and what is after it if there is one
 abbrev pub name_and_value : Text → Text × Option Text
 name_and_value text = (
   before_first (λ x. x == 61) text,
@@ -45,7 +45,7 @@ option_in word = None
 abbrev pub stands_alone : Text × Option Text → Bool
 stands_alone o = is_some o.1 || bytes_eq (codes "history") o.0
 
--- what the words give, after what was given before, where the option of a name may wait for its value
+-- what the words give, after what was given before, if the option of a name may wait for its value
 unfoldable pub given : Given → Option Text → List Text → Option Given
 given g None [] = Some g
 given g (Some name) [] = None

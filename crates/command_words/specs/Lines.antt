@@ -35,7 +35,7 @@ IsReadNumber low high text read = MatchResult read
     (λ v. (is_given_in low high text ≡ true) × (v ≡ option_map decimal_value text))
     (λ e. (e ≡ errors.Refused) × (is_given_in low high text ≡ false))
 
--- what goes with each mode: workers are 4 where they aren't given, and a soak needs its seed and its trees
+-- what goes with each mode: workers are 4 if they aren't given, and a soak needs its seed and its trees
 abbrev pub line_of_mode : ModeName → Option ℕ → Option ℕ → Option ℕ → Bool → Option Line
 line_of_mode names.Check None None None false = Some (lines.OfScript modes.Check)
 line_of_mode names.Sim None seed None history = Some (lines.OfScript (modes.Sim seed history))
@@ -58,7 +58,7 @@ abbrev pub HasWorkers : ScriptMode → Type 0
 HasWorkers (modes.Run workers history) = (1 ≤ workers) × (workers ≤ 32)
 HasWorkers _ = Unit {0}
 
--- a line has from 1 to 32 workers and from 1 to 20,000 trees, where it has any
+-- a line has from 1 to 32 workers and from 1 to 20,000 trees, if it has any
 abbrev pub IsInRange : Line → Type 0
 IsInRange (lines.OfScript mode) = HasWorkers mode
 IsInRange (lines.Soak workers seed trees) = (1 ≤ workers) × (workers ≤ 32) × (1 ≤ trees) × (trees ≤ 20000)

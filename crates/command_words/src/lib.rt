@@ -1,7 +1,7 @@
 //! The command line of the program, read into what it asks for.
 #![tactic(auto)]
 
-ghost use Rattle.std.specs.Prelude.{◌≡◌, IfOk, codes, drop, false, map, option_and_then, string_bytes, true, option_copied};
+ghost use Rattle.std.specs.Prelude.{◌≡◌, IfOk, codes, drop, map, option_and_then, string_bytes, option_copied};
 ghost use Rattle.std.specs.List.{list_any};
 ghost use Rattle.std.specs.Str.{bytes_eq};
 ghost use Rattle.command_words.specs.Grammar.{asked as asked_in, asked_by as asked_in_word, line_of_options, line_said};

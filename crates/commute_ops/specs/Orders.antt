@@ -6,7 +6,7 @@ use Rattle.commute_ops.specs.declared.kinds.Op.{Op}
 use Rattle.commute_ops.specs.declared.value.Value.{Value}
 use Rattle.commute_ops.specs.Ops.{applied}
 
--- where any two operations may change places, a list of operations gives the same in any order
+-- if any two operations may change places, a list of operations gives the same in any order
 abbrev pub IsFreeOfOrder : Type 0 → Type 0 → Type 0
 IsFreeOfOrder S O =
     (applied : S → O → S) → ((s : S) (a b : O) → applied (applied s a) b ≡ applied (applied s b) a)

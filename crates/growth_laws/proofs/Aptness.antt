@@ -1,4 +1,5 @@
--- Whether a letter about a tree that the script had before it grew is apt, and is kept, is the same after.
+-- Whether a message about a transaction that the script had before it grew is enabled, and is deferred, is the same
+-- after.
 use Rattle.std.proofs.Common.{◌≡◌, ℕ, ◌<◌, ◌==◌, ◌&&◌, ◌||◌, ◌∙◌, Bool, false, not, List, length, refl, ap, Option, Some, None}
 use Rattle.std.specs.Prelude.{nat_lt}
 use Rattle.tv_base.specs.declared.numbers.SubNo.{SubNo}

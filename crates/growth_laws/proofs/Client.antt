@@ -1,4 +1,4 @@
--- What the client does with a letter is the same before the script grew and after, as long as a row is left.
+-- What the client does with a message is the same before the script grew and after, as long as a row is left.
 use Rattle.std.proofs.Common.{◌≡◌, ℕ, zero, suc, ◌+◌, ◌<◌, ◌≤◌, ◌==◌, ◌&&◌, ◌||◌, ◌∙◌, Bool, true, false, not, List, [], ◌∷◌, ◌++◌, length, take, drop, replicate, refl, sym, ap, arith, length-append, length-drop}
 use Rattle.std.specs.Prelude.{if◌then◌else◌, ◌-◌, ◌^◌, max, min, nat_lt, slice_set}
 use Rattle.std.proofs.lemmas.Bool.{lt-ltb}

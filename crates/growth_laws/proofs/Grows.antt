@@ -1,4 +1,5 @@
--- Entry by entry, a run of a script is a run of one with more trees and rows, as long as the client has rows left.
+-- Entry by entry, a run of a script is a run of one with more transactions and rows, as long as the client has rows
+-- left.
 use Rattle.std.proofs.Common.{◌≡◌, ℕ, ◌<◌, ◌==◌, ◌∙◌, Bool, true, false, List, [], ◌∷◌, length, replicate, refl, sym, ap, subst, arith}
 use Rattle.std.specs.Prelude.{if◌then◌else◌}
 use Rattle.std.proofs.lemmas.List.{length-append, replicate-append-replicate}

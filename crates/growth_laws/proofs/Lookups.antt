@@ -1,4 +1,4 @@
--- What is found of a tree that the script had before it grew is the same after.
+-- What is found of a transaction that the script had before it grew is the same after.
 use Rattle.std.proofs.Common.{◌≡◌, ℕ, ◌<◌, List, length, refl, ap}
 use Rattle.std.specs.Prelude.{slice_get}
 use Rattle.tv_base.proofs.ByPlace.{slice_get-old}

@@ -1,4 +1,5 @@
--- What a node does with a letter is the same before the script grew and after; and in a run it brings a tree that was there.
+-- What a node does with a message is the same before the script grew and after; and in a run it brings a transaction
+-- that was there.
 use Rattle.std.proofs.Common.{◌≡◌, ℕ, ◌<◌, ◌==◌, ◌&&◌, ◌∙◌, Bool, List, ◌∷◌, ◌++◌, refl, ap, Option, Some, None}
 use Rattle.std.specs.Prelude.{if◌then◌else◌}
 use Rattle.letter_types.specs.declared.entries.Entry.{Entry}

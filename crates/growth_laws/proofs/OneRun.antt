@@ -1,4 +1,5 @@
--- A script and a seed have one run: entry by entry, the letter is the one at the place that they name, and says the rest.
+-- A script and a seed have one run: entry by entry, the message is the one at the place that they name, and says the
+-- rest.
 use Rattle.std.proofs.Common.{◌≡◌, ℕ, zero, suc, ◌+◌, ◌≤◌, ◌==◌, ◌∙◌, Bool, true, false, List, [], ◌∷◌, ◌++◌, length, take, drop, reverse, refl, sym, ap, subst, arith, append_assoc, Option, Some, None, take_all}
 use Rattle.std.specs.Prelude.{◌%◌, nat_lt, slice_get}
 use Rattle.std.proofs.lemmas.Bool.Decides.{nat_tests}

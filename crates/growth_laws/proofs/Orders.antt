@@ -1,4 +1,4 @@
--- To go on is an order; and a schedule finds the same letters and numbers.
+-- To go on is an order; and a schedule finds the same messages and numbers.
 use Rattle.std.proofs.Common.{ℕ, ◌+◌, ◌∙◌, List, [], ◌++◌, refl, sym, ap, append_assoc, append-nil, reverse, take}
 use Rattle.letter_types.specs.Letters.{in_flight_after}
 use Rattle.script_parts.specs.ScriptData.{ScriptData}

@@ -1,4 +1,4 @@
--- What a core makes of a letter about a tree that the script had before it grew is the same after.
+-- What a core makes of a message about a transaction that the script had before it grew is the same after.
 use Rattle.std.proofs.Common.{◌≡◌, ℕ, ◌<◌, ◌&&◌, ◌∙◌, Bool, false, List, [], ◌++◌, length, map, refl, sym, ap, subst, Option, Some, None}
 use Rattle.std.specs.Prelude.{if◌then◌else◌, nat_lt, slice_get}
 use Rattle.tv_base.specs.declared.numbers.SubNo.{SubNo}

@@ -9,8 +9,8 @@ use Rattle.script_parts.specs.declared.parts.Tree.{Tree}
 use Rattle.script_parts.specs.declared.parts.TreeKind.{TreeKind}
 use Rattle.growth_laws.specs.Growth.{Extends, IsFront}
 
--- Script t has gone on from script s, maybe by a first strict tree or by a first row that makes the coordinator forget.
--- The tree to which it may still add, if there is one, is none of s.
+-- Script t has gone on from script s, maybe by a first strict transaction or by a first row that makes the coordinator
+-- forget. The transaction to which it may still add, if there is one, is none of s.
 pub record HasGrown (s t : ScriptData) : Type 0 where
   pub form : t.form ≡ s.form
   pub nodes : t.nodes ≡ s.nodes
@@ -31,9 +31,9 @@ pub data HasOneMore (t u : ScriptData) : Type 0 where
   OfSettle : adds_settle t ≡ Ok u → HasOneMore t u
   OfLose : adds_lose t ≡ Ok u → HasOneMore t u
 
--- A script in which no tree is begun, as behind a settle row, has gone on from itself. With each record it goes on
--- further. If it has strict trees, and rows that make the coordinator forget, just where the script had some, it extends
--- the script.
+-- A script in which no transaction is begun, as behind a settle row, has gone on from itself. With each record it goes
+-- on further. If it has strict transactions, and rows that make the coordinator forget, exactly if the script had some,
+-- it extends the script.
 pub record RecordsGrow : Type 0 where
   pub first : (s : ScriptData) → s.begun ≡ false → HasGrown s s
   pub next : (s t u : ScriptData) → HasGrown s t → HasOneMore t u → HasGrown s u

@@ -15,8 +15,8 @@ use Rattle.world_model.specs.Tables.{ActorData, ClientData, CoordinatorData, Nod
 abbrev pub IsFront : {X : Type 0} → List X → List X → Type 0
 IsFront {X} xs ys = (more : List X) × (ys ≡ xs ++ more)
 
--- Script t goes on from script s: it has the same nodes, items and picks, and more trees and rows behind those of s. It
--- has strict trees only if s has some, and rows that make the coordinator forget only if s has some.
+-- Script t goes on from script s: it has the same nodes, items and picks, and more transactions and rows behind those
+-- of s. It has strict transactions only if s has some, and rows that make the coordinator forget only if s has some.
 pub record Extends (s t : ScriptData) : Type 0 where
   pub form : t.form ≡ s.form
   pub nodes : t.nodes ≡ s.nodes
@@ -31,18 +31,18 @@ pub record Extends (s t : ScriptData) : Type 0 where
 abbrev pub HasRowsLeft : ScriptData → List Entry → Type 0
 HasRowsLeft s past = (client_in s past).next < length s.rows
 
--- a client with places for the answers of so many more trees
+-- a client with places for the answers of that many more transactions
 abbrev pub with_places : ℕ → Client → Client
 with_places k c = record c { answered = c.answered ++ replicate k false }
 
--- an actor of a script with so many more trees: a node and a coordinator know nothing of these
+-- an actor of a script with that many more transactions: a node and a coordinator know nothing of these
 abbrev pub grown_actor : ℕ → ActorData → ActorData
 grown_actor k (NodeData n) = NodeData n
 grown_actor k (CoordinatorData c) = CoordinatorData c
 grown_actor k (RestartingData c) = RestartingData c
 grown_actor k (ClientData c) = ClientData (with_places k c)
 
--- the past is a run of script t too, with the letters in flight and the actors that it has as a run of s, but for the
+-- the past is a run of script t too, with the messages in flight and the actors that it has as a run of s, but for the
 -- places that the client has in t
 pub record IsRunOfBoth (s t : ScriptData) (past : List Entry) : Type 0 where
   pub run : IsStepRun t past
@@ -55,13 +55,13 @@ RunsGrow =
     (s t : ScriptData) (past : List Entry) → IsValid s → Extends s t → IsStepRun s past → HasRowsLeft s past
     → IsRunOfBoth s t past
 
--- where the rows end with a settle row, the client has rows left until it finishes
+-- if the rows end with a settle row, the client has rows left until it finishes
 abbrev pub ClientsWait : Type 0
 ClientsWait =
     (s : ScriptData) (past : List Entry) → last_of s.rows ≡ Some Settle → IsStepRun s past
     → (client_in s past).finished ≡ false → HasRowsLeft s past
 
--- a schedule finds the same letters before each entry, and has the same number for it
+-- a schedule finds the same messages before each entry, and has the same number for it
 abbrev pub SchedulesGrow : Type 0
 SchedulesGrow =
     (s t : ScriptData) (seed : Option ℕ) (h : List Entry) (k : ℕ) → Extends s t

@@ -1,4 +1,5 @@
--- In every run of every valid script a tree that the client knows to be answered was answered before, and is whole.
+-- In every run of every valid script a transaction that the client knows to be answered was answered before, and is
+-- complete.
 use Rattle.std.proofs.Common.{◌≡◌, ◌≢◌, ◌⊎◌, inl, inr, ℕ, zero, suc, ◌+◌, ◌<◌, ◌≤◌, ◌==◌, Bool, true, false, List, [], ◌∷◌, length, get_or, replicate, set, reverse, refl, sym, ap, subst, ◌∙◌, arith, Some}
 use Rattle.std.specs.Prelude.{is_some, slice_get}
 use Rattle.std.proofs.lemmas.Bool.{and_from, cases_eq}

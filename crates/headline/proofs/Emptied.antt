@@ -1,4 +1,4 @@
--- A run in which no letter is left has ended.
+-- A run in which no message is left has ended.
 use Rattle.std.proofs.Common.{◌≡◌, List, [], reverse, ap, ◌∙◌, arith}
 use Rattle.std.proofs.lemmas.List.{length-reverse, reverse-reverse}
 use Rattle.letter_types.specs.declared.entries.Entry.{Entry}

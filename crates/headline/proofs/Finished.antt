@@ -1,4 +1,4 @@
--- Where the client has finished: every tree is answered and whole, and every node is at rest.
+-- If the client has finished: every transaction is answered and complete, and every node is at rest.
 use Rattle.std.proofs.Common.{◌≡◌, ℕ, ◌+◌, ◌<◌, ◌≤◌, true, false, List, length, get_or, reverse, arith}
 use Rattle.std.specs.Prelude.{nat_le}
 use Rattle.std.proofs.lemmas.Bool.{and_parts, leb-true}

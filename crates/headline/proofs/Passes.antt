@@ -1,8 +1,7 @@
 -- The client passes a settle row only when all before it has ended. So for each row that it has submitted, and for the
 -- one that it is at, all for which the row waits has ended at the client.
-use Rattle.std.proofs.Common.{◌≡◌, ◌≢◌, ℕ, zero, suc, ◌+◌, ◌-◌, ◌≤◌, Bool, true, false, List, [], ◌∷◌, ◌++◌, take, drop, refl, sym, ap, subst, ◌∙◌, arith, append_assoc, append-nil, set, inl, inr}
+use Rattle.std.proofs.Common.{◌≡◌, ℕ, zero, suc, ◌+◌, ◌-◌, ◌≤◌, Bool, true, false, List, [], ◌∷◌, ◌++◌, take, drop, refl, sym, ap, subst, ◌∙◌, arith, append_assoc, append-nil, set, inl, inr}
 use Rattle.std.specs.Prelude.{if◌then◌else◌, ◌^◌, max, min, nat_le}
-use Rattle.std.specs.List.{list_any}
 use Rattle.std.proofs.Math.Nat.{le-max_left}
 use Rattle.std.proofs.Math.Seq.{take-add}
 use Rattle.std.proofs.lemmas.Bool.{and_from, and_parts, cases_lt}

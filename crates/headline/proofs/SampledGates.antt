@@ -1,5 +1,5 @@
--- The gate of a row, computed: it is shut while a tree before the settle row isn't whole, or a node hasn't collected to
--- the version of the advancement there, and open then; and the client is at the settle row so long.
+-- The gate of a row, computed: it is shut while a transaction before the settle row isn't complete, or a node hasn't
+-- collected to the version of the advancement there, and open then; and the client is at the settle row so long.
 use Rattle.std.proofs.Common.{◌≡◌, ℕ, zero, suc, ◌+◌, ◌<◌, true, false, List, [], ◌∷◌, reverse, refl, ap, sym, ◌∙◌, subst, arith, Some}
 use Rattle.std.specs.Prelude.{IsTrue, slice_get}
 use Rattle.tv_base.specs.declared.numbers.TreeNo.{TreeNo}

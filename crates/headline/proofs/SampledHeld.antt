@@ -1,5 +1,6 @@
 -- The small run, and what its nodes hold at its end: each item in version 0, which no advancement has left, and in
--- version 1, which the tree wrote. In the same run with an advancement after the tree, version 1 alone is left.
+-- version 1, which the transaction wrote. In the same run with an advancement after the transaction, version 1 alone is
+-- left.
 use Rattle.std.proofs.Common.{◌≡◌, ℤ, true, [], ◌∷◌, ◌++◌, reverse, refl}
 use Rattle.std.specs.Prelude.{pos}
 use Rattle.commute_ops.specs.declared.value.Value.TheVariants.{Sum}

@@ -1,5 +1,6 @@
--- A small run with two update trees, of which the first is undone, and after an advancement a read. Both are whole and
--- are in the serial order; what the read is shown is the work of the second alone, with the first and without it.
+-- A small run with two update transactions, of which the first is compensated, and after an advancement a read. Both
+-- are complete and are in the serial order; what the read is shown is the work of the second alone, with the first and
+-- without it.
 use Rattle.std.proofs.Common.{◌≡◌, ℕ, true, List, [], ◌∷◌, reverse, refl, Some}
 use Rattle.std.specs.Prelude.{pos}
 use Rattle.commute_ops.specs.declared.value.Value.TheVariants.{Sum}

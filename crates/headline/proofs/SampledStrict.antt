@@ -1,5 +1,6 @@
--- A small run with a strict tree, which draws from an item and gets another one once an update tree is answered. Its script
--- is valid and its run ends, so it has the headline; that the tree commits, and what is worth then, is computed.
+-- A small run with a strict transaction, which draws from an item and gets another one once an update transaction is
+-- answered. Its script is valid and its run ends, so it has the headline; that the transaction commits, and what is
+-- worth then, is computed.
 use Rattle.std.proofs.Common.{◌≡◌, ℕ, zero, suc, ◌<◌, ◌≤◌, true, List, [], ◌∷◌, ◌++◌, length, reverse, refl, arith, Some, None}
 use Rattle.std.specs.Prelude.{nat_eq, pos}
 use Rattle.std.specs.List.{IsDistinct}

@@ -1,6 +1,6 @@
--- No read shows any part of a tree that was undone. Such a tree's operations are all `add`, so they change a sum by
--- what they add up to and leave every other value; and what an undone tree adds to an item adds up to nothing. So each
--- value stays when the undone trees are left out of the serial order.
+-- No read shows any part of a transaction that was compensated. Such a transaction's operations are all `add`, so they
+-- change a sum by what they add up to and leave every other value; and what a compensated transaction adds to an item
+-- adds up to nothing. So each value stays when the compensated transactions are left out of the serial order.
 use Rattle.std.proofs.Common.{◌≡◌, ℕ, zero, suc, ◌==◌, Bool, true, false, List, [], ◌∷◌, ◌++◌, reverse, refl, sym, ap, subst, ◌∙◌, arith, Option, Some, None}
 use Rattle.std.specs.Prelude.{if◌then◌else◌, cond, filter, fold, not, is_some, slice_get, ℤ, pos, ◌+ℤ◌}
 use Rattle.std.proofs.lemmas.Int.{ints}

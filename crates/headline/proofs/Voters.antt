@@ -1,5 +1,5 @@
--- In every run of every valid script a node at which a subtransaction of a strict tree has had its turn updates at least
--- the version of the tree. So it does where a commit of the tree comes.
+-- In every run of every valid script a node at which a subtransaction of a strict transaction has had its turn updates
+-- at least the version of the transaction. So it does if a commit of the transaction comes.
 use Rattle.std.proofs.Common.{◌≡◌, ◌≢◌, ◌⊎◌, inl, inr, ℕ, zero, suc, ◌<◌, ◌≤◌, ◌==◌, ◌&&◌, ◌||◌, Bool, true, false, List, [], ◌∷◌, ◌++◌, length, refl, sym, ap, subst, ◌∙◌, arith, Option, Some}
 use Rattle.std.specs.Prelude.{is_some, nat_lt, slice_get}
 use Rattle.std.proofs.lemmas.Bool.{cases_eq}

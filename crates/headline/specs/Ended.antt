@@ -1,4 +1,4 @@
--- What a run is once no letter is left.
+-- What a run is once no message is left.
 use Rattle.std.specs.Prelude.{◌+◌, ◌*◌, ◌≡◌, ◌≤◌, false, List, [], length, reverse}
 use Rattle.letter_types.specs.declared.entries.Entry.{Entry}
 use Rattle.tx_trees.specs.Counts.{advances_in, has_strict, is_lossy}
@@ -7,9 +7,9 @@ use Rattle.world_model.specs.Runs.{in_flight}
 use Rattle.tree_laws.specs.Entries.{entries_most, entries_of, rounds_in}
 use Rattle.headline.specs.Headline.{HasHeadline}
 
--- the run has the headline, and no letter is left: it has at most so many entries, and where the coordinator remembers and no
--- tree is strict just as many as the script and the rounds of its advancements make; these are at most two for each
--- advancement and one for each tree, and without advancements none
+-- the run has the headline, and no message is left: it has at most that many entries, and if the coordinator remembers
+-- and no transaction is strict just as many as the script and the rounds of its advancements make; these are at most
+-- two for each advancement and one for each transaction, and without advancements none
 pub record HasEnded (s : ScriptData) (h : List Entry) : Type 0 where
   pub headline : HasHeadline s h
   pub left : in_flight s (reverse h) ≡ []

@@ -1,5 +1,5 @@
 -- Which versions of an item its node holds.
-use Rattle.std.specs.Prelude.{if◌then◌else◌, ℕ, ◌≡◌, ◌≤◌, ◌<◌, ◌+◌, List, [], ◌∷◌, length, take, Some, None, slice_get}
+use Rattle.std.specs.Prelude.{if◌then◌else◌, ℕ, ◌≡◌, ◌≤◌, ◌+◌, List, [], ◌∷◌, length, take, Some, None, slice_get}
 use Rattle.std.specs.List.{AllByRecursion}
 use Rattle.item_versions.specs.Item.{Held, IsHeld}
 use Rattle.item_versions.specs.Table.{Table, item_in}
@@ -46,7 +46,7 @@ abbrev pub HasHeldThree : ScriptData → List Entry → Type 0
 HasHeldThree s h = (n x : ℕ) (r : ItemRow) → slice_get s.items x ≡ Some r
     → HoldsThree (held_after s (take n h) r.node.0 x) (turns_of (actor_after s (take n h) r.node.0))
 
--- item x at the end: its worth in the last version that was shown, and in the next one where that is written
+-- item x at the end: its worth in the last version that was shown, and in the next one if that is written
 abbrev pub worth_at_end : ScriptData → List Entry → ℕ → ℕ → Held
 worth_at_end s h x a =
     (record { 0 = a }, worth s h x a)

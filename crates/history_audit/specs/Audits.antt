@@ -69,7 +69,7 @@ abbrev pub RefusesPart : Option (List ℕ) → Option (List ℕ) → ScriptFault
 RefusesPart left now f = ((bytes : List ℕ) × ReadsAll left now bytes × (read_of (script_part bytes) ≡ Err f))
     ⊎ ((f ≡ fault 0 why.TooLong) × HasMoreThan MOST_AUDIT_BYTES left)
 
--- the line of a history of so many entries that is accepted
+-- the line of a history of that many entries that is accepted
 abbrev pub accepted_line : ℕ → List ℕ
 accepted_line n = count_text (codes "history ok entries ") n ++ codes "\n"
 

@@ -1,4 +1,4 @@
--- When the text of a history is accepted, and in what it fails first where it isn't.
+-- When the text of a history is accepted, and in what it fails first if it isn't.
 use Rattle.std.specs.Prelude.{ℕ, ◌+◌, List, [], ◌∷◌, ◌++◌, length, Result, Ok, Err, ◌≡◌}
 use Rattle.letter_types.specs.declared.entries.Entry.{Entry}
 use Rattle.tx_trees.specs.ScriptData.{ScriptData}
@@ -10,7 +10,7 @@ use Rattle.history_reader.specs.Walks.{IsPostal, IsRead, IsUnposted, IsUnread}
 use Rattle.history_audit.specs.declared.rules.AuditRule.{AuditRule}
 use Rattle.history_audit.specs.declared.rules.AuditRule.TheVariants.{Text, Postal, Judged, End}
 
--- so far the text is read, letters went as letters do, and each entry is accepted
+-- so far the text is read, messages went as messages do, and each entry is accepted
 pub record IsTaken (s : ScriptData) (text : List ℕ) (h : List Entry) (rest : List ℕ) : Type 0 where
   pub read : IsRead s text h rest
   pub accepted : IsAccepted s h
@@ -20,8 +20,8 @@ abbrev pub IsOfOneHistory : ScriptData → List ℕ → Type 0
 IsOfOneHistory s text = (h g : List Entry) → IsTaken s text h [] → IsTaken s text g [] → h ≡ g
 
 -- The verdict of a text: how many entries it has; or the number of the first entry that fails, counted from 1, and in
--- what it fails. A text fixes an entry but for the letter taken, of which it has the id; so an entry fails in its
--- letters where nothing that may be read there went as letters do. A history that ends too early fails at its last
+-- what it fails. A text fixes an entry but for the message taken, of which it has the id; so an entry fails in its
+-- messages if nothing that may be read there went as messages do. A history that ends too early fails at its last
 -- entry.
 pub data Verdict (s : ScriptData) (text : List ℕ) : Result ℕ (ℕ × AuditRule) → Type 0 where
   Yes : (h : List Entry) → IsTaken s text h [] → HasFinished h → Verdict s text (Ok (length h))

@@ -1,5 +1,5 @@
 // The audit of a printed history.
-ghost use Rattle.std.specs.Prelude.{◌≡◌, ◌+◌, ◌<◌, [], true, false, length, Err, IfErr, IfOk};
+ghost use Rattle.std.specs.Prelude.{◌≡◌, ◌<◌, [], true, false, length, IfErr, IfOk};
 ghost use Rattle.history_audit.specs.Audited.{IsAudited};
 ghost use Rattle.history_audit.specs.inside.Auditing.{audit_refusal, end_of, judged_refusal, unread_of, HaveTakenOne, RefusesSo};
 

@@ -1,5 +1,5 @@
 // An audit of what a source has.
-ghost use Rattle.std.specs.Prelude.{◌≡◌, ◌+◌, Ok, IfErr, IfOk};
+ghost use Rattle.std.specs.Prelude.{◌≡◌, ◌+◌, IfErr, IfOk};
 ghost use Rattle.tv_base.specs.Outside.{HasTaken};
 ghost use Rattle.history_audit.specs.Audits.{accepted_line, IsAcceptance, StopsAudit};
 

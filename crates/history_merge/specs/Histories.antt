@@ -10,7 +10,7 @@ use Rattle.tx_trees.specs.ScriptData.{ScriptData}
 use Rattle.stamp_post.specs.Shown.{ReceiptData}
 use Rattle.world_model.specs.Tables.{actor_row, start_actor}
 
--- the acts of the last of these postings, where a table runs over their letters; without postings, these acts
+-- the acts of the last of these postings, if a table runs over their messages; without postings, these acts
 abbrev pub last_acts_from : {St : Type 0} → (St → Letter → Out St) → St → List Act → List Posting → List Act
 last_acts_from row st acts [] = acts
 last_acts_from row st acts (p ∷ ps) = last_acts_from row (row st p.took).state (row st p.took).acts ps
@@ -19,7 +19,7 @@ last_acts_from row st acts (p ∷ ps) = last_acts_from row (row st p.took).state
 abbrev pub last_acts : ScriptData → ℕ → List Posting → List Act
 last_acts s a own = last_acts_from (actor_row s a) (start_actor s a) [] own
 
--- the entries of these postings, where a table runs over their letters: what each sends is the posting's, and what is
+-- the entries of these postings, if a table runs over their messages: what each sends is the posting's, and what is
 -- done the table's
 abbrev pub entries_from : {St : Type 0} → (St → Letter → Out St) → St → List Posting → List Entry
 entries_from row st [] = []
@@ -31,8 +31,8 @@ entries_from row st (p ∷ ps) =
 abbrev pub entries_by : ScriptData → ℕ → List Posting → List Entry
 entries_by s a own = entries_from (actor_row s a) (start_actor s a) own
 
--- just one entry of the history has the receipt's stamp. It took the letter of that delivery, sent its letters and did
--- its acts, which are those of the last of the actor's postings up to it; and the letter has a smaller stamp
+-- just one entry of the history has the receipt's stamp. It took the message of that delivery, sent its messages and
+-- did its acts, which are those of the last of the actor's postings up to it; and the message has a smaller stamp
 pub record HasReceiptEntry (s : ScriptData) (h : List Entry) (r : ReceiptData) : Type 0 where
   pub place : ℕ
   pub entry : Entry
@@ -47,6 +47,6 @@ pub record HasReceiptEntry (s : ScriptData) (h : List Entry) (r : ReceiptData) :
 abbrev pub HasReceiptEntries : ScriptData → List ReceiptData → List Entry → Type 0
 HasReceiptEntries s receipts h = (k : ℕ) (r : ReceiptData) → slice_get receipts k ≡ Some r → HasReceiptEntry s h r
 
--- every letter was taken: there are as many entries as letters, which are Go and those that entries sent
+-- every message was taken: there are as many entries as messages, which are Go and those that entries sent
 abbrev pub HasTakenAll : List Entry → Type 0
 HasTakenAll h = length h ≡ sum_by (λ e. length e.sent) h + 1

@@ -26,7 +26,7 @@ pub record IsLogOf (log : List Posting) (rows : List (List Entry)) : Type 0 wher
   pub stamps : (k : ℕ) (p : Posting) → slice_get log k ≡ Some p → p.stamp.0 ≡ k + 1
   pub own : (a : ℕ) (es : List Entry) → slice_get rows a ≡ Some es → map delivery_of es ≡ own_postings a log
 
--- the log is one of these entries, it has so many postings, and each is one of these actors'
+-- the log is one of these entries, it has that many postings, and each is one of these actors'
 pub record IsWholeLog (count : ℕ) (log : List Posting) (rows : List (List Entry)) : Type 0 where
   pub log_of : IsLogOf log rows
   pub long : length log ≡ count
@@ -37,7 +37,7 @@ pub record IsMerged (log : List Posting) (rows : List (List Entry)) (h : List En
   pub postings : map delivery_of h ≡ log
   pub own : (a : ℕ) (es : List Entry) → slice_get rows a ≡ Some es → own a h ≡ es
 
--- an empty list with room for so many items
+-- an empty list with room for that many items
 abbrev pub HasRoom : {X : Type 0} → ℕ → Vec X → Type 0
 HasRoom count room = (room.items ≡ []) × (count ≤ vec_capacity room)
 

@@ -1,4 +1,4 @@
--- An actor's own log, and what entering a letter there says.
+-- An actor's own log, and what entering a message there says.
 use Rattle.std.specs.Prelude.{◌≡◌, ℕ, false, List, [], ◌∷◌, ◌++◌, map}
 use Rattle.letter_types.specs.declared.entries.Entry.{Entry}
 use Rattle.letter_types.specs.declared.entries.Letter.{Letter}
@@ -24,11 +24,11 @@ log_data number entries = record { number = number; entries = entries }
 abbrev pub led_to : ScriptData → ℕ → List Entry → ActorData
 led_to s n es = after (actor_row s n) (start_actor s n) es
 
--- what actor n's table says of a letter there
+-- what actor n's table says of a message there
 abbrev pub row_there : ScriptData → ℕ → List Entry → Letter → Out ActorData
 row_there s n es l = actor_row s n (led_to s n es) l
 
--- actor n took the letter: it has one entry more, which is the last of those that were made, and the outbox is its own
+-- actor n took the message: it has one entry more, which is the last of those that were made, and the outbox is its own
 pub record Handled (post : PostId) (n : ℕ) (old new : List Entry) (l : Letter) (made now : List Entry) (out : OutboxData) : Type 0 where
   pub entry : Entry
   pub entries : new ≡ old ++ entry ∷ []
@@ -36,12 +36,12 @@ pub record Handled (post : PostId) (n : ℕ) (old new : List Entry) (l : Letter)
   pub took : entry.took ≡ l
   pub outbox : out ≡ outbox_data post n (map delivery_of new) (delivery_of entry) 0
 
--- the actor of a log took the letter
+-- the actor of a log took the message
 abbrev pub ActorTook : PostId → LogData → LogData → Letter → List Entry → List Entry → OutboxData → Type 0
 ActorTook post old new l made now out = Handled post old.number old.entries new.entries l made now out
 
--- an addressee took the letter: the last of the entries that were made is its own, and so is the outbox, which has that
--- entry's posting, the last of its postings so far; the acts are what its table says of it there
+-- an addressee took the message: the last of the entries that were made is its own, and so is the outbox, which has
+-- that entry's posting, the last of its postings so far; the acts are what its table says of it there
 pub record Delivered (post : PostId) (s : ScriptData) (l : Letter) (made now : List Entry) (out : OutboxData) : Type 0 where
   pub entry : Entry
   pub last : now ≡ made ++ entry ∷ []

@@ -1,5 +1,5 @@
 // The history as it is recorded while actors are at work.
-ghost use Rattle.std.specs.Prelude.{◌≡◌, ◌+◌, ◌↔◌, List, [], length, map, true, false, IfSome, IsNone, IfOk, OnErr, OnOk};
+ghost use Rattle.std.specs.Prelude.{◌≡◌, ◌↔◌, List, [], length, map, true, false, IfSome, IsNone, IfOk, OnErr, OnOk};
 ghost use Rattle.letter_types.specs.declared.entries.Entry.{Entry};
 ghost use Rattle.stamp_post.specs.Shown.{gatherer_data};
 ghost use Rattle.history_merge.specs.Recording.{AreRecorded, FirstHas, RecordsNext, NoneHas, Records, Taken, handed_in, recorder_data, AreHandedIn, AreLeft, AreLeftOrIn, LacksNext};

@@ -1,4 +1,4 @@
--- The names of items and trees that are there are ASCII.
+-- The names of items and transactions that are there are ASCII.
 use Rattle.std.proofs.Common.{◌≡◌, ℕ, List}
 use Rattle.std.specs.Prelude.{Some, slice_get}
 use Rattle.std.specs.Str.{IsAscii}

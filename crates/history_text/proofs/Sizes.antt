@@ -1,4 +1,4 @@
--- How large the number is that so many digits spell.
+-- How large a number of that many digits is.
 use Rattle.std.proofs.Common.{◌≡◌, ◌+◌, ◌*◌, ◌<◌, ◌≤◌, ◌^◌, ◌∷◌, [], List, true, ℕ, zero, suc, length, take, refl, ap, arith, length-take}
 use Rattle.std.specs.Char.{is_ascii_digit}
 use Rattle.std.specs.List.{list_all, fold}

@@ -9,7 +9,7 @@ use Rattle.history_text.specs.Values.{count_text}
 use Rattle.history_text.specs.LineParts.{act_parts, body_parts, parts_text}
 use Rattle.history_text.specs.TreeNames.{actor_text}
 
--- the letter that was taken, by the stamp of the entry that sent it and its place there
+-- the message that was taken, by the stamp of the entry that sent it and its place there
 abbrev pub took_text : LetterId → List ℕ
 took_text id = count_text (codes " took ") id.stamp.0 ++ count_text (codes ".") id.place
 
@@ -30,7 +30,7 @@ sent_lines s os = flat_map (sent_line s) os
 abbrev pub act_lines : ScriptData → List Act → List ℕ
 act_lines s acts = flat_map (act_line s) acts
 
--- an entry, the letters that it sent, and what it did beside
+-- an entry, the messages that it sent, and what it did beside
 abbrev pub entry_lines : ScriptData → Entry → List ℕ
 entry_lines s e = entry_line s e ++ (sent_lines s e.sent ++ act_lines s e.acts)
 

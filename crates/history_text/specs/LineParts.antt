@@ -1,4 +1,4 @@
--- What letters and acts say, part by part.
+-- What messages and acts say, part by part.
 use Rattle.std.specs.Prelude.{if◌then◌else◌, ℕ, Bool, true, false, List, [], ◌∷◌, ◌++◌, codes, flat_map, Some, None, slice_get}
 use Rattle.tv_base.specs.declared.numbers.ItemNo.{ItemNo}
 use Rattle.commute_ops.specs.declared.value.Value.{Value}
@@ -19,9 +19,9 @@ use Rattle.tx_trees.specs.ScriptData.{ScriptData, is_strict}
 use Rattle.history_text.specs.TreeNames.{cause_text, got_text, item_text, tree_text}
 use Rattle.history_text.specs.Values.{count_text}
 
--- a word, and one that may not be printed; a word and a number of 64 bits; a number of 32 bits; a tree, a
--- subtransaction and an item, by number; values of gets; the cause of a no; a node's row of counters; that a tree was
--- committed, if it is strict; and nothing, of a tree that has to be strict, or not to be
+-- a word, and one that may not be printed; a word and a number of 64 bits; a number of 32 bits; a transaction, a
+-- subtransaction and an item, by number; values of gets; the cause of a negative vote; a node's row of counters; that a
+-- transaction was committed, if it is strict; and nothing, of a transaction that has to be strict, or not to be
 pub data Part : Type 0 where
   Word : List ℕ → Part
   Never : List ℕ → Part
@@ -52,13 +52,13 @@ abbrev pub vote_parts : Vote → List Part
 vote_parts (votes.Yes vs) = Word (codes "yes") ∷ Got vs ∷ []
 vote_parts (votes.No cause) = Word (codes "no") ∷ Why cause ∷ []
 
--- a strict tree's subtransaction votes, that of any other tree t has done
+-- a strict transaction's subtransaction votes, that of any other transaction t has done
 abbrev pub notice_parts : ℕ → Notice → List Part
 notice_parts t (notices.Did vs) = Only false t ∷ Got vs ∷ []
 notice_parts t (notices.Yes vs) = Only true t ∷ vote_parts (votes.Yes vs)
 notice_parts t (notices.No cause) = Only true t ∷ vote_parts (votes.No cause)
 
--- what the client is told of tree t: only a strict tree is aborted
+-- what the client is told of transaction t: only a strict transaction is aborted
 abbrev pub answer_parts : ℕ → Answer → List Part
 answer_parts t (answers.Whole vs) = Whole t ∷ Got vs ∷ []
 answer_parts t (answers.Aborted cause) = Only true t ∷ Word (codes "aborted") ∷ Why cause ∷ []

@@ -34,14 +34,14 @@ IsActor s a = a < s.nodes + 2
 abbrev pub IsTreeOf : ScriptData → ℕ → Type 0
 IsTreeOf s t = t < length s.trees
 
--- subtransaction k is one of tree t
+-- subtransaction k is one of transaction t
 abbrev pub IsSubOf : ScriptData → ℕ → ℕ → Type 0
 IsSubOf s t k = IsTrue (is_some (sub_at s t k))
 
 abbrev pub IsItemOf : ScriptData → ℕ → Type 0
 IsItemOf s x = x < length s.items
 
--- tree t is there, and is a strict tree, or isn't one
+-- transaction t is there, and is a strict transaction, or isn't one
 abbrev pub HasStrictness : Bool → Option Tree → Type 0
 HasStrictness b None = ⊥
 HasStrictness b (Some tree) = is_strict tree.kind ≡ b
@@ -96,7 +96,7 @@ IsPart s (Only strict t) = HasStrictness strict (slice_get s.trees t)
 abbrev pub AreParts : ScriptData → List Part → Type 0
 AreParts s parts = AllByRecursion (IsPart s) parts
 
--- a letter that is sent says this
+-- a message that is sent says this
 abbrev pub IsBody : ScriptData → Body → Type 0
 IsBody s b = AreParts s (body_parts b)
 
@@ -106,7 +106,7 @@ IsSent s o = IsActor s o.to.0 × IsBody s o.body
 abbrev pub IsAct : ScriptData → Act → Type 0
 IsAct s a = AreParts s (act_parts a)
 
--- an entry that may stand in a history's lines; of the letter that it took they say the id alone
+-- an entry that may stand in a history's lines; of the message that it took they say the id alone
 pub record IsPrintable (s : ScriptData) (e : Entry) : Type 0 where
   pub stamp : IsWord e.stamp.0
   pub actor : IsActor s e.actor.0

@@ -1,5 +1,5 @@
--- How trees, items and actors are named by number, and what values and causes of strict trees say. What the script
--- doesn't have is printed by its number.
+-- How transactions, items and actors are named by number, and what values and causes of strict transactions say. What
+-- the script doesn't have is printed by its number.
 use Rattle.std.specs.Prelude.{if◌then◌else◌, ℕ, ◌==◌, List, [], ◌∷◌, ◌++◌, codes, decimal, Some, None, slice_get}
 use Rattle.std.specs.Fmt.{signed_decimal}
 use Rattle.tv_base.specs.declared.numbers.ItemNo.{ItemNo}
@@ -9,15 +9,15 @@ use Rattle.letter_types.specs.declared.votes.Cause.TheVariants.{Conflict, Newer,
 use Rattle.tx_trees.specs.ScriptData.{ScriptData, client_of}
 use Rattle.history_text.specs.Values.{count_text, get_text}
 
--- the name of tree t, or its number where it isn't there
+-- the name of transaction t, or its number if it isn't there
 abbrev pub tree_text : ScriptData → ℕ → List ℕ
 tree_text s t = elim (slice_get s.trees t) [ Some tree ↦ tree.name | None ↦ decimal t ]
 
--- a word, tree t and the number of a subtransaction
+-- a word, transaction t and the number of a subtransaction
 abbrev pub sub_text : List ℕ → ScriptData → ℕ → ℕ → List ℕ
 sub_text word s t k = word ++ (tree_text s t ++ count_text (codes " ") k)
 
--- the name of item x, or its number where it isn't there
+-- the name of item x, or its number if it isn't there
 abbrev pub item_text : ScriptData → ℕ → List ℕ
 item_text s x = elim (slice_get s.items x) [ Some row ↦ row.name | None ↦ decimal x ]
 

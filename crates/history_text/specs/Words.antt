@@ -1,4 +1,4 @@
--- How trees, items, actors and got values are printed where they stand between spaces.
+-- How transactions, items, actors and got values are printed where they stand between spaces.
 use Rattle.std.specs.Prelude.{ℕ, ℤ, List, [], ◌∷◌, ◌++◌, codes, decimal, map, Option, Some, None, slice_get, ◌≡◌, MatchOption}
 use Rattle.std.specs.Fmt.{signed_decimal}
 use Rattle.std.specs.List.{AllByRecursion}

@@ -1,4 +1,4 @@
--- Ids of letters: one is the same as itself alone, and has the stamp of the posting that sent its letter.
+-- Ids of messages: one is the same as itself alone, and has the stamp of the posting that sent its message.
 use Rattle.std.proofs.Common.{◌≡◌, ◌==◌, true, Bool, List, None, Some, [], ap, arith, cond, false, refl, ℕ, ◌+◌, ◌∙◌, ◌∷◌, ◌≢◌}
 use Rattle.std.proofs.lemmas.Bool.{and_from}
 use Rattle.std.proofs.lemmas.Bool.Decides.{nat_tests}

@@ -4,7 +4,7 @@ use Rattle.tv_base.specs.declared.numbers.ItemNo.{ItemNo}
 use Rattle.letter_types.specs.declared.votes.Cause.{Cause}
 use Rattle.letter_types.specs.declared.votes.Cause.TheVariants.{Short}
 
--- where a value is short of what is drawn from item x, that is a cause
+-- if a value is short of what is drawn from item x, that is a cause
 abbrev pub short_cause : ItemNo → Option ℤ → Option Cause
 short_cause x None = None
 short_cause x (Some found) = Some (Short x found)

@@ -1,5 +1,5 @@
--- The letters that a node keeps, in the order in which it kept them: a letter that can't be done yet stays with its
--- addressee, until a Wake calls it.
+-- The messages that a node defers, in the order in which it deferred them: a message that can't be done yet stays with
+-- its addressee, until a Wake calls it.
 use Rattle.std.specs.Prelude.{if◌then◌else◌, Bool, true, false, ◌==◌, ◌&&◌, List, [], ◌∷◌, Option, Some, None}
 use Rattle.tv_base.specs.declared.numbers.SubNo.{SubNo}
 use Rattle.tv_base.specs.declared.numbers.TreeNo.{TreeNo}
@@ -11,7 +11,7 @@ use Rattle.letter_types.specs.declared.kept.KeptLetter.{KeptLetter}
 use Rattle.letter_types.specs.declared.kept.KeepReason.{KeepReason}
 use Rattle.letter_types.specs.declared.kept.KeepReason.TheVariants.{ForShow, ForHolder, Called}
 
--- a kept letter of this subtransaction whose Wake is in flight
+-- a deferred message of this subtransaction whose Wake is in flight
 abbrev pub is_called : KeepReason → Bool
 is_called Called = true
 is_called ForShow = false
@@ -20,7 +20,7 @@ is_called (ForHolder h) = false
 abbrev pub is_called_for : TreeNo → SubNo → KeptLetter → Bool
 is_called_for t k x = is_called x.why && ((x.tree.0 == t.0) && (x.sub.0 == k.0))
 
--- the first of them, and the letters without it
+-- the first of them, and the messages without it
 abbrev pub first_called : TreeNo → SubNo → List KeptLetter → Option Letter
 first_called t k [] = None
 first_called t k (x ∷ xs) = if is_called_for t k x then Some x.letter else first_called t k xs
@@ -29,23 +29,23 @@ abbrev pub without_called : TreeNo → SubNo → List KeptLetter → List KeptLe
 without_called t k [] = []
 without_called t k (x ∷ xs) = if is_called_for t k x then xs else x ∷ without_called t k xs
 
--- the letter that a letter of this body brings to its node: a Wake calls a kept one, any other is itself
+-- the message that a message of this body brings to its node: a Wake calls a deferred one, any other is itself
 abbrev pub brought : List KeptLetter → Letter → Body → Option Letter
 brought kept l (Wake t k) = first_called t k kept
 brought kept l _ = Some l
 
--- what stays kept meanwhile
+-- what stays deferred meanwhile
 abbrev pub kept_without : List KeptLetter → Body → List KeptLetter
 kept_without kept (Wake t k) = without_called t k kept
 kept_without kept _ = kept
 
--- a letter of this body wakes what is kept for this reason: a version is shown, or the holder has decided
+-- a message of this body wakes what is deferred for this reason: a version is shown, or the holder has decided
 abbrev pub wakes_by : Body → KeepReason → Bool
 wakes_by (Show v) ForShow = true
 wakes_by (Decide t v commit) (ForHolder h) = h.0 == t.0
 wakes_by _ _ = false
 
--- a Wake for each letter that is woken
+-- a Wake for each message that is woken
 abbrev pub wakes : (KeepReason → Bool) → List KeptLetter → List Outgoing
 wakes test [] = []
 wakes test (x ∷ xs) =

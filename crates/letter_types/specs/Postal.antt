@@ -1,4 +1,4 @@
--- The letters of a history went as letters do. Acts are no matter here, so this speaks of postings.
+-- The messages of a history went as messages do. Acts are no matter here, so this speaks of postings.
 use Rattle.std.specs.Prelude.{ℕ, ◌+◌, ◌<◌, ◌≡◌, ◌≢◌, ◌⊎◌, List, Some, slice_get}
 use Rattle.letter_types.specs.declared.entries.Letter.{Letter}
 use Rattle.letter_types.specs.declared.entries.Entry.{Entry}
@@ -9,11 +9,11 @@ use Rattle.letter_types.specs.Letters.{go, sealed, find_id}
 abbrev pub delivery_of : Entry → Posting
 delivery_of e = record { stamp = e.stamp; actor = e.actor; took = e.took; sent = e.sent }
 
--- the letters that a posting sent
+-- the messages that a posting sent
 abbrev pub letters_sent : Posting → List Letter
 letters_sent p = sealed p.stamp.0 p.actor.0 0 p.sent
 
--- stamps count from 1; each letter that was taken is Go or was sent by an earlier posting under its id; none is taken
+-- stamps count from 1; each message that was taken is Go or was sent by an earlier posting under its id; none is taken
 -- twice; each is taken by its addressee, which is one of the actors up to the client
 pub record IsMessageRun (client : ℕ) (h : List Posting) : Type 0 where
   pub stamps : (k : ℕ) (e : Posting) → slice_get h k ≡ Some e → e.stamp.0 ≡ k + 1

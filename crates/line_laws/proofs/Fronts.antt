@@ -1,4 +1,5 @@
--- The lines of trees that are whole are a front of every later report; and where the client would finish, all are whole.
+-- The lines of transactions that are complete are a front of every later report; and if the client would finish, all
+-- are complete.
 use Rattle.std.proofs.Common.{◌≡◌, ℕ, zero, suc, ◌+◌, ◌<◌, ◌==◌, ◌&&◌, ◌||◌, ◌∙◌, Bool, true, false, List, [], ◌∷◌, ◌++◌, drop, length, map, reverse, refl, sym, ap, subst, arith, append_assoc, Option, Some}
 use Rattle.std.specs.Prelude.{if◌then◌else◌, is_some, slice_get}
 use Rattle.std.proofs.Math.Bool.{or-false}

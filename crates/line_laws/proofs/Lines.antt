@@ -1,4 +1,4 @@
--- The line of a tree that is whole stays as it is.
+-- The line of a transaction that is complete stays as it is.
 use Rattle.std.proofs.Common.{◌≡◌, ℕ, ◌<◌, ◌∙◌, true, false, List, [], ◌∷◌, ◌++◌, length, reverse, sym, ap, subst, refl, Option, Some}
 use Rattle.std.specs.Prelude.{is_some, slice_get}
 use Rattle.std.specs.List.{AllByRecursion}

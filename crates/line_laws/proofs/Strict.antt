@@ -1,4 +1,5 @@
--- How a strict tree came out stays, once it is whole: its decision and its votes are there, and name what the script has.
+-- How a strict transaction came out stays, once it is complete: its decision and its votes are there, and name what the
+-- script has.
 use Rattle.std.proofs.Common.{◌≡◌, ℕ, ◌+◌, ◌<◌, ◌==◌, ◌&&◌, ◌||◌, ◌∙◌, Bool, true, false, not, List, [], ◌∷◌, ◌++◌, length, take, reverse, refl, sym, ap, subst, arith, Option, Some, None, take_all}
 use Rattle.std.specs.Prelude.{if◌then◌else◌, codes, is_some}
 use Rattle.std.specs.List.{AllByRecursion}

@@ -1,4 +1,5 @@
--- What a whole read tree shows stays: its Dids gave it, and what they gave is what its items are worth in every later history.
+-- What a complete read transaction shows stays: its Dids gave it, and what they gave is what its items are worth in
+-- every later history.
 use Rattle.std.proofs.Common.{◌≡◌, ℕ, suc, ◌<◌, ◌∙◌, true, List, [], ◌∷◌, ◌++◌, length, reverse, refl, sym, ap, subst, Option, Some}
 use Rattle.std.specs.Prelude.{slice_get}
 use Rattle.std.proofs.lemmas.List.{reverse-append}

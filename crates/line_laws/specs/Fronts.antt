@@ -1,4 +1,4 @@
--- The lines of a script's trees as a front of each later report.
+-- The lines of a script's transactions as a front of each later report.
 use Rattle.std.specs.Prelude.{◌≡◌, List, [], ◌∷◌, ◌++◌, drop, length, reverse}
 use Rattle.letter_types.specs.declared.acts.Act.TheVariants.{Finished}
 use Rattle.letter_types.specs.declared.entries.Entry.{Entry}
@@ -8,8 +8,8 @@ use Rattle.report_text.specs.Report.{trees_text}
 use Rattle.world_model.specs.Runs.{IsStepRun}
 use Rattle.growth_laws.specs.Growth.{Extends}
 
--- where the client would finish with the next entry, the lines of the script's trees are what the report begins with of
--- each run that goes on from there, of each script that goes on from this one
+-- if the client would finish with the next entry, the lines of the script's transactions are what the report begins
+-- with of each run that goes on from there, of each script that goes on from this one
 abbrev pub FrontsStay : Type 0
 FrontsStay =
     (s t : ScriptData) (past later : List Entry) (e : Entry) → IsValid s → IsValid t → Extends s t

@@ -1,4 +1,4 @@
--- The line of a tree in the report of a run that goes on, of a script that goes on.
+-- The line of a transaction in the report of a run that goes on, of a script that goes on.
 use Rattle.std.specs.Prelude.{ℕ, ◌≡◌, List, ◌++◌, reverse, Some, slice_get}
 use Rattle.letter_types.specs.declared.entries.Entry.{Entry}
 use Rattle.script_parts.specs.ScriptData.{ScriptData}
@@ -9,7 +9,7 @@ use Rattle.world_model.specs.Runs.{IsStepRun}
 use Rattle.audit_laws.specs.ReplyLines.{line_in}
 use Rattle.growth_laws.specs.Growth.{Extends}
 
--- where tree k is whole, its line stays as it is, however the run goes on, and whatever trees come
+-- if transaction k is complete, its line stays as it is, however the run goes on, and whatever transactions come
 abbrev pub LinesStay : Type 0
 LinesStay =
     (s t : ScriptData) (past later : List Entry) (k : ℕ) (tree : Tree) → IsValid s → IsValid t → Extends s t

@@ -1,7 +1,7 @@
 //! Mailboxes of messages in flight, in order of arrival, which can lie behind a lock.
 #![tactic(auto)]
 
-ghost use Rattle.std.specs.Prelude.{◌≡◌, ◌<◌, ◌%◌, ◌↔◌, [], ◌∷◌, ◌++◌, length, option_to_list, OnOk, OnErr, IfErr, IfSome, IsNone, IsTrue, Some, remove, slice_get};
+ghost use Rattle.std.specs.Prelude.{◌≡◌, ◌%◌, ◌↔◌, [], ◌∷◌, ◌++◌, length, option_to_list, OnOk, OnErr, IfErr, IfSome, IsNone, IsTrue, Some, remove, slice_get};
 
 use stamp_post::{Envelope, PostName};
 use std::alloc::{AllocFailed, Global};

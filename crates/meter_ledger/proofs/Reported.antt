@@ -1,5 +1,5 @@
--- What a read tree got, by the promise: the values of an act that is at a place of the history are right. And whether
--- there is such an act.
+-- What a read transaction got, by the promise: the values of an act that is at a place of the history are right. And
+-- whether there is such an act.
 use Rattle.std.proofs.Common.{◌≡◌, ℕ, zero, suc, ◌+◌, ◌<◌, ◌≤◌, ◌&&◌, ◌||◌, Bool, true, false, List, [], ◌∷◌, ◌++◌, length, map, take, drop, get_or, arith, refl, sym, ap, ◌∙◌, subst}
 use Rattle.std.specs.Prelude.{Contains, IsTrue, slice_get}
 use Rattle.std.specs.List.{list_any}

@@ -1,4 +1,4 @@
--- Locks by item and by tree stay the same when one is added or taken away.
+-- Locks by item and by transaction stay the same when one is added or taken away.
 use Rattle.std.proofs.Common.{◌≡◌, Bool, true, false, List, refl, ap, sym, ◌∙◌, cond}
 use Rattle.std.specs.Ordering.{is_eq}
 use Rattle.nc_locks.specs.declared.modes.Lock.{Lock}

@@ -1,4 +1,4 @@
--- Locks are ordered, by item as well as by tree, and only a lock itself is equal to it.
+-- Locks are ordered, by item as well as by transaction, and only a lock itself is equal to it.
 use Rattle.std.proofs.Common.{◌≡◌, Bool, true, false, ◌&&◌, refl, ap, sym, ◌∙◌, arith}
 use Rattle.std.specs.declared.cmp.Ordering.{Ordering}
 use Rattle.std.specs.Cmp.{IsTotalOrder}

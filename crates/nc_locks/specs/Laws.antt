@@ -8,12 +8,12 @@ use Rattle.nc_locks.specs.declared.modes.Mode.{Mode}
 use Rattle.nc_locks.specs.Modes.{mode_rank}
 use Rattle.nc_locks.specs.Locks.{AreLocks, Wanted, comes_first, first_where, has_lock, is_in_way, modes_in, wanted_locks, with_locks, without}
 
--- once a tree has taken what it needs, there are those locks and all those before
+-- once a transaction has taken what it needs, there are those locks and all those before
 abbrev pub TakenStand : Type 0
 TakenStand = (l : Lock) (t : TreeNo) (ws : Wanted) (ls : List Lock)
     → has_lock l (with_locks t ws ls) ≡ (has_lock l (wanted_locks t ws) || has_lock l ls)
 
--- once a tree has none, there are those of all others
+-- once a transaction has none, there are those of all others
 abbrev pub FreedAreGone : Type 0
 FreedAreGone = (l : Lock) (t : TreeNo) (ls : List Lock)
     → has_lock l (without t ls) ≡ (not (l.tree.0 == t.0) && has_lock l ls)
@@ -30,7 +30,7 @@ abbrev pub ListsAreTheirLocks : Type 0
 ListsAreTheirLocks = (ls ms : List Lock) → AreLocks ls → AreLocks ms
     → ((l : Lock) → has_lock l ls ≡ has_lock l ms) → ls ≡ ms
 
--- a lock is there exactly if its mode is one in which its tree has its item
+-- a lock is there exactly if its mode is one in which its transaction has its item
 abbrev pub ModesAreLocks : Type 0
 ModesAreLocks = (l : Lock) (ls : List Lock)
     → has_lock l ls ≡ list_any (λ m. mode_rank l.mode == mode_rank m) (modes_in l.item.0 l.tree.0 ls)

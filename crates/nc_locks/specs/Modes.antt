@@ -1,4 +1,4 @@
--- The modes in which trees lock items, and which of them are compatible.
+-- The modes in which transactions lock items, and which of them are compatible.
 use Rattle.std.specs.Prelude.{ℕ, Bool, true, false}
 use Rattle.nc_locks.specs.declared.modes.Mode.{Mode}
 use Rattle.nc_locks.specs.declared.modes.Mode.TheVariants.{Mark, Look, Hold}

@@ -1,5 +1,5 @@
 -- The client's end in the entry that was made last; what a worker holds that stops.
-use Rattle.std.proofs.Common.{◌≡◌, ℕ, zero, suc, ◌-◌, ◌<◌, Bool, false, List, [], ◌∷◌, length, get_or, refl, ap, sym, ◌∙◌, arith, Option, Some, None, inl, inr}
+use Rattle.std.proofs.Common.{◌≡◌, ℕ, suc, ◌-◌, ◌<◌, false, List, [], ◌∷◌, length, get_or, refl, ap, sym, ◌∙◌, arith, Option, Some, None, inl, inr}
 use Rattle.std.specs.List.{last_or, list_any}
 use Rattle.letter_types.specs.declared.entries.Entry.{Entry}
 use Rattle.board_rules.specs.Right.{finishes}

@@ -12,7 +12,7 @@ use Rattle.actor_schedule.specs.Desks.{DeskData, all_sorted_in, desk_data, empty
 use Rattle.actor_schedule.specs.Stops.{KeepsLetter}
 use Rattle.history_merge.specs.OwnLogs.{Delivered}
 
--- the client has finished with an entry, where there is one
+-- the client has finished with an entry, if there is one
 abbrev pub ends_with : Option Entry → Bool
 ends_with None = false
 ends_with (Some e) = list_any finishes e.acts
@@ -21,7 +21,7 @@ ends_with (Some e) = list_any finishes e.acts
 abbrev pub ends_last : List Entry → Bool
 ends_last es = ends_with (last_or None es)
 
--- a letter was delivered: its addressee's entry is the last of those that were made, what that sent lies in the trays,
+-- a message was delivered: its addressee's entry is the last of those that were made, what that sent lies in the trays,
 -- and this tells whether the client has finished with it
 pub record IsDelivered (post : PostId) (s : ScriptData) (l : Letter) (made now : List Entry) (old new : DeskData) (ends : Bool) : Type 0 where
   pub out : OutboxData
@@ -33,7 +33,7 @@ pub record IsDelivered (post : PostId) (s : ScriptData) (l : Letter) (made now :
 abbrev pub AreFlushed : List (List EnvelopeData) → List (List EnvelopeData) → Type 0
 AreFlushed old new = (put : ℕ) × (new ≡ empty_trays put ++ drop put old)
 
--- so many trays are empty, or they are so up to a place; and they are empty, where they were
+-- that many trays are empty, or they are so up to a place; and they are empty, if they were
 abbrev pub AreEmptiedTo : ℕ → List (List EnvelopeData) → List (List EnvelopeData) → Type 0
 AreEmptiedTo count old new = (new ≡ empty_trays count) ⊎ AreFlushed old new
 
@@ -44,6 +44,6 @@ StayEmpty count old new = old ≡ empty_trays count → new ≡ empty_trays coun
 abbrev pub AreAllOrNone : List Entry → List Entry → Type 0
 AreAllOrNone old new = (new ≡ old) ⊎ (new ≡ [])
 
--- nothing is held, or a letter of the post that wasn't delivered, or what no tray took of what came of one
+-- nothing is held, or a message of the post that wasn't delivered, or what no tray took of what came of one
 abbrev pub KeepsOne : PostId → InHand → Type 0
 KeepsOne post held = (held ≡ Nothing) ⊎ ((e : EnvelopeData) × (e.post ≡ post) × KeepsLetter post e held)

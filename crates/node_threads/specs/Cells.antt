@@ -27,21 +27,22 @@ pub record LeadsTo (s : ScriptData) (a : ℕ) (es : List Entry) (st : ActorState
 abbrev pub entries_in : List CellData → ℕ
 entries_in cells = sum_by (λ c. length c.entries) cells
 
--- cells lie in the order of their numbers, from 0, and so many entries are all that they have, and no more than a
+-- cells lie in the order of their numbers, from 0, and that many entries are all that they have, and no more than a
 -- history takes
 pub record HasAllEntries (cells : List CellData) (count : ℕ) : Type 0 where
   pub order : NumberedBy (λ c. c.number) 0 cells
   pub whole : count ≡ entries_in cells
   pub few : count ≤ MOST_ENTRIES
 
--- what handling a letter gave: the outbox of the entry that comes of it; or the letter comes back, and all is as it was
+-- what handling a message gave: the outbox of the entry that comes of it; or the message comes back, and all is as it
+-- was
 abbrev pub IsHandling : PostId → EnvelopeData → CellData → CellData → List Entry → List Entry
     → Result OutboxData (NoMemory × EnvelopeData) → Type 0
 IsHandling post envelope old new made now result = MatchResult result
     (λ out. Handled post old.number old.entries new.entries envelope.letter made now out)
     (λ e. (e.1 ≡ envelope) × (new ≡ old) × (now ≡ made))
 
--- what delivering a letter gave: its addressee's outbox; or the letter comes back, and what was made is as it was
+-- what delivering a message gave: its addressee's outbox; or the message comes back, and what was made is as it was
 abbrev pub IsDelivery : PostId → ScriptData → EnvelopeData → List Entry → List Entry
     → Result OutboxData (NoMemory × EnvelopeData) → Type 0
 IsDelivery post s envelope made now result = MatchResult result

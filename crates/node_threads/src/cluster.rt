@@ -1,5 +1,5 @@
 // Cells behind locks.
-ghost use Rattle.std.specs.Prelude.{◌≡◌, ◌+◌, ◌≤◌, ◌⊎◌, All, [], length, IfErr, IfOk, OnErr, OnOk, Some};
+ghost use Rattle.std.specs.Prelude.{◌≡◌, ◌+◌, ◌≤◌, ◌⊎◌, All, [], length, IfErr, IfOk, OnErr, OnOk};
 ghost use Rattle.stamp_post.specs.Shown.{gatherer_data, new_seats};
 ghost use Rattle.world_model.specs.Runs.{IsWorldRun};
 ghost use Rattle.history_merge.specs.Histories.{HasReceiptEntries};

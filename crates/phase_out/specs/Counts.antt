@@ -8,7 +8,7 @@ use Rattle.phase_out.specs.declared.count.RowChange.TheVariants.{NoRow, Done, As
 use Rattle.phase_out.specs.declared.count.Counted.{Counted}
 use Rattle.phase_out.specs.declared.count.Counted.TheVariants.{Goes, AsksRequests, Agrees, Recounts, Pauses}
 
--- the number of the last round, that round with its rows, and whether a tree was answered since it began
+-- the number of the last round, that round with its rows, and whether a transaction was answered since it began
 pub record CountData : Type 0 where
   pub number : ℕ
   pub current : RoundData
@@ -18,7 +18,7 @@ pub record CountData : Type 0 where
 abbrev pub start_count : ℕ → CountData
 start_count k = record { number = k; current = new_round (record { 0 = 0 }) 0 0; flag = false }
 
--- a round begins, and no tree was answered since
+-- a round begins, and no transaction was answered since
 abbrev pub count_begun : RoundData → CountData
 count_begun r = record { number = r.number; current = r; flag = false }
 
@@ -46,12 +46,12 @@ MayKeep NoRow r = ⊤
 MayKeep (Done from row) r = IsRowOf from.0 row r
 MayKeep (Asked from row) r = IsRowOf from.0 row r
 
--- a tree was answered
+-- a transaction was answered
 abbrev pub nudged : CountData → CountData
 nudged c = record c { flag = true }
 
--- what the verdict asks for: if a pair differs, another round begins at once if a tree was answered, else with the
--- next nudge
+-- what the verdict asks for: if a pair differs another round begins at once if a transaction was answered, else with
+-- the next nudge
 abbrev pub by_verdict : Option Bool → Bool → Counted
 by_verdict None flag = Goes
 by_verdict (Some true) flag = Agrees
@@ -93,7 +93,7 @@ abbrev pub told_asked : ℕ → Version → ℕ → List ℕ → CountData → C
 told_asked from v k row c =
     if is_of from v k row c.current && all_in c.current.dones then count_takes (Asked (record { 0 = from }) row) c else count_stays c
 
--- a tree was answered, while the count is paused or goes on
+-- a transaction was answered, while the count is paused or goes on
 abbrev pub told_nudge : Bool → CountData → CountOut
 told_nudge false c = count_stays (nudged c)
 told_nudge true c = record { state = c; counted = Recounts }

@@ -1,4 +1,4 @@
--- How a strict tree came out, by what is kept of it, is what the whole history says.
+-- How a strict transaction came out, by what is kept of it, is what the whole history says.
 use Rattle.std.proofs.Common.{◌≡◌, ℕ, ◌+◌, List, [], ◌∷◌, ◌++◌, refl, ap, sym, ◌∙◌, append_assoc}
 use Rattle.std.specs.Prelude.{codes, Bool, true, false, filter, Option, Some, None}
 use Rattle.std.specs.Option.{option_and_then, option_map_or, option_or}

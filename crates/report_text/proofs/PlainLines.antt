@@ -1,4 +1,4 @@
--- Without strict trees the lines of the trees are the same, whatever the votes.
+-- Without strict transactions the lines of the transactions are the same, whatever the votes.
 use Rattle.std.proofs.Common.{◌≡◌, ℕ, ◌+◌, Bool, true, false, List, [], ◌∷◌, ◌++◌, refl, ap, ◌∙◌, arith}
 use Rattle.std.specs.Prelude.{if◌then◌else◌, filter, Option, Some, None}
 use Rattle.std.proofs.lemmas.Bool.Decides.{nat_tests}

@@ -1,4 +1,4 @@
--- One read tree more that shows its values, and all of them.
+-- One read transaction more that shows its values, and all of them.
 use Rattle.std.proofs.Common.{◌≡◌, ℕ, zero, suc, ◌+◌, ◌<◌, ◌≤◌, Bool, true, false, List, [], ◌∷◌, length, get_or, refl, ap, sym, ◌∙◌, subst, slice_set, arith}
 use Rattle.std.specs.Prelude.{◌==◌, ◌&&◌, ◌||◌, not, nat_lt, Option, Some, None, slice_get}
 use Rattle.std.specs.List.{list_any}

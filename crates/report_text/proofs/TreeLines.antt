@@ -1,4 +1,4 @@
--- The lines of the trees by their standings are those of the report.
+-- The lines of the transactions by their standings are those of the report.
 use Rattle.std.proofs.Common.{◌≡◌, ℕ, zero, suc, ◌+◌, true, false, List, [], ◌∷◌, ◌++◌, refl, ap, sym, ◌∙◌, append_assoc, arith}
 use Rattle.std.specs.Prelude.{decimal, filter, length, Option, Some, None, slice_get}
 use Rattle.std.specs.List.{AllByRecursion}

@@ -21,31 +21,31 @@ use Rattle.history_text.specs.TreeNames.{got_text}
 use Rattle.history_text.specs.Values.{value_text}
 use Rattle.report_text.specs.Parts.{version_text}
 
--- the mark of a tree that is undone
+-- the mark of a transaction that is compensated
 abbrev pub undone_mark : Option Written → List ℕ
 undone_mark None = []
 undone_mark (Some w) = codes " undone"
 
--- the line of an update tree of version v, which is marked if the tree is undone
+-- the line of an update transaction of version v, which is marked if the transaction is compensated
 abbrev pub update_line : List ℕ → ℕ → Option Written → List ℕ
 update_line name v written = version_text (codes "tree ") name v ++ (undone_mark written ++ codes "\n")
 
--- the line of a read tree of version v with the text of its values
+-- the line of a read transaction of version v with the text of its values
 abbrev pub read_line : List ℕ → ℕ → List ℕ → List ℕ
 read_line name v values = version_text (codes "read ") name v ++ (values ++ codes "\n")
 
--- what a read tree's gets are worth at version v in the whole history; its operations are gets alone
+-- what a read transaction's gets are worth at version v in the whole history; its operations are gets alone
 abbrev pub gets_text : ScriptData → List Entry → ℕ → List Sub → List ℕ
 gets_text s h v ks = got_text s (shown s h v (ops_in ks))
 
--- the line of a tree, which has one if it is born, by the text of its values at a version and of how it came out
+-- the line of a transaction, which has one if it is born, by the text of its values at a version and of how it came out
 abbrev pub tree_line : Tree → TreeKind → Option Version → (ℕ → List ℕ) → List ℕ → List ℕ
 tree_line tree Update (Some v) values outcome = update_line tree.name v.0 tree.written
 tree_line tree Read (Some v) values outcome = read_line tree.name v.0 (values v.0)
 tree_line tree Strict (Some v) values outcome = strict_line tree.name v.0 outcome
 tree_line tree _ _ values outcome = []
 
--- the same, if the list begins with tree t
+-- if the list begins with transaction t
 abbrev pub trees_text : ScriptData → List Entry → ℕ → List Tree → List ℕ
 trees_text s h t [] = []
 trees_text s h t (x ∷ xs) =
@@ -80,7 +80,7 @@ items_text s h a x [] = []
 items_text s h a x (row ∷ rows) =
     item_line a row (worth s h x a) (worth s h x (a + 1)) (is_written s h x (a + 1)) ++ items_text s h a (x + 1) rows
 
--- trees in the script's order, then nodes by number, then items in the script's order
+-- transactions in the script's order, then nodes by number, then items in the script's order
 abbrev pub report_of : ScriptData → List Entry → List ℕ
 report_of s h =
     trees_text s h 0 s.trees

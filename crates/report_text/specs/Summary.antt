@@ -14,11 +14,11 @@ use Rattle.tx_trees.specs.declared.parts.Tree.{Tree}
 use Rattle.board_rules.specs.Worth.{worth}
 use Rattle.history_text.specs.Values.{count_text}
 
--- how many trees are update trees
+-- how many transactions are update transactions
 abbrev pub update_trees : List Tree → ℕ
 update_trees ts = tally (λ t. one_if (is_update t.kind)) ts
 
--- how many trees are read trees
+-- how many transactions are read transactions
 abbrev pub read_trees : List Tree → ℕ
 read_trees ts = tally (λ t. one_if (is_read t.kind)) ts
 
@@ -39,7 +39,8 @@ abbrev pub kind_worth : ScriptData → List Entry → Kind → ℕ → ℕ → L
 kind_worth s h kind v x [] = pos 0
 kind_worth s h kind v x (row ∷ rows) = part_of kind row.kind (worth s h x v) +ℤ kind_worth s h kind v (x + 1) rows
 
--- how many trees there are, how many of them update and read trees, and how many subtransactions, roots among these
+-- how many transactions there are, how many of them update and read transactions, and how many subtransactions, roots
+-- among these
 abbrev pub trees_counts : List Tree → List ℕ
 trees_counts ts =
     count_text (codes " trees ") (length ts) ++ (count_text (codes " updates ") (update_trees ts)

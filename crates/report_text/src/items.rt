@@ -1,5 +1,5 @@
 // The lines of items.
-ghost use Rattle.std.specs.Prelude.{◌≡◌, ◌++◌, ◌+◌, OnOk, length};
+ghost use Rattle.std.specs.Prelude.{◌≡◌, ◌++◌, OnOk, length};
 ghost use Rattle.std.specs.Str.{IsAscii};
 ghost use Rattle.report_text.specs.Report.{balance, balances, item_line};
 ghost use Rattle.report_text.specs.inside.Lines.{rows_lines};

@@ -3,7 +3,6 @@ ghost use Rattle.std.specs.Prelude.{◌≡◌, ◌++◌, ◌+◌, ◌<◌, ◌�
 ghost use Rattle.board_model.specs.Balances.{worths};
 ghost use Rattle.board_model.specs.SerialList.{IsSerial};
 ghost use Rattle.board_model.specs.Standings.{standings_of};
-ghost use Rattle.board_model.specs.declared.serial.Member.{Member};
 ghost use Rattle.report_text.specs.inside.Served.{AreAsked, AreRead, AreTold, IsServed, ask_at, asks_from, read_version, IsAskedFor, IsServedIn};
 
 use crate::reads::{Reads, no_texts, values_of};

@@ -1,5 +1,5 @@
 // The lines of trees and of nodes.
-ghost use Rattle.std.specs.Prelude.{◌≡◌, ◌++◌, ◌+◌, ◌<◌, ◌^◌, OnOk, length};
+ghost use Rattle.std.specs.Prelude.{◌≡◌, ◌++◌, ◌<◌, ◌^◌, OnOk, length};
 ghost use Rattle.std.specs.Str.{IsAscii};
 ghost use Rattle.report_text.specs.inside.Lines.{trees_lines};
 ghost use Rattle.tx_trees.specs.AsciiNames.{AreAsciiTrees};

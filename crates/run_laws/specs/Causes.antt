@@ -8,8 +8,8 @@ use Rattle.board_rules.specs.Histories.{Place}
 use Rattle.board_rules.specs.Moves.{AtEachAct}
 use Rattle.board_rules.specs.Stands.{cause_of, refusal_in}
 
--- a vote at node p, after the acts xs, in an entry before which the history was this one, is a no just where the look back
--- finds a cause, and names that cause
+-- a vote at node p, after the acts xs, in an entry before which the history was this one, is a negative vote exactly if
+-- the look back finds a cause, and names that cause
 abbrev pub NamesItsCause : ScriptData → List Entry → List Place → ℕ → Act → Type 0
 NamesItsCause s before xs p (Voted t k vote) = refusal_in vote ≡ cause_of s before xs p t.0 (ops_of s t.0 k.0)
 NamesItsCause s before xs p _ = Unit {0}

@@ -18,7 +18,7 @@ OfEachRun P = (s : ScriptData) (past : List Entry) → IsValid s → IsStepRun s
 abbrev pub OfEachHistory : (ScriptData → List Entry → Type 0) → Type 0
 OfEachHistory P = (s : ScriptData) (past : List Entry) → IsValid s → IsStepRun s past → P s (reverse past)
 
--- of each run that has no letter in flight any more
+-- of each run that has no message in flight any more
 abbrev pub OfEachEnd : (ScriptData → List Entry → Type 0) → Type 0
 OfEachEnd P =
     (s : ScriptData) (past : List Entry) → IsValid s → IsStepRun s past → in_flight s past ≡ [] → P s past
@@ -28,7 +28,7 @@ abbrev pub OfEachLaterRun : (ScriptData → List Entry → List Entry → Type 0
 OfEachLaterRun P = (s : ScriptData) (past later : List Entry) → IsValid s → IsStepRun s (later ++ past)
     → P s past (later ++ past)
 
--- of each run whose coordinator forgets nothing; and of those of them that have no strict tree
+-- of each run whose coordinator forgets nothing; and of those of them that have no strict transaction
 abbrev pub OfEachLosslessRun : (ScriptData → List Entry → Type 0) → Type 0
 OfEachLosslessRun P =
     (s : ScriptData) (past : List Entry) → IsValid s → is_lossy s ≡ false → IsStepRun s past → P s past
@@ -45,7 +45,8 @@ abbrev pub OfEachLosslessStep : (ScriptData → List Entry → Entry → Type 0)
 OfEachLosslessStep P = (s : ScriptData) (past : List Entry) (e : Entry) → IsValid s → is_lossy s ≡ false
     → IsStepRun s (e ∷ past) → P s past e
 
--- of each tree in each run; of each subtransaction; and of each node that a tree visits, with a commit or an abort
+-- of each transaction in each run; of each subtransaction; and of each node that a transaction visits, with a commit or
+-- an abort
 abbrev pub OfEachTree : (ScriptData → List Entry → ℕ → Type 0) → Type 0
 OfEachTree P =
     (s : ScriptData) (past : List Entry) (t : ℕ) → IsValid s → IsStepRun s past → t < length s.trees → P s past t
@@ -58,7 +59,7 @@ abbrev pub OfEachVisit : (ScriptData → List Entry → ℕ → ℕ → Bool →
 OfEachVisit P = (s : ScriptData) (past : List Entry) (t q : ℕ) (commit : Bool) → IsValid s → IsStepRun s past
     → t < length s.trees → q < s.nodes → visits (subs_at s t) q ≡ true → P s past t q commit
 
--- of what each letter says that an entry sends, or that is in flight after a run
+-- of what each message says that an entry sends, or that is in flight after a run
 abbrev pub EachSent : (Body → Type 0) → Entry → Type 0
 EachSent P e = Each (λ (o : Outgoing). P o.body) e.sent
 

@@ -13,7 +13,7 @@ abbrev pub HoldsWritten : ScriptData → List Entry → ℕ → ℕ → Type 0
 HoldsWritten s past p x = (w : ℕ) (r : ItemRow) → slice_get s.items x ≡ Some r → r.node.0 ≡ p → (node_in s past p).turns.low.0 < w
     → holds_in (record { 0 = w }) (record { 0 = x }) (node_in s past p).items ≡ was_written s (places_of (reverse past)) p x w
 
--- acts of node p write its item x in just those versions in which trees write it
+-- acts of node p write its item x in just those versions in which transactions write it
 abbrev pub IsWrittenAtEnd : ScriptData → List Entry → ℕ → ℕ → Type 0
 IsWrittenAtEnd s past p x = (w : ℕ) (r : ItemRow) → slice_get s.items x ≡ Some r → r.node.0 ≡ p
     → was_written s (places_of (reverse past)) p x w ≡ is_written s (reverse past) x w

@@ -1,4 +1,4 @@
--- What is held of items that a strict tree holds, in runs of every script.
+-- What is held of items that a strict transaction holds, in runs of every script.
 use Rattle.std.specs.Prelude.{ℕ, true, ◌<◌, ◌≤◌, ◌≡◌, max, List, reverse, Some}
 use Rattle.std.specs.List.{AllByRecursion}
 use Rattle.tv_base.specs.declared.numbers.Version.{Version}
@@ -16,15 +16,15 @@ use Rattle.world_model.specs.Node.{Node}
 use Rattle.world_model.specs.Runs.{IsStepRun, keeping_in, node_in}
 use Rattle.board_rules.specs.Histories.{Place, places_of, version_in}
 
--- the tree of this lock is strict and born, and each version that the node holds of the lock's item is at most the
--- tree's, or at most the node's low version
+-- the transaction of this lock is strict and born, and each version that the node holds of the lock's item is at most
+-- the transaction's, or at most the node's low version
 pub record IsNewest (s : ScriptData) (xs : List Place) (st : Node) (l : Lock) : Type 0 where
   pub strict : is_strict_at s l.tree.0 ≡ true
   pub version : Version
   pub born : version_in l.tree.0 xs ≡ Some version
   pub most : (h : Held) → item_in l.item st.items ≡ Some h → AllByRecursion (λ x. x.0.0 ≤ max st.turns.low.0 version.0) h
 
--- nothing newer is held of an item than the tree that holds it
+-- nothing newer is held of an item than the transaction that holds it
 abbrev pub NewestUnderHolds : Type 0
 NewestUnderHolds = (s : ScriptData) (past : List Entry) (p : ℕ) (l : Lock) → IsValid s → AllApt s past
     → IsStepRun s past → p < s.nodes → has_lock l (keeping_in s past p).core.locks ≡ true → l.mode ≡ Hold

@@ -1,4 +1,4 @@
--- Where the root of a strict tree is born, and where it waits.
+-- Where the root of a strict transaction is born, and where it waits.
 use Rattle.std.specs.Prelude.{if◌then◌else◌, ℕ, Bool, true, false, ◌≡◌, ◌==◌, ◌+◌, ◌&&◌, List, [], ◌∷◌, filter, take, Option, Some, None, IsTrue, slice_get}
 use Rattle.tv_base.specs.declared.numbers.TreeNo.{TreeNo}
 use Rattle.letter_types.specs.declared.acts.Act.{Act}
@@ -18,25 +18,25 @@ lets_wait _ = false
 abbrev pub waits_among : List Act → List Act
 waits_among acts = filter lets_wait acts
 
--- the strict tree for whose root an entry is that takes a letter of this body: its Root, or the Wake of it
+-- the strict transaction for whose root an entry is that takes a message of this body: its Root, or the Wake of it
 abbrev pub strict_root : ScriptData → Body → Option TreeNo
 strict_root s (Root t) = if is_strict_tree s t.0 then Some t else None
 strict_root s (Wake t k) = if is_strict_tree s t.0 && (k.0 == 0) then Some t else None
 strict_root s _ = None
 
--- at a node that updates version u and reads version r: where u is the one after r, the entry bears the tree and lets
--- nothing wait; else its one act is that the root waits, with both numbers
+-- at a node that updates version u and reads version r: if u is the one after r, the entry bears the transaction and
+-- lets nothing wait; else its one act is that the root waits, with both numbers
 pub record IsBornOrWaits (u r : ℕ) (t : TreeNo) (e : Entry) : Type 0 where
   pub born : IsTrue (u == r + 1) → IsTrue (was_born (places_at e) t.0) × (waits_among e.acts ≡ [])
   pub waits : (u == r + 1) ≡ false → e.acts ≡ Waits t (record { 0 = u }) (record { 0 = r }) ∷ []
 
--- an entry that isn't for the root of a strict tree lets nothing wait
+-- an entry that isn't for the root of a strict transaction lets nothing wait
 abbrev pub WaitsForRoot : ℕ → ℕ → Entry → Option TreeNo → Type 0
 WaitsForRoot u r e None = waits_among e.acts ≡ []
 WaitsForRoot u r e (Some t) = IsBornOrWaits u r t e
 
--- an entry after the acts xs bears no strict tree but the one for whose root it is; and that is born, or waits by its
--- node's numbers
+-- an entry after the acts xs bears no strict transaction but the one for whose root it is; and that is born, or waits
+-- by its node's numbers
 pub record IsForRoot (s : ScriptData) (xs : List Place) (e : Entry) : Type 0 where
   pub alone : (t : TreeNo) → IsTrue (is_strict_tree s t.0) → IsTrue (was_born (places_at e) t.0)
       → strict_root s e.took.body ≡ Some t

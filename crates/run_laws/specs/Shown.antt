@@ -8,17 +8,17 @@ use Rattle.letter_types.specs.declared.entries.Entry.{Entry}
 use Rattle.tx_trees.specs.ScriptData.{ScriptData, reads}
 use Rattle.board_rules.specs.Histories.{IsWhole, version_of}
 
--- each writer, a tree that reads nothing, of version at most v that is born is whole
+-- each writer, a transaction that reads nothing, of version at most v that is born is complete
 abbrev pub WritersAreWhole : ScriptData → List Entry → ℕ → Type 0
 WritersAreWhole s h v =
     (t : ℕ) (w : Version) → t < length s.trees → reads s t ≡ false → version_of h t ≡ Some w → w.0 ≤ v → IsWhole s h t
 
--- each read tree of a version below v that is born is whole
+-- each read transaction of a version below v that is born is complete
 abbrev pub ReadsAreWhole : ScriptData → List Entry → ℕ → Type 0
 ReadsAreWhole s h v = (t : ℕ) (w : Version) → reads s t ≡ true → version_of h t ≡ Some w → w.0 < v → IsWhole s h t
 
--- where Show(v) is in flight, or an order that stands for it, the writers of version at most v are whole; where Sweep(v) is,
--- the read trees of versions below v are
+-- if Show(v) is in flight, or an order that stands for it, the writers of version at most v are complete; if Sweep(v)
+-- is, the read transactions of versions below v are
 abbrev pub IsBackedBy : ScriptData → List Entry → Body → Type 0
 IsBackedBy s h (Show v) = WritersAreWhole s h v.0
 IsBackedBy s h (Sweep v) = ReadsAreWhole s h v.0
@@ -31,13 +31,13 @@ abbrev pub NoWriterCame : ScriptData → List Entry → List Entry → ℕ → T
 NoWriterCame s h later v =
     (t : ℕ) (w : Version) → t < length s.trees → reads s t ≡ false → version_of later t ≡ Some w → w.0 ≤ v → version_of h t ≡ Some w
 
--- and no read tree to a version below v
+-- and no read transaction to a version below v
 abbrev pub NoReadCame : ScriptData → List Entry → List Entry → ℕ → Type 0
 NoReadCame s h later v =
     (t : ℕ) (w : Version) → reads s t ≡ true → version_of later t ≡ Some w → w.0 < v → version_of h t ≡ Some w
 
--- where Show(v) was in flight, or an order that stands for it, no writer has come to a version at most v later; where Sweep(v)
--- was, no read tree to one below v
+-- if Show(v) was in flight, or an order that stands for it, no writer has come to a version at most v later; if
+-- Sweep(v) was, no read transaction to one below v
 abbrev pub IsClosedBy : ScriptData → List Entry → List Entry → Body → Type 0
 IsClosedBy s h later (Show v) = NoWriterCame s h later v.0
 IsClosedBy s h later (Sweep v) = NoReadCame s h later v.0

@@ -1,4 +1,4 @@
--- How votes, decisions and their applications go together, which versions letters carry, and how small counts are.
+-- How votes, decisions and their applications go together, which versions messages carry, and how small counts are.
 use Rattle.std.specs.Prelude.{ℕ, Bool, true, false, ◌≡◌, ◌+◌, ◌*◌, ◌<◌, ◌≤◌, List, length, reverse}
 use Rattle.letter_types.specs.declared.entries.Entry.{Entry}
 use Rattle.letter_types.specs.declared.entries.Letter.{Letter}
@@ -12,18 +12,18 @@ use Rattle.advance_laws.specs.Balance.{MOST_COUNTED}
 use Rattle.tree_laws.specs.Applied.{applied_at, decided_as, decisions_to, noes}
 use Rattle.tree_laws.specs.Carried.{CarriesVersion}
 
--- a commit or an abort of tree t was applied at node q as often as it was decided, but for decisions that are on their
--- way
+-- a commit or an abort of transaction t was applied at node q as often as it was decided, but for decisions that are on
+-- their way
 abbrev pub IsAppliedAsDecided : ScriptData → List Entry → ℕ → ℕ → Bool → Type 0
 IsAppliedAsDecided s past t q commit =
     applied_at past t commit q + decisions_to s past t commit q ≡ decided_as past t commit
 
--- tree t commits only where nobody voted no, and aborts only where somebody did
+-- transaction t commits only if nobody voted no, and aborts only if somebody did
 abbrev pub IsDecidedByVotes : ScriptData → List Entry → ℕ → Type 0
 IsDecidedByVotes s past t =
     (1 ≤ decided_as past t true → noes past t ≡ 0) × (1 ≤ decided_as past t false → 1 ≤ noes past t)
 
--- letters that have still to be done carry the versions of their trees
+-- messages that have still to be done carry the versions of their transactions
 abbrev pub CarryTheirVersions : ScriptData → List Entry → Type 0
 CarryTheirVersions s past = Each (λ (l : Letter). CarriesVersion (places_of (reverse past)) l.body) (outstanding s past)
 

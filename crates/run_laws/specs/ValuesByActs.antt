@@ -15,8 +15,9 @@ use Rattle.board_rules.specs.Histories.{Place, places_of, version_in}
 use Rattle.board_rules.specs.Worth.{after_ops, first_value}
 use Rattle.tree_laws.specs.SeenAt.{is_up_to, seen_at}
 
--- among these acts, the value of item x after an act of node p: a Did of an update tree of version at most v applies its
--- operations, and the Applied of a strict tree of version at most v that commits applies those that the tree has at p
+-- among these acts, the value of item x after an act of node p: a Did of an update transaction of version at most v
+-- applies its operations, and the Applied of a strict transaction of version at most v that commits applies those that
+-- the transaction has at p
 abbrev pub value_by_act : ScriptData → List Place → ℕ → ℕ → ℕ → Value → Act → Value
 value_by_act s zs p x v w (Did t k values) = if updates s t.0 && is_up_to v (version_in t.0 zs) then after_ops x (ops_of s t.0 k.0) w else w
 value_by_act s zs p x v w (Applied t commit) =

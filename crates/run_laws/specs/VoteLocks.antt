@@ -16,7 +16,7 @@ use Rattle.world_model.specs.Runs.{IsStepRun, keeping_in}
 use Rattle.board_rules.specs.Stands.{votes_yes}
 use Rattle.tree_laws.specs.Applied.{applied_at}
 
--- how often subtransaction k of tree t voted yes at node q
+-- how often subtransaction k of transaction t voted yes at node q
 abbrev pub yeses_at : List Entry → ℕ → ℕ → ℕ → ℕ
 yeses_at [] t k q = 0
 yeses_at (e ∷ past) t k q = (if e.actor.0 == q then tally (λ (a : Act). one_if (votes_yes t k a)) e.acts else 0) + yeses_at past t k q
@@ -25,8 +25,8 @@ yeses_at (e ∷ past) t k q = (if e.actor.0 == q then tally (λ (a : Act). one_i
 abbrev pub AreAmong : List Lock → List Lock → Type 0
 AreAmong ls all = (l : Lock) → has_lock l ls ≡ true → has_lock l all ≡ true
 
--- where a subtransaction of a strict tree voted yes, and no decision on the tree was applied yet, the node has each lock
--- that its operations want
+-- if a subtransaction of a strict transaction voted yes, and no decision on the transaction was applied yet, the node
+-- has each lock that its operations want
 abbrev pub VoteLocksStand : Type 0
 VoteLocksStand = (s : ScriptData) (past : List Entry) (p : ℕ) (t : TreeNo) (k : SubNo) → IsValid s → AllApt s past → IsStepRun s past
     → p < s.nodes → is_strict_at s t.0 ≡ true → 1 ≤ yeses_at past t.0 k.0 p

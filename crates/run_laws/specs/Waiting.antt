@@ -1,4 +1,4 @@
--- Why letters are kept, in every run.
+-- Why messages are deferred, in every run.
 use Rattle.std.specs.Prelude.{ℕ, ◌≡◌, ◌+◌, ◌<◌, ◌≤◌, true, false, List, reverse, take, Some, None}
 use Rattle.tv_base.specs.declared.numbers.ItemNo.{ItemNo}
 use Rattle.tv_base.specs.declared.numbers.TreeNo.{TreeNo}
@@ -22,8 +22,8 @@ use Rattle.tree_laws.specs.Waking.{is_wake_at}
 use Rattle.tree_laws.specs.Applied.{applied_at}
 use Rattle.tree_laws.specs.Turns.{turns}
 
--- tree t is strict, it is born, it visits node p, where a subtransaction of it had its turn, and what is decided of it has
--- still to be applied there
+-- transaction t is strict, it is born, it visits node p, at which a subtransaction of it had its turn, and what is
+-- decided of it has still to be applied there
 pub record IsHolder (s : ScriptData) (past : List Entry) (p t : ℕ) : Type 0 where
   pub strict : is_strict_at s t ≡ true
   pub born : 1 ≤ turns past t 0
@@ -31,9 +31,9 @@ pub record IsHolder (s : ScriptData) (past : List Entry) (p t : ℕ) : Type 0 wh
   pub turned : (k : ℕ) × ((node_of s t k ≡ p) × (1 ≤ turns past t k))
   pub unapplied : applied_at past t true p + applied_at past t false p ≡ 0
 
--- until a version is shown the root of a strict tree is kept, where the version that is updated is two above the one that is
--- read; until a tree lets go a subtransaction of an update tree, where the node has a lock of that tree which is in the way;
--- and what is called has a Wake in flight
+-- until a version is shown the root of a strict transaction is deferred, if the version that is updated is two above
+-- the one that is read; until a transaction lets go a subtransaction of an update transaction, if the node has a lock
+-- of that transaction which is in the way; and what is called has a Wake in flight
 abbrev pub IsKeptUntil : ScriptData → List Entry → ℕ → KeptLetter → KeepReason → Type 0
 IsKeptUntil s past p x ForShow =
     (is_strict_at s x.tree.0 ≡ true) × ((x.sub.0 ≡ 0) × ((node_in s past p).turns.update.0 ≡ (node_in s past p).turns.read.0 + 2))
@@ -46,12 +46,12 @@ abbrev pub LettersStayKeptForAReason : Type 0
 LettersStayKeptForAReason = (s : ScriptData) (past : List Entry) (p : ℕ) → IsValid s → IsStepRun s past → p < s.nodes
     → Each (λ (x : KeptLetter). IsKeptUntil s past p x x.why) (kept_in s past p)
 
--- nothing is in the way of a subtransaction, at any node and after any entries, where no tree is strict
+-- nothing is in the way of a subtransaction, at any node and after any entries, if no transaction is strict
 abbrev pub NothingIsInTheWay : Type 0
 NothingIsInTheWay = (s : ScriptData) (past : List Entry) (n p t k : ℕ) → IsValid s → has_strict s ≡ false → IsStepRun s past
     → in_way_of s (places_of (take n (reverse past))) p t k ≡ None
 
--- whose lock is in the way of one at its node is a strict tree that is decided on later
+-- whose lock is in the way of one at its node is a strict transaction that is decided on later
 abbrev pub OnlyHoldersAreInTheWay : Type 0
 OnlyHoldersAreInTheWay = (s : ScriptData) (past : List Entry) (p t k : ℕ) (x : ItemNo) (u : TreeNo) → IsValid s
     → IsStepRun s past → p < s.nodes → node_of s t k ≡ p

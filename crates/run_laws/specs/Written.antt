@@ -22,8 +22,8 @@ holds_of w (Some h) = holds w h
 abbrev pub holds_in : Version → ItemNo → Table → Bool
 holds_in w x items = holds_of w (item_in x items)
 
--- an act of node p writes item x in version w: a Did of an update tree that these acts bear in w, and that changes it; or
--- the Applied of a commit of a strict tree that they bear in w, and that changes it at p
+-- an act of node p writes item x in version w: a Did of an update transaction that these acts bear in w, and that
+-- changes it; or the Applied of a commit of a strict transaction that they bear in w, and that changes it at p
 abbrev pub act_writes : ScriptData → List Place → ℕ → ℕ → ℕ → Act → Bool
 act_writes s zs p x w (Did t k values) = updates s t.0 && (is_version w (version_in t.0 zs) && ops_change x (ops_of s t.0 k.0))
 act_writes s zs p x w (Applied t commit) =

@@ -1,4 +1,4 @@
--- A node as the tests have it is ready for a letter.
+-- A node as the tests have it is ready for a message.
 use Rattle.std.proofs.Common.{◌≡◌, ◌∙◌, ℕ, ◌<◌, [], ◌∷◌, ◌++◌, ap, sym, subst, arith}
 use Rattle.tv_base.specs.declared.numbers.ItemNo.{ItemNo}
 use Rattle.commute_ops.specs.declared.value.Value.{Value}

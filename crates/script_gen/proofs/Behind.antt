@@ -1,4 +1,4 @@
--- The rows of the generated script: how many advancements they ask for, and how the script goes on after a tree.
+-- The rows of the generated script: how many advancements they ask for, and how the script goes on after a transaction.
 use Rattle.std.proofs.Common.{◌≡◌, ◌+◌, ◌/◌, ◌%◌, ◌<◌, ◌≤◌, ◌∙◌, ◌∷◌, ◌++◌, [], List, Bool, true, false, ℕ, zero, suc, refl, ap, arith}
 use Rattle.std.specs.Prelude.{◌==◌, nat_le, Ok}
 use Rattle.std.proofs.lemmas.Bool.Decides.{nat_tests}

@@ -1,4 +1,4 @@
--- From one stage of a generated tree to the next, by what the code has for its kind, its nodes and its draws.
+-- From one stage of a generated transaction to the next, by what the code has for its kind, its nodes and its draws.
 use Rattle.std.proofs.Common.{◌≡◌, ◌/◌, ◌%◌, ◌<◌, ◌≤◌, ◌∙◌, List, ℕ, suc, sym, ap, subst}
 use Rattle.std.specs.Prelude.{Some}
 use Rattle.tv_base.specs.declared.numbers.NodeNo.{NodeNo}

@@ -1,4 +1,5 @@
--- How much a generated tree has: at most four subtransactions, each with one operation of a small amount, and no `put`.
+-- How much a generated transaction has: at most four subtransactions, each with one operation of a small amount, and no
+-- `put`.
 use Rattle.std.proofs.Common.{◌≡◌, ◌+◌, ◌*◌, ◌%◌, ◌≤◌, ◌∷◌, [], List, Bool, true, false, ℕ, zero, suc, length, refl, arith, length-append}
 use Rattle.std.specs.Prelude.{◌==◌, if◌then◌else◌, unsigned_abs}
 use Rattle.std.specs.List.{AllByRecursion}

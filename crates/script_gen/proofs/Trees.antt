@@ -1,4 +1,4 @@
--- Each record of a generated tree is taken, and all of them make the tree.
+-- Each record of a generated transaction is taken, and all of them make the transaction.
 use Rattle.std.proofs.Common.{◌≡◌, ◌+◌, ◌*◌, ◌/◌, ◌%◌, ◌<◌, ◌≤◌, ◌∙◌, ◌∷◌, ◌++◌, [], List, Bool, true, false, ℕ, zero, suc, length, refl, sym, ap, subst, arith, length-append}
 use Rattle.std.specs.Prelude.{◌&&◌, ◌||◌, ◌==◌, not, nat_le, nat_lt, Option, Some, None, slice_get, unsigned_abs}
 use Rattle.std.specs.Str.{bytes_eq}

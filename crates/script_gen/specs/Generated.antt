@@ -1,4 +1,4 @@
--- The script that a seed makes: 4 nodes, 32 items, and so many trees, each from draws of its own.
+-- The script that a seed makes: 4 nodes, 32 items, and that many transactions, each from draws of its own.
 use Rattle.std.specs.Prelude.{if◌then◌else◌, ℕ, zero, suc, ◌+◌, ◌*◌, ◌/◌, ◌%◌, ◌==◌, ℤ, pos, List, [], ◌∷◌, ◌++◌, codes, decimal, Bool, false, None}
 use Rattle.commute_ops.specs.declared.kinds.Kind.TheVariants as kinds
 use Rattle.commute_ops.specs.declared.kinds.Op.TheVariants as ops
@@ -16,7 +16,7 @@ use Rattle.tx_trees.specs.declared.parts.TreeKind.TheVariants as trees
 use Rattle.script_gen.specs.Draws.{after_draws}
 use Rattle.tv_base.specs.Draws.{next_draw, upper_bits}
 
--- the names of item k and of tree j
+-- the names of item k and of transaction j
 abbrev pub generated_item_name : ℕ → List ℕ
 generated_item_name k = codes "i" ++ decimal k
 
@@ -41,7 +41,7 @@ abbrev pub items_up_to : ℕ → List ItemRow
 items_up_to zero = []
 items_up_to (suc k) = items_up_to k ++ generated_item_row k ∷ []
 
--- by a tree's first draw: its kind, its home, and how many subtransactions it has beside the root
+-- by a transaction's first draw: its kind, its home, and how many subtransactions it has beside the root
 abbrev pub kind_by : ℕ → TreeKind
 kind_by d = if d % 4 == 0 then trees.Read else trees.Update
 
@@ -66,12 +66,12 @@ item_by node e = node + 4 * (e / 256 % 8)
 abbrev pub amount_by : ℕ → ℤ
 amount_by e = pos (e / 2048 % 1000)
 
--- a read tree gets the item, another adds to it or raises it
+-- a read transaction gets the item, another adds to it or raises it
 abbrev pub deed_by : TreeKind → ℕ → ℤ → Deed
 deed_by trees.Read x n = deeds.Get
 deed_by _ x n = if is_top x then deeds.Apply (ops.Top n) else deeds.Apply (ops.Add n)
 
--- subtransaction k of a tree of this kind and home, by its draw
+-- subtransaction k of a transaction of this kind and home, by its draw
 abbrev pub generated_sub : TreeKind → ℕ → ℕ → ℕ → Sub
 generated_sub kind home k e = record {
   parent = record { 0 = parent_by k e };
@@ -88,11 +88,11 @@ subs_up_to kind home x zero = []
 subs_up_to kind home x (suc k) =
     subs_up_to kind home x k ++ generated_sub kind home k (upper_bits (after_draws (suc k) x)) ∷ []
 
--- a tree's own draw, where its draws begin after x
+-- a transaction's own draw, if its draws begin after x
 abbrev pub own_draw : ℕ → ℕ
 own_draw x = upper_bits (next_draw x)
 
--- tree j with its first n subtransactions, by the draws after x, of which the first is the tree's own
+-- transaction j with its first n subtransactions, by the draws after x, of which the first is the transaction's own
 abbrev pub tree_with : ℕ → ℕ → ℕ → Tree
 tree_with j x n = record {
   name = tree_name j;
@@ -101,37 +101,37 @@ tree_with j x n = record {
   written = None;
 }
 
--- how many subtransactions the tree has whose draws begin after x
+-- how many subtransactions the transaction has whose draws begin after x
 abbrev pub size_after : ℕ → ℕ
 size_after x = more_by (own_draw x) + 1
 
 abbrev pub generated_tree : ℕ → ℕ → Tree
 generated_tree j x = tree_with j x (size_after x)
 
--- the number after the draws of the tree whose draws begin after x
+-- the number after the draws of the transaction whose draws begin after x
 abbrev pub after_tree_draws : ℕ → ℕ
 after_tree_draws x = after_draws (size_after x) (next_draw x)
 
--- the number after the draws of the first j trees
+-- the number after the draws of the first j transactions
 abbrev pub after_trees : ℕ → ℕ → ℕ
 after_trees seed zero = seed
 after_trees seed (suc j) = after_tree_draws (after_trees seed j)
 
--- the first n trees
+-- the first n transactions
 abbrev pub trees_up_to : ℕ → ℕ → List Tree
 trees_up_to seed zero = []
 trees_up_to seed (suc j) = trees_up_to seed j ++ generated_tree j (after_trees seed j) ∷ []
 
--- after every 250th tree an advancement is asked for
+-- after every 250th transaction an advancement is asked for
 abbrev pub advances_behind : ℕ → List ScriptRow
 advances_behind j = if (j + 1) % 250 == 0 then rows.Advance ∷ [] else []
 
--- the rows of the first n trees
+-- the rows of the first n transactions
 abbrev pub rows_up_to : ℕ → List ScriptRow
 rows_up_to zero = []
 rows_up_to (suc j) = rows_up_to j ++ (rows.Tree (record { 0 = j }) ∷ advances_behind j)
 
--- the whole script: after the trees all of them are waited for, one more advancement is asked for and waited for
+-- the whole script: after the transactions all of them are waited for, one more advancement is asked for and waited for
 abbrev pub generated : ℕ → ℕ → ScriptData
 generated seed n = record {
   form = forms.One;

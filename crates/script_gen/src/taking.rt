@@ -2,7 +2,6 @@
 ghost use Rattle.std.specs.Prelude.{◌≡◌, Ok, OnOk, Some};
 ghost use Rattle.tx_trees.specs.Adding.{adds_advance, place_of, with_item, with_op, with_row, with_sub, with_tree};
 ghost use Rattle.tx_trees.specs.Passing.{MayAddItem, MayAddOp, MayAddSub, MayAddTree};
-ghost use Rattle.tx_trees.specs.declared.parts.ScriptRow.TheVariants as rows;
 
 use tv_base::{Name, NoMemory, NodeNo};
 use tx_trees::{Deed, ItemRow, Refusal, Script, ScriptRow, TreeKind};

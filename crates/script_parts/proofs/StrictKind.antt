@@ -1,4 +1,4 @@
--- The kind of strict trees.
+-- The kind of strict transactions.
 use Rattle.std.proofs.Common.{◌≡◌, true, false, refl}
 use Rattle.script_parts.specs.ScriptData.{is_strict}
 use Rattle.script_parts.specs.declared.parts.TreeKind.{TreeKind}

@@ -1,5 +1,5 @@
--- A valid script's nodes are few, its items' magnitudes and its trees are small, its trees run at its nodes, and its
--- rows name them in order.
+-- A valid script's nodes are few, its items' magnitudes and its transactions are small, its transactions run at its
+-- nodes, and its rows name them in order.
 use Rattle.std.proofs.Common.{◌≡◌, ℕ, ◌+◌, ◌<◌, ◌≤◌, true, List, [], ◌∷◌, length, Option, Some, None, zero, suc, refl, sym, subst, arith}
 use Rattle.std.specs.Prelude.{All, slice_get}
 use Rattle.std.specs.List.{AllByRecursion}

@@ -1,4 +1,4 @@
--- What operations, subtransactions and trees add up to, and what a record adds to it.
+-- What operations, subtransactions and transactions add up to, and what a record adds to it.
 use Rattle.std.proofs.Common.{◌≡◌, ◌<◌, ◌≤◌, ◌+◌, ℕ, List, [], ◌∷◌, ◌++◌, length, refl, sym, ap, ◌∙◌, arith, length-append}
 use Rattle.std.specs.Prelude.{◌==◌, if◌then◌else◌}
 use Rattle.std.proofs.lemmas.Grind.{common_steps}

@@ -32,7 +32,7 @@ use Rattle.script_parts.specs.declared.why.Why.TheVariants as why
 use Rattle.script_parts.specs.declared.why.Refusal.{Refusal}
 use Rattle.script_parts.specs.declared.why.Refusal.TheVariants as refusals
 
--- the first condition that holds gives its reason; where none holds the record is taken
+-- the first condition that holds gives its reason; if none holds the record is taken
 abbrev pub taken_unless : {A : Type 0} → List (Bool × Why) → A → Result A Why
 taken_unless [] new = Ok new
 taken_unless (c ∷ cs) new = if c.0 then Err c.1 else taken_unless cs new
@@ -43,7 +43,7 @@ Steps step (Ok u) old new = step ≡ Ok new
 Steps step (Err (refusals.Why w)) old new = (step ≡ Err w) × (new ≡ old)
 Steps step (Err refusals.NoMemory) old new = new ≡ old
 
--- a script of this form and of so many nodes, with nothing in it
+-- a script of this form and of that many nodes, with nothing in it
 abbrev pub fresh : Form → ℕ → ScriptData
 fresh form n = record { form = form; nodes = n; items = []; trees = []; rows = []; picks = []; begun = false }
 
@@ -51,7 +51,7 @@ fresh form n = record { form = form; nodes = n; items = []; trees = []; rows = [
 abbrev pub place_of : List ℕ → List ItemRow → Option ℕ
 place_of name items = position (λ r. bytes_eq r.name name) items
 
--- whether a tree has this name
+-- whether a transaction has this name
 abbrev pub names_tree : List ℕ → List Tree → Bool
 names_tree name ts = list_any (λ t. bytes_eq t.name name) ts
 
@@ -65,7 +65,7 @@ adds_item s row =
     ∷ (is_some (place_of row.name s.items), why.NameTaken)
     ∷ (nat_le 10000 (length s.items), why.TooMany) ∷ []) (with_item s row)
 
--- a tree with its root alone
+-- a transaction with its root alone
 abbrev pub rooted : List ℕ → TreeKind → NodeNo → Tree
 rooted name kind node = record {
   name = name;
@@ -81,15 +81,15 @@ with_tree s name kind node = record s {
   begun = true;
 }
 
--- so many strict trees beside so many subtransactions of update trees are too many
+-- that many strict transactions beside that many subtransactions of update transactions are too many
 abbrev pub are_many : ℕ → ℕ → Bool
 are_many strict subs = nat_lt 1000000 (strict * subs)
 
--- so many trees are too many for so many nodes
+-- that many transactions are too many for that many nodes
 abbrev pub are_spread : ℕ → ℕ → Bool
 are_spread nodes trees = nat_lt 320000 (nodes * trees)
 
--- with one more tree of this kind a limit would be passed
+-- with one more transaction of this kind a limit would be passed
 abbrev pub has_no_tree_left : ℕ → TreeKind → List Tree → Bool
 has_no_tree_left nodes kind ts =
     nat_le 20000 (length ts) || are_spread nodes (length ts + 1) || nat_le 100000 (all_subs ts)
@@ -109,7 +109,7 @@ on_last f [] = []
 on_last f (x ∷ []) = f x ∷ []
 on_last f (x ∷ y ∷ ys) = x ∷ on_last f (y ∷ ys)
 
--- how many subtransactions the last tree has
+-- how many subtransactions the last transaction has
 abbrev pub last_subs : List Tree → ℕ
 last_subs ts = elim (last_of ts) [ None ↦ 0 | Some t ↦ length t.subs ]
 
@@ -125,7 +125,7 @@ with_sub s parent node = record s {
   begun = true;
 }
 
--- with one more subtransaction of the last tree a limit would be passed
+-- with one more subtransaction of the last transaction a limit would be passed
 abbrev pub has_no_sub_left : List Tree → Bool
 has_no_sub_left ts =
     nat_le 64 (last_subs ts) || nat_le 100000 (all_subs ts)
@@ -138,7 +138,7 @@ adds_sub s parent node =
     ∷ (nat_le (last_subs s.trees) parent, why.BadParent)
     ∷ (has_no_sub_left s.trees, why.TooMany) ∷ []) (with_sub s parent node)
 
--- the last subtransaction of the last tree: its node, and how many operations it has
+-- the last subtransaction of the last transaction: its node, and how many operations it has
 abbrev pub last_sub : List Tree → Option Sub
 last_sub ts = elim (last_of ts) [ None ↦ None | Some t ↦ last_of t.subs ]
 
@@ -176,7 +176,7 @@ has_no_op_left k deed ts =
 abbrev pub touch : ℕ → List Sub → Bool
 touch k ss = list_any (λ o. o.item.0 == k) (ops_in ss)
 
--- the last tree is strict, and has an operation on item k
+-- the last transaction is strict, and has an operation on item k
 abbrev pub has_touched : ℕ → List Tree → Bool
 has_touched k ts = elim (last_of ts) [ None ↦ false | Some t ↦ is_strict t.kind && touch k t.subs ]
 
@@ -193,23 +193,23 @@ adds_op_at s (Some k) deed =
 abbrev pub adds_op : ScriptData → List ℕ → Deed → Result ScriptData Why
 adds_op s name deed = if is_in_range s.form deed then adds_op_at s (place_of name s.items) deed else Err why.OutOfRange
 
--- a tree may fail: it is an update tree, and all its operations are `add`
+-- a transaction may fail: it is an update transaction, and all its operations are `add`
 abbrev pub may_fail : Tree → Bool
 may_fail t = is_update t.kind && subs_add t.subs
 
--- the last tree may fail
+-- the last transaction may fail
 abbrev pub last_may_fail : List Tree → Bool
 last_may_fail ts = elim (last_of ts) [ None ↦ false | Some t ↦ may_fail t ]
 
--- the subtransactions of the last tree
+-- the subtransactions of the last transaction
 abbrev pub last_tree_subs : List Tree → List Sub
 last_tree_subs ts = elim (last_of ts) [ None ↦ [] | Some t ↦ t.subs ]
 
--- how many operations the last tree has
+-- how many operations the last transaction has
 abbrev pub last_ops : List Tree → ℕ
 last_ops ts = subs_ops (last_tree_subs ts)
 
--- a tree of which subtransaction k fails: it is undone, and what it was written with is kept
+-- a transaction of which subtransaction k fails: it is compensated, and what it was written with is kept
 abbrev pub failed_tree : ℕ → Tree → Tree
 failed_tree k t = record {
   name = t.name;
@@ -221,7 +221,7 @@ failed_tree k t = record {
 abbrev pub with_failed : ScriptData → ℕ → ScriptData
 with_failed s k = record s { trees = on_last (failed_tree k) s.trees; begun = false }
 
--- trees pass a limit, where the last one has changed
+-- transactions pass a limit, if the last one has changed
 abbrev pub are_crowded : List Tree → Bool
 are_crowded ts =
     nat_lt 64 (last_subs ts) || nat_lt 100000 (all_subs ts) || nat_lt 200000 (all_ops ts)
@@ -236,13 +236,13 @@ any_from p k (suc n) = p k || any_from p (suc k) n
 abbrev pub is_heavy : ScriptData → Bool
 is_heavy s = any_from (λ x. nat_lt (most_amount s.form) (load x s)) 0 (length s.items)
 
--- the last tree, which may fail, is undone, subtransaction k having failed
+-- the last transaction, which may fail, is compensated, subtransaction k having failed
 abbrev pub puts_undone : ScriptData → ℕ → Result ScriptData Why
 puts_undone s k =
     taken_unless ((are_crowded (with_failed s k).trees, why.TooMany)
     ∷ (is_heavy (with_failed s k), why.TooMuch) ∷ []) (with_failed s k)
 
--- subtransaction k of the last tree fails: the same, where there is such a one and the tree may fail
+-- subtransaction k of the last transaction fails: the same, if there is such a one and the transaction may fail
 abbrev pub adds_fail : ScriptData → ℕ → Result ScriptData Why
 adds_fail s k =
     taken_unless ((not s.begun, why.NoTree)
@@ -251,7 +251,7 @@ adds_fail s k =
     ∷ (are_crowded (with_failed s k).trees, why.TooMany)
     ∷ (is_heavy (with_failed s k), why.TooMuch) ∷ []) (with_failed s k)
 
--- a row that isn't a tree's
+-- a row that isn't a transaction's
 abbrev pub with_row : ScriptData → ScriptRow → ScriptData
 with_row s row = record s { rows = s.rows ++ row ∷ []; begun = false }
 

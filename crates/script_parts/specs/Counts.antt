@@ -13,7 +13,7 @@ use Rattle.script_parts.specs.declared.parts.TreeKind.{TreeKind}
 use Rattle.script_parts.specs.declared.parts.ScriptRow.{ScriptRow}
 use Rattle.script_parts.specs.declared.parts.ScriptRow.TheVariants as rows
 
--- how many subtransactions the trees have
+-- how many subtransactions the transactions have
 abbrev pub all_subs : List Tree → ℕ
 all_subs ts = tally (λ t. length t.subs) ts
 
@@ -21,23 +21,23 @@ all_subs ts = tally (λ t. length t.subs) ts
 abbrev pub subs_ops : List Sub → ℕ
 subs_ops ss = tally (λ s. length s.ops) ss
 
--- how many operations the trees have
+-- how many operations the transactions have
 abbrev pub all_ops : List Tree → ℕ
 all_ops ts = tally (λ t. subs_ops t.subs) ts
 
--- how many trees are strict
+-- how many transactions are strict
 abbrev pub strict_trees : List Tree → ℕ
 strict_trees ts = tally (λ t. one_if (is_strict t.kind)) ts
 
--- there is a strict tree
+-- there is a strict transaction
 abbrev pub has_strict : ScriptData → Bool
 has_strict s = not (strict_trees s.trees == 0)
 
--- so many for an update tree
+-- that many for an update transaction
 abbrev pub if_update : TreeKind → ℕ → ℕ
 if_update kind n = if is_update kind then n else 0
 
--- how many subtransactions the update trees have
+-- how many subtransactions the update transactions have
 abbrev pub update_subs : List Tree → ℕ
 update_subs ts = tally (λ t. if_update t.kind (length t.subs)) ts
 

@@ -30,7 +30,7 @@ overwrites (deeds.Set n) = true
 overwrites (deeds.Draw n) = true
 overwrites _ = false
 
--- the value that is found, where it is less than what is drawn
+-- the value that is found, if it is less than what is drawn
 abbrev pub found_short : Deed → Value → Option ℤ
 found_short (deeds.Draw n) (Sum found) = if int_lt found.0 n then Some found.0 else None
 found_short _ _ = None

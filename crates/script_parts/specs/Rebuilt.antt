@@ -1,5 +1,5 @@
--- A script that is built again from its own rows: its form, its nodes, its items, each row, a tree's row with its whole
--- tree, and its picks, in this order.
+-- A script that is built again from its own rows: its form, its nodes, its items, each row, a transaction's row with
+-- its whole transaction, and its picks, in this order.
 use Rattle.std.specs.Prelude.{ℕ, ◌≡◌, List, [], ◌∷◌, Option, Some, None, Result, Ok, Err, slice_get}
 use Rattle.script_parts.specs.Adding.{adds_advance, adds_fail, adds_item, adds_lose, adds_op, adds_pick, adds_settle, adds_sub, adds_tree, fresh}
 use Rattle.script_parts.specs.ScriptData.{ScriptData}
@@ -36,17 +36,17 @@ subs_added s [] = Ok s
 subs_added s (x ∷ xs) =
     then_more (adds_sub s x.parent.0 x.node) (λ t. then_more (ops_added t x.ops) (λ u. subs_added u xs))
 
--- a tree by its root and the other subtransactions
+-- a transaction by its root and the other subtransactions
 abbrev pub rooted_added : ScriptData → List ℕ → TreeKind → List Sub → Result ScriptData Why
 rooted_added s name kind [] = Err why.NoTree
 rooted_added s name kind (x ∷ xs) =
     then_more (adds_tree s name kind x.node) (λ t. then_more (ops_added t x.ops) (λ u. subs_added u xs))
 
--- what a tree is written with
+-- what a transaction is written with
 abbrev pub written_subs : Tree → List Sub
 written_subs t = elim t.written [ None ↦ t.subs | Some w ↦ w.subs ]
 
--- the tree fails, where it was written as one that fails
+-- the transaction fails, if it was written as one that fails
 abbrev pub fail_added : ScriptData → Option Written → Result ScriptData Why
 fail_added s None = Ok s
 fail_added s (Some w) = adds_fail s w.failed.0
@@ -55,7 +55,7 @@ abbrev pub tree_added : ScriptData → Option Tree → Result ScriptData Why
 tree_added s None = Err why.NoTree
 tree_added s (Some t) = then_more (rooted_added s t.name t.kind (written_subs t)) (λ u. fail_added u t.written)
 
--- a row of a script that has these trees
+-- a row of a script that has these transactions
 abbrev pub row_added : List Tree → ScriptData → ScriptRow → Result ScriptData Why
 row_added ts s (rows.Tree n) = tree_added s (slice_get ts n.0)
 row_added ts s rows.Advance = adds_advance s

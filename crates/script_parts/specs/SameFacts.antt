@@ -29,7 +29,7 @@ use Rattle.script_parts.specs.declared.parts.TreeKind.{TreeKind}
 use Rattle.script_parts.specs.declared.parts.TreeKind.TheVariants as trees
 use Rattle.script_parts.specs.declared.parts.Written.{Written}
 
--- A comparison is exact where what compares equal is equal, and each value compares equal to itself.
+-- A comparison is exact if what compares equal is equal, and each value compares equal to itself.
 pub record IsExact {A : Type 0} (E : A → A → Bool) : Type 0 where
   pub equal : (a b : A) → E a b ≡ true → a ≡ b
   pub itself : (a : A) → E a a ≡ true
@@ -264,7 +264,7 @@ exact_tree = record {
       (exact_written.itself t.written);
 }
 
--- two scripts compare equal exactly where they are the same
+-- two scripts compare equal exactly if they are the same
 pub same_exactly : (s t : ScriptData) → Decides (same_script s t) (SameScript s t)
 same_exactly s t = (to, from)
   where

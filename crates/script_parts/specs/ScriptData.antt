@@ -1,4 +1,4 @@
--- What a script holds, and how its trees are looked up.
+-- What a script holds, and how its transactions are looked up.
 use Rattle.std.specs.Prelude.{if◌then◌else◌, ℕ, zero, suc, ◌+◌, Bool, true, false, ◌==◌, List, [], ◌∷◌, ◌++◌, Option, Some, None, slice_get}
 use Rattle.std.specs.List.{list_any}
 use Rattle.script_parts.specs.declared.parts.Form.{Form}
@@ -10,7 +10,7 @@ use Rattle.script_parts.specs.declared.parts.ScriptRow.{ScriptRow}
 use Rattle.script_parts.specs.declared.parts.TreeKind.{TreeKind}
 use Rattle.script_parts.specs.declared.parts.TreeKind.TheVariants.{Update, Read, Strict}
 
--- a script: its items, its trees and their subtransactions are named by their places, from 0
+-- a script: its items, its transactions and their subtransactions are named by their places, from 0
 pub record ScriptData : Type 0 where
   pub form : Form
   pub nodes : ℕ
@@ -25,18 +25,18 @@ pub record ScriptData : Type 0 where
 abbrev pub client_of : ScriptData → ℕ
 client_of s = s.nodes + 1
 
--- the subtransactions of tree t, of which there are none where it isn't there
+-- the subtransactions of transaction t, of which there are none if it isn't there
 abbrev pub subs_at : ScriptData → ℕ → List Sub
 subs_at s t = elim (slice_get s.trees t) [ Some tree ↦ tree.subs | None ↦ [] ]
 
 abbrev pub sub_at : ScriptData → ℕ → ℕ → Option Sub
 sub_at s t k = slice_get (subs_at s t) k
 
--- the node of subtransaction k of tree t; where it isn't there, the number of nodes, which is no node
+-- the node of subtransaction k of transaction t; if it isn't there, the number of nodes, which is no node
 abbrev pub node_of : ScriptData → ℕ → ℕ → ℕ
 node_of s t k = elim (sub_at s t k) [ Some sub ↦ sub.node.0 | None ↦ s.nodes ]
 
--- a tree's home is its root's node
+-- a transaction's home is its root's node
 abbrev pub home_of : ScriptData → ℕ → ℕ
 home_of s t = node_of s t 0
 
@@ -51,7 +51,7 @@ abbrev pub is_strict : TreeKind → Bool
 is_strict Strict = true
 is_strict _ = false
 
--- tree t is there, and is an update tree
+-- transaction t is there, and is an update transaction
 abbrev pub updates : ScriptData → ℕ → Bool
 updates s t = elim (slice_get s.trees t) [ Some tree ↦ is_update tree.kind | None ↦ false ]
 
@@ -59,7 +59,7 @@ abbrev pub is_read : TreeKind → Bool
 is_read Read = true
 is_read _ = false
 
--- tree t is there, and is a read tree
+-- transaction t is there, and is a read transaction
 abbrev pub reads : ScriptData → ℕ → Bool
 reads s t = elim (slice_get s.trees t) [ Some tree ↦ is_read tree.kind | None ↦ false ]
 
@@ -76,6 +76,6 @@ abbrev pub visited : List Sub → ℕ → List ℕ
 visited subs zero = []
 visited subs (suc n) = visited subs n ++ (if visits subs n then n ∷ [] else [])
 
--- the nodes that tree t visits
+-- the nodes that transaction t visits
 abbrev pub visited_by : ScriptData → ℕ → List ℕ
 visited_by s t = visited (subs_at s t) s.nodes

@@ -1,5 +1,5 @@
--- What a tree of `add` operations becomes once one of its subtransactions fails: those that the failed one sent don't
--- run, and what the others do is undone.
+-- What a transaction of `add` operations becomes once one of its subtransactions fails: those that the failed one sent
+-- don't run, and what the others do is compensated.
 use Rattle.std.specs.Prelude.{ℕ, Bool, true, false, not, if◌then◌else◌, ◌+◌, ◌==◌, ◌&&◌, ◌||◌, List, [], ◌∷◌, ◌++◌, fold, length, get_or, take, map, pos, ◌-ℤ◌, count_by}
 use Rattle.std.specs.List.{list_all}
 use Rattle.commute_ops.specs.declared.kinds.Op.TheVariants as ops
@@ -13,7 +13,7 @@ use Rattle.script_parts.specs.declared.parts.SubOp.{SubOp}
 abbrev pub goes_next : ℕ → List Bool → Sub → Bool
 goes_next failed goes x = not (length goes == 0) && (x.parent.0 == failed || get_or goes x.parent.0 false)
 
--- which subtransactions go, where this is known of those before these
+-- which subtransactions go, if this is known of those before these
 abbrev pub goes_from : ℕ → List Bool → List Sub → List Bool
 goes_from failed goes subs = fold (λ known x. known ++ goes_next failed known x ∷ []) goes subs
 
@@ -21,7 +21,7 @@ goes_from failed goes subs = fold (λ known x. known ++ goes_next failed known x
 abbrev pub new_number : List Bool → ℕ → ℕ
 new_number goes k = count_by not (take k goes)
 
--- subtransaction k where it stays, with its parent's new number; the failed one does nothing
+-- subtransaction k if it stays, with its parent's new number; the failed one does nothing
 abbrev pub staying : ℕ → List Bool → ℕ → Sub → Sub
 staying failed goes k x = record {
   parent = record { 0 = new_number goes x.parent.0 };
@@ -62,7 +62,7 @@ abbrev pub each_from : (ℕ → Sub → List Sub) → ℕ → List Sub → List 
 each_from f k [] = []
 each_from f k (x ∷ xs) = f k x ++ each_from f (k + 1) xs
 
--- the undone form of a tree of which this subtransaction fails: those that stay, and then what undoes them
+-- the compensated form of a transaction of which this subtransaction fails: those that stay, and then what undoes them
 abbrev pub undone : List Sub → ℕ → List Sub
 undone subs failed =
     let goes = goes_from failed [] subs in each_from (stays failed goes) 0 subs ++ each_from (undoes failed goes) 0 subs

@@ -36,7 +36,7 @@ op_fits TopKind (Top a) = true
 op_fits BagKind (Put a) = true
 op_fits _ _ = false
 
--- which operations a tree may have on an item
+-- which operations a transaction may have on an item
 abbrev pub deed_fits : TreeKind → Kind → Deed → Bool
 deed_fits trees.Update kind (Apply op) = op_fits kind op
 deed_fits trees.Read kind Get = true
@@ -96,7 +96,7 @@ pub record IsTree (nodes : ℕ) (items : List ItemRow) (t : Tree) : Type 0 where
   pub few : length t.subs ≤ 64
   pub subs : AreSubs nodes items t.kind 0 t.subs
   pub name : IsTrue (is_name t.name)
-  -- a strict tree has at most one operation on an item
+  -- a strict transaction has at most one operation on an item
   pub once : t.kind ≡ trees.Strict → IsDistinct nat_eq (touched_items t.subs)
 
 -- an item is at a node of the script, and a bag starts empty; how much the form allows is said of all magnitudes
@@ -106,7 +106,7 @@ pub record IsItem (nodes : ℕ) (r : ItemRow) : Type 0 where
   pub name : IsTrue (is_name r.name)
   pub small : unsigned_abs r.initial ≤ MOST_AMOUNT
 
--- the tree rows name the trees from number k on, each once and in order
+-- the tree rows name the transactions from number k on, each once and in order
 abbrev pub NamesInOrder : ℕ → ℕ → List ScriptRow → Type 0
 NamesInOrder k n [] = k ≡ n
 NamesInOrder k n (rows.Tree t ∷ rs) = (t.0 ≡ k) × NamesInOrder (k + 1) n rs
@@ -118,7 +118,7 @@ item_names items = map (λ r. r.name) items
 abbrev pub tree_names : List Tree → List (List ℕ)
 tree_names ts = map (λ t. t.name) ts
 
--- the numbers of a script's trees, rows and operations are within their limits
+-- the numbers of a script's transactions, rows and operations are within their limits
 pub record IsLimited (s : ScriptData) : Type 0 where
   pub subs : all_subs s.trees ≤ 100000
   pub ops : all_ops s.trees ≤ 200000
@@ -129,11 +129,11 @@ pub record IsLimited (s : ScriptData) : Type 0 where
   pub pairs : strict_trees s.trees * update_subs s.trees ≤ 1000000
   pub places : s.nodes * length s.trees ≤ 320000
 
--- a tree as it was before it failed
+-- a transaction as it was before it failed
 abbrev pub as_written : Tree → Written → Tree
 as_written t w = record { name = t.name; kind = t.kind; subs = w.subs; written = None }
 
--- trees pass no limit
+-- transactions pass no limit
 pub record AreWithin (form : Form) (items : List ItemRow) (ts : List Tree) : Type 0 where
   pub subs : all_subs ts ≤ 100000
   pub ops : all_ops ts ≤ 200000
@@ -141,8 +141,8 @@ pub record AreWithin (form : Form) (items : List ItemRow) (ts : List Tree) : Typ
   pub loads : (x : ℕ) → x < length items → initial_load (slice_get items x) + trees_load x ts ≤ most_amount form
   pub pairs : strict_trees ts * update_subs ts ≤ 1000000
 
--- a tree after these that was written as w and then failed: what was written is an update tree of `add` operations,
--- which passed no limit when it came after them, and the tree is its undone form
+-- a transaction after these that was written as w and then failed: what was written is an update transaction of `add`
+-- operations, which passed no limit when it came after them, and the transaction is its compensated form
 pub record HasFailed (form : Form) (nodes : ℕ) (items : List ItemRow) (front : List Tree) (t : Tree)
     (w : Written) : Type 0 where
   pub second : form ≡ forms.Two
@@ -157,7 +157,7 @@ abbrev pub MayHaveFailed : Form → ℕ → List ItemRow → List Tree → Tree 
 MayHaveFailed form nodes items front t None = Unit {0}
 MayHaveFailed form nodes items front t (Some w) = HasFailed form nodes items front t w
 
--- each tree that was written otherwise, of those after these, has failed
+-- each transaction that was written otherwise, of those after these, has failed
 abbrev pub MayAllHaveFailed : Form → ℕ → List ItemRow → List Tree → List Tree → Type 0
 MayAllHaveFailed form nodes items front [] = Unit {0}
 MayAllHaveFailed form nodes items front (t ∷ ts) =
@@ -169,7 +169,7 @@ last_of [] = None
 last_of (x ∷ []) = Some x
 last_of (x ∷ y ∷ ys) = last_of (y ∷ ys)
 
--- what the last tree was written as, if it has failed
+-- what the last transaction was written as, if it has failed
 abbrev pub last_written : List Tree → Option Written
 last_written ts = elim (last_of ts) [ None ↦ None | Some t ↦ t.written ]
 
@@ -188,6 +188,6 @@ pub record IsValid (s : ScriptData) : Type 0 where
   pub distinct_trees : IsDistinct bytes_eq (tree_names s.trees)
   pub limited : IsLimited s
   pub first_form : s.form ≡ forms.One → loses_in s.rows ≡ 0
-  -- a tree that is begun hasn't failed
+  -- a transaction that is begun hasn't failed
   pub unfailed : s.begun ≡ true → last_written s.trees ≡ None
   pub failed : MayAllHaveFailed s.form s.nodes s.items [] s.trees

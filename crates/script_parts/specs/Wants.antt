@@ -7,7 +7,8 @@ use Rattle.nc_locks.specs.declared.modes.Mode.{Mode}
 use Rattle.nc_locks.specs.declared.modes.Mode.TheVariants.{Mark, Look, Hold}
 use Rattle.nc_locks.specs.Locks.{Wanted}
 
--- how a tree has the item of an operation: a commuting one marks it, a get looks at it, and a set or a draw holds it
+-- how a transaction has the item of an operation: a commuting one marks it, a get looks at it, and a set or a draw
+-- holds it
 abbrev pub mode_wanted : Deed → Mode
 mode_wanted (Apply op) = Mark
 mode_wanted Get = Look

@@ -1,4 +1,4 @@
--- What a call on a script made, where it took the record.
+-- What a call on a script made, if it took the record.
 use Rattle.std.proofs.Common.{◌≡◌, ◌∷◌, [], ℕ, Bool, true, false, List, Option, Some, None, Result, Ok, Err, refl, arith}
 use Rattle.std.specs.Prelude.{if◌then◌else◌, nat_le, not}
 use Rattle.tv_base.specs.declared.numbers.NodeNo.{NodeNo}

@@ -1,4 +1,4 @@
--- The words that rows begin with, and those of trees, operations and kinds.
+-- The words that rows begin with, and those of transactions, operations and kinds.
 use Rattle.std.specs.Prelude.{ℕ, Bool, true, false, List, [], ◌∷◌, Option, find, codes}
 use Rattle.std.specs.Str.{bytes_eq}
 use Rattle.commute_ops.specs.declared.kinds.Kind.{Kind}

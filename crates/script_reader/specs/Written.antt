@@ -75,7 +75,7 @@ pick_fields k = codes "pick" ∷ decimal k ∷ []
 abbrev pub fail_fields : ℕ → List (List ℕ)
 fail_fields k = codes "fail" ∷ decimal k ∷ []
 
--- the same, where one fails
+-- the same, if one fails
 abbrev pub fail_rows : Option Written → List (List (List ℕ))
 fail_rows None = []
 fail_rows (Some w) = fail_fields w.failed.0 ∷ []
@@ -89,17 +89,17 @@ abbrev pub subs_rows : List ItemRow → List Sub → List (List (List ℕ))
 subs_rows items [] = []
 subs_rows items (x ∷ xs) = sub_fields x ∷ (ops_rows items x.ops ++ subs_rows items xs)
 
--- a tree's row with its root's operations, and then the others
+-- a transaction's row with its root's operations, and then the others
 abbrev pub tree_rows : List ItemRow → TreeKind → List ℕ → List Sub → List (List (List ℕ))
 tree_rows items kind name [] = []
 tree_rows items kind name (x ∷ xs) = tree_fields kind name x.node.0 ∷ (ops_rows items x.ops ++ subs_rows items xs)
 
--- the rows of a tree, if it is there, as it was written
+-- the rows of a transaction, if it is there, as it was written
 abbrev pub rows_of_tree : List ItemRow → Option Tree → List (List (List ℕ))
 rows_of_tree items None = []
 rows_of_tree items (Some t) = tree_rows items t.kind t.name (written_subs t) ++ fail_rows t.written
 
--- a row, a tree row with its whole tree
+-- a row, a tree row with its whole transaction
 abbrev pub rows_of_row : List ItemRow → List Tree → ScriptRow → List (List (List ℕ))
 rows_of_row items ts (rows.Tree n) = rows_of_tree items (slice_get ts n.0)
 rows_of_row items ts rows.Advance = (codes "advance" ∷ []) ∷ []
@@ -111,12 +111,12 @@ abbrev pub rows_of_rows : List ItemRow → List Tree → List ScriptRow → List
 rows_of_rows items ts [] = []
 rows_of_rows items ts (r ∷ rs) = rows_of_row items ts r ++ rows_of_rows items ts rs
 
--- the number of nodes, all items, all rows with their trees, and then all picks
+-- the number of nodes, all items, all rows with their transactions, and then all picks
 abbrev pub rows_behind : ScriptData → List (List (List ℕ))
 rows_behind s =
     nodes_fields s.nodes ∷ (map item_fields s.items ++ (rows_of_rows s.items s.trees s.rows ++ map pick_fields s.picks))
 
--- the same, after the row of the second form where it is of that
+-- the same, after the row of the second form if it is of that
 abbrev pub rows_of : ScriptData → List (List (List ℕ))
 rows_of s = form_rows s.form ++ rows_behind s
 

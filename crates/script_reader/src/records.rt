@@ -1,5 +1,5 @@
 // The records of a text, one after the other.
-ghost use Rattle.std.specs.Prelude.{◌≡◌, ◌<◌, ◌≤◌, ◌+◌, ◌^◌, [], IfOk, length, true, get_or};
+ghost use Rattle.std.specs.Prelude.{◌≡◌, ◌<◌, ◌≤◌, ◌+◌, ◌^◌, [], IfOk, length, get_or};
 ghost use Rattle.csv.specs.Records.{fields_of};
 ghost use Rattle.script_reader.specs.Records.{records_in};
 ghost use Rattle.script_reader.specs.inside.Records.{Takes};

@@ -1,4 +1,4 @@
--- The entry that a world's step makes sends in quiet.
+-- The entry that a world's step makes sends only for a quiescent version.
 use Rattle.std.proofs.Common.{◌≡◌, false, List, [], ◌∷◌, ◌++◌, reverse, ap, ◌∙◌, subst}
 use Rattle.std.proofs.lemmas.List.{reverse-append}
 use Rattle.letter_types.specs.declared.entries.Entry.{Entry}

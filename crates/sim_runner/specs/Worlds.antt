@@ -8,12 +8,12 @@ use Rattle.tx_trees.specs.ScriptData.{ScriptData}
 use Rattle.world_core.specs.Actors.{WorldData}
 use Rattle.world_model.specs.Counts.{Each}
 
--- what the entry that was made sends, it sends in quiet: Show(v) and Sweep(v)
+-- what the entry that was made sends, it sends only for a quiescent version: Show(v) and Sweep(v)
 abbrev pub GaveInQuiet : ScriptData → WorldData → WorldData → Type 0
 GaveInQuiet s old new = (e : Entry) → new.history ≡ old.history ++ e ∷ []
     → Each (λ (o : Outgoing). IsGivenInQuiet s (reverse old.history) o.body) e.sent
 
--- what it tells nodes to show, or to sweep to, they were told before, or it tells them in quiet
+-- what it tells nodes to show, or to sweep to, they were told before, or it tells them for a quiescent version
 abbrev pub GaveAnew : ScriptData → WorldData → WorldData → Type 0
 GaveAnew s old new = (e : Entry) → new.history ≡ old.history ++ e ∷ []
     → Each (λ (o : Outgoing). IsGivenAnew s (reverse old.history) o.body) e.sent

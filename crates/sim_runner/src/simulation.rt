@@ -1,5 +1,5 @@
 // Runs on one thread.
-ghost use Rattle.std.specs.Prelude.{◌≡◌, ◌^◌, IfOk, length};
+ghost use Rattle.std.specs.Prelude.{◌≡◌, IfOk, length};
 ghost use Rattle.headline.specs.Ended.{HasEnded};
 ghost use Rattle.sim_runner.specs.Pickers.{IsPickedBy, picker_at};
 ghost use Rattle.world_model.specs.Scheduled.{IsScheduled};

@@ -15,7 +15,7 @@ most = MOST_ENTRIES
 abbrev pub own_postings : ℕ → List Posting → List Posting
 own_postings a log = filter (λ p. p.actor.0 == a) log
 
--- the posting of an actor that took a letter and sent these
+-- the posting of an actor that took a message and sent these
 abbrev pub posting : ℕ → ℕ → Letter → List Outgoing → Posting
 posting stamp actor took sent =
     record { stamp = record { 0 = stamp }; actor = record { 0 = actor }; took = took; sent = sent }
@@ -28,6 +28,6 @@ Stands log p = (k : ℕ) × (slice_get log k ≡ Some p) × (p.stamp.0 ≡ k + 1
 abbrev pub AreFirst : List Posting → ℕ → List Posting → Type 0
 AreFirst log a own = (rest : List Posting) × (own_postings a log ≡ own ++ rest)
 
--- the letter is Go, or a posting of the log sent it under its id
+-- the message is Go, or a posting of the log sent it under its id
 abbrev pub WasSent : ℕ → List Posting → Letter → Type 0
 WasSent client log l = (l ≡ go client) ⊎ ((p : Posting) × Stands log p × (find_id l.id (letters_sent p) ≡ Some l))

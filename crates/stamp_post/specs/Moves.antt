@@ -52,7 +52,7 @@ abbrev pub letter_off : View → View
 letter_off (Sending n own p next) = carrying (slice_get (letters_sent p) next)
 letter_off _ = Spent
 
--- a witness has no letter to send
+-- a witness has no message to send
 abbrev pub witness_off : View → View
 witness_off (Sending n own p next) = Sending n own p (length p.sent)
 witness_off _ = Spent

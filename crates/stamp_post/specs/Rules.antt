@@ -1,4 +1,4 @@
--- The rule between any two steps: there is one log of postings, and each letter is in one place.
+-- The rule between any two steps: there is one log of postings, and each message is in one place.
 use Rattle.std.specs.Prelude.{◌≡◌, ◌≢◌, ℕ, suc, ◌-◌, ◌<◌, ◌≤◌, List, [], length, slice_index, slice_get, Option, Some, None}
 use mathlib.Core.Option.{some}
 use lib.ListN.{get_elem?}
@@ -14,14 +14,14 @@ use Rattle.stamp_post.specs.declared.rule.View.{View}
 use Rattle.stamp_post.specs.declared.rule.View.TheVariants.{Gathering, Acting, Sending, Carrying, Spent}
 use Rattle.stamp_post.specs.Logs.{most, own_postings, Stands, AreFirst, WasSent}
 
--- `owner` says which seat has an actor, `made` how many actors there are, and `holder` which seat has a letter: the
--- seat's number and one, or 0 where the letter was taken
+-- `owner` says which seat has an actor, `made` how many actors there are, and `holder` which seat has a message: the
+-- seat's number and one, or 0 if the message was taken
 module _ (client : ℕ) (log : List Posting) (owner : ℕ → ℕ) (made : ℕ) (holder : ℕ → ℕ → ℕ) (id : ℕ) where
-  -- this seat has the letter
+  -- this seat has the message
   abbrev pub Holds : Letter → Type 0
   Holds l = WasSent client log l × (holder l.id.stamp.0 l.id.place ≡ suc id)
 
-  -- this seat has the posting's letters from that place on
+  -- this seat has the posting's messages from that place on
   abbrev pub HoldsRest : Posting → ℕ → Type 0
   HoldsRest p next = (k : ℕ) (o : Outgoing) → next ≤ k → slice_get p.sent k ≡ Some o → holder p.stamp.0 k ≡ suc id
 
@@ -29,7 +29,7 @@ module _ (client : ℕ) (log : List Posting) (owner : ℕ → ℕ) (made : ℕ) 
   HoldsGo None = Unit {0}
   HoldsGo (Some l) = Holds l
 
-  -- the letter that the actor has taken and not stamped
+  -- the message that the actor has taken and not stamped
   abbrev pub HoldsTaken : ℕ → Option Letter → Type 0
   HoldsTaken n None = Unit {0}
   HoldsTaken n (Some l) = Holds l × (l.to.0 ≡ n)
@@ -39,8 +39,8 @@ module _ (client : ℕ) (log : List Posting) (owner : ℕ → ℕ) (made : ℕ) 
   HoldsUnsent n None = Unit {0}
   HoldsUnsent n (Some p) = Stands log p × (p.actor.0 ≡ n) × HoldsRest p 0
 
-  -- what one seat knows of the log, what it alone has of the actors, and what it alone has of the letters; an actor's
-  -- letter that isn't stamped is none of its unsent posting
+  -- what one seat knows of the log, what it alone has of the actors, and what it alone has of the messages; an actor's
+  -- message that isn't stamped is none of its unsent posting
   abbrev pub Fits : View → Type 0
   Fits (Gathering m first seats receipts) =
       (id ≡ 0) × (m ≡ made)
@@ -55,7 +55,7 @@ module _ (client : ℕ) (log : List Posting) (owner : ℕ → ℕ) (made : ℕ) 
   Fits (Carrying l) = Holds l
   Fits Spent = Unit {0}
 
--- there is one log, which went as letters do, and the second word is its length
+-- there is one log, which went as messages do, and the second word is its length
 pub record KeepsLog (actors : ℕ) (words : List ℕ) (views : List View) : Type 0 where
   pub log : List Posting
   pub owner : ℕ → ℕ

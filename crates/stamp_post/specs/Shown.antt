@@ -14,7 +14,7 @@ pub record PostId : Type 0 where
   pub table : TableId
   pub actors : ℕ
 
--- an actor's seat: its post, its number, its postings, the letter that it has taken and not stamped, and its last
+-- an actor's seat: its post, its number, its postings, the message that it has taken and not stamped, and its last
 -- posting while that one's outbox isn't made
 pub record SeatData : Type 0 where
   pub post : PostId
@@ -23,7 +23,7 @@ pub record SeatData : Type 0 where
   pub taken : Option Letter
   pub unsent : Option Posting
 
--- an outbox: its post, its actor, that actor's postings up to its own, its own, and how many of its letters are out
+-- an outbox: its post, its actor, that actor's postings up to its own, its own, and how many of its messages are out
 pub record OutboxData : Type 0 where
   pub post : PostId
   pub number : ℕ
@@ -38,7 +38,7 @@ pub record ReceiptData : Type 0 where
   pub own : List Posting
   pub posting : Posting
 
--- an envelope: its post and its letter
+-- an envelope: its post and its message
 pub record EnvelopeData : Type 0 where
   pub post : PostId
   pub letter : Letter
@@ -50,14 +50,14 @@ abbrev pub seat_data : PostId → ℕ → List Posting → Option Letter → Opt
 seat_data post number own taken unsent =
     record { post = post; number = number; own = own; taken = taken; unsent = unsent }
 
--- the seat with a posting more, of the letter that it had taken
+-- the seat with a posting more, of the message that it had taken
 abbrev pub with_posting : PostId → Posting → SeatData → SeatData
 with_posting post p seat = seat_data post seat.number (seat.own ++ p ∷ []) None (Some p)
 
 abbrev pub outbox_data : PostId → ℕ → List Posting → Posting → ℕ → OutboxData
 outbox_data post number own p next = record { post = post; number = number; own = own; posting = p; next = next }
 
--- the outbox with one letter more out; it has a letter left; and all are out
+-- the outbox with one message more out; it has a message left; and all are out
 abbrev pub one_more_out : OutboxData → OutboxData
 one_more_out o = outbox_data o.post o.number o.own o.posting (o.next + 1)
 
@@ -85,17 +85,17 @@ gatherer_data post known = record { post = post; known = known }
 abbrev pub envelope_data : PostId → Letter → EnvelopeData
 envelope_data post l = record { post = post; letter = l }
 
--- so many seats of actors with no posting, the numbers going on from n
+-- that many seats of actors with no posting, the numbers going on from n
 abbrev pub new_seats : PostId → ℕ → ℕ → List SeatData
 new_seats post n zero = []
 new_seats post n (suc count) = seat_data post n [] None None ∷ new_seats post (n + 1) count
 
--- the letters go to actors of the post
+-- the messages go to actors of the post
 abbrev pub AreToActors : ℕ → List Outgoing → Type 0
 AreToActors actors sent = All (λ o. o.to.0 < actors) sent
 
--- the seat is of an actor of the post, the letter that it has taken is addressed to it, and its unsent posting is its
--- own, with letters to actors of the post
+-- the seat is of an actor of the post, the message that it has taken is addressed to it, and its unsent posting is its
+-- own, with messages to actors of the post
 abbrev pub IsSeat : ℕ → ℕ → Option Letter → Option Posting → Type 0
 IsSeat actors number taken unsent =
     (number < actors)
@@ -115,7 +115,7 @@ seat_joined s = joined_seat s.number s.own
 abbrev pub receipt_joined : ReceiptData → JoinedReceipt
 receipt_joined r = joined_receipt r.number r.own r.posting
 
--- there is one log that went as letters do; each seat's postings are all that its actor has there; each receipt's
+-- there is one log that went as messages do; each seat's postings are all that its actor has there; each receipt's
 -- posting is there at its stamp, and the postings up to it are its actor's first ones
 pub record Gathers (actors : ℕ) (seats : List JoinedSeat) (receipts : List JoinedReceipt) : Type 0 where
   pub log : List Posting
@@ -124,7 +124,7 @@ pub record Gathers (actors : ℕ) (seats : List JoinedSeat) (receipts : List Joi
   pub stands : (k : ℕ) (r : JoinedReceipt) → slice_get receipts k ≡ Some r → Stands log r.posting
   pub begins : (k : ℕ) (r : JoinedReceipt) → slice_get receipts k ≡ Some r → AreFirst log r.number r.own
 
--- so many postings are gathered
+-- that many postings are gathered
 abbrev pub AreGathered : ℕ → List JoinedSeat → List JoinedReceipt → ℕ → Type 0
 AreGathered actors seats receipts count = (g : Gathers actors seats receipts) × (length g.log ≡ count)
 

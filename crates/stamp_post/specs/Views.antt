@@ -21,7 +21,7 @@ abbrev pub first_data : PostId → ℕ → Option Letter → List JoinedSeat →
 first_data post made here seats receipts =
     record { post = post; made = made; here = here; seats = seats; receipts = receipts }
 
--- the first seat of a post with so many actors made; with seats joined; and with receipts joined
+-- the first seat of a post with that many actors made; with seats joined; and with receipts joined
 abbrev pub with_made : PostId → ℕ → FirstData → FirstData
 with_made post made first = first_data post made first.here first.seats first.receipts
 
@@ -56,7 +56,7 @@ abbrev pub unsent_in : View → Option Posting
 unsent_in (Acting n own taken unsent) = unsent
 unsent_in _ = None
 
--- no posting, where a view has none
+-- no posting, if a view has none
 abbrev pub no_posting : Posting
 no_posting = record { stamp = record { 0 = 0 }; actor = record { 0 = 0 }; took = go 0; sent = [] }
 

@@ -1,4 +1,4 @@
--- What a call knows of the script that its source has, and of the cause where it stops.
+-- What a call knows of the script that its source has, and of the cause if it stops.
 use Rattle.std.proofs.Common.{◌≡◌, ℕ, List, Option, Some, Ok, Err, inl, inr, refl, subst}
 use Rattle.tv_base.specs.Outside.{HasMoreThan}
 use Rattle.tv_base.specs.declared.moving.ReadEnd.{ReadEnd}

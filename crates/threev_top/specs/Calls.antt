@@ -31,12 +31,12 @@ use Rattle.threev_top.specs.declared.stops.Stop.TheVariants as stops
 use Rattle.threev_top.specs.declared.texts.TheConstants.{HELP, VERSION}
 use Rattle.threev_top.specs.declared.calls.Ended.{Ended}
 
--- the report of a history, and its lines after it where they are asked for
+-- the report of a history, and its lines after it if they are asked for
 abbrev pub report_with : Bool → ScriptData → List Entry → List ℕ
 report_with false s h = report_of s h
 report_with true s h = report_of s h ++ history_lines_of s h
 
--- what a mode writes of a script, and the history that it gives: a run has the headline; on one thread letters are
+-- what a mode writes of a script, and the history that it gives: a run has the headline; on one thread messages are
 -- taken by the script's picks, and then by the draws of a seed, or without one the oldest first
 abbrev pub IsText : ScriptMode → ScriptData → List Entry → List ℕ → Type 0
 IsText modes.Check s h text = (h ≡ []) × (text ≡ check_line_of s)
@@ -106,7 +106,7 @@ abbrev pub StopsMaking : {S : Type 0} → (S → Option (List ℕ)) → (S → �
 StopsMaking left faults source source' line stop =
     HasCause line (left source) (left source') (Rose (faults source) (faults source')) ⊥ stop
 
--- nothing hinders a call: its words are a line, the output has no fault, and where the line reads a script, the source
+-- nothing hinders a call: its words are a line, the output has no fault, and if the line reads a script, the source
 -- has no fault, the script is accepted, and the history that is audited doesn't fail
 pub record IsUnhindered {S K : Type 0} (left : S → Option (List ℕ)) (read_faults : S → ℕ) (source source' : S)
     (write_faults : K → ℕ) (out out' : K) (line : Option Line) : Type 0 where
@@ -123,7 +123,7 @@ pub record EndsAs {S K : Type 0} (left : S → Option (List ℕ)) (read_faults :
   -- without a stop the output has received the text of the line
   pub wrote : stop ≡ None
       → WroteBy (Appends (received out) (received out')) line (left source) (left source') history
-  -- where writing failed it has received a prefix of that text
+  -- if writing failed it has received a prefix of that text
   pub front : stop ≡ Some stops.Writing
       → WroteBy (AppendsFront (received out) (received out')) line (left source) (left source') history
   -- each stop has its cause
@@ -136,11 +136,11 @@ pub record EndsAs {S K : Type 0} (left : S → Option (List ℕ)) (read_faults :
   -- at most one byte more is taken than the line reads
   pub taken : HasTaken (most_bytes line + 1) (left source) (left source')
 
--- the line was written, or a prefix of it where a fault was counted
+-- the line was written, or a prefix of it if a fault was counted
 abbrev pub Tells : Option (List ℕ) → Option (List ℕ) → ℕ → ℕ → List ℕ → Type 0
 Tells written after before now line = Appends written after line ⊎ (AppendsFront written after line × Rose before now)
 
--- how the end of a call is told: by its status, and on standard error, which is left alone where there was no stop
+-- how the end of a call is told: by its status, and on standard error, which is left alone if there was no stop
 pub record TellsEnd {E : Type 0} (received : E → Option (List ℕ)) (faults : E → ℕ) (err err' : E)
     (stop : Option Stop) (status : ℕ) : Type 0 where
   pub number : status ≡ status_of stop

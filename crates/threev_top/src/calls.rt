@@ -1,9 +1,7 @@
 // The top call.
-ghost use Rattle.std.specs.Prelude.{◌≡◌, ◌≤◌, ◌⊎◌, None, Option, Some};
+ghost use Rattle.std.specs.Prelude.{◌≡◌, ◌≤◌, ◌⊎◌, None, Some};
 ghost use Rattle.std.specs.Io.KnownBytes.{Appends};
 ghost use Rattle.command_words.specs.Grammar.{line_said};
-ghost use Rattle.history_audit.specs.declared.source_audit.HistoryFault.{HistoryFault};
-ghost use Rattle.script_reader.specs.declared.reading.ScriptFault.{ScriptFault};
 ghost use Rattle.threev_top.specs.Calls.{EndsAs, Tells, TellsEnd, EndsSo, IsUnhindered};
 ghost use Rattle.threev_top.specs.Texts.{line_told};
 ghost use Rattle.threev_top.specs.inside.Calls.{bytes_of, MayTell, words_stop};

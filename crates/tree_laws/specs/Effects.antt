@@ -6,6 +6,6 @@ use Rattle.world_model.specs.Named.{is_strict_at}
 use Rattle.tree_laws.specs.Applied.{applied_at}
 use Rattle.tree_laws.specs.Turns.{turns}
 
--- one of a strict tree where a commit of its tree was applied at its node, any other where it had its turn
+-- one of a strict transaction if a commit of its transaction was applied at its node, any other if it had its turn
 abbrev pub effects : ScriptData → List Entry → ℕ → ℕ → ℕ
 effects s past t k = if is_strict_at s t then applied_at past t true (node_of s t k) else turns past t k

@@ -1,4 +1,4 @@
--- Why a node with strict trees keeps a letter.
+-- Why a node with strict transactions defers a message.
 use Rattle.std.specs.Prelude.{◌≡◌, true, false, Some}
 use Rattle.tv_base.specs.declared.numbers.SubNo.{SubNo}
 use Rattle.tv_base.specs.declared.numbers.TreeNo.{TreeNo}
@@ -15,19 +15,20 @@ use Rattle.world_model.specs.Core.{Core}
 use Rattle.world_model.specs.Named.{is_strict_at}
 use Rattle.world_model.specs.Strict.{CoreKeeping, core_keeping, is_born_now, meets}
 
--- until a version is shown only the root of a strict tree is kept, where it can't be born now; until a tree lets go only
--- a subtransaction of an update tree, which meets a lock of that tree; and none because it is called
+-- until a version is shown only the root of a strict transaction is deferred, if it can't be born now; until a
+-- transaction lets go only a subtransaction of an update transaction, which meets a lock of that transaction; and none
+-- because it is called
 abbrev pub IsKeptFor : ScriptData → Core → TreeNo → SubNo → KeepReason → Type 0
 IsKeptFor s c t k ForShow = (is_strict_at s t.0 ≡ true) × (k.0 ≡ 0) × (is_born_now c.node ≡ false)
 IsKeptFor s c t k (ForHolder h) = (updates s t.0 ≡ true) × (m : Met) × (meets s t (ops_of s t.0 k.0) c ≡ Some m) × (m.holder ≡ h)
 IsKeptFor s c t k Called = ⊥
 
--- each letter that is kept has such a reason: so no letter of a read tree ever is
+-- each message that is deferred has such a reason: so no message of a read transaction ever is
 abbrev pub KeptForAReason : Type 0
 KeptForAReason = (s : ScriptData) (c : Core) (body : Body) (k : CoreKeeping) → core_keeping s c body ≡ Some k
     → IsKeptFor s c k.tree k.sub k.why
 
--- tree t has a lock there that is in the way of a mark
+-- transaction t has a lock there that is in the way of a mark
 pub record Holds (c : Core) (t : TreeNo) : Type 0 where
   pub lock : Lock
   pub there : has_lock lock c.locks ≡ true

@@ -1,4 +1,4 @@
--- What the steps of a node with strict trees say of its locks.
+-- What the steps of a node with strict transactions say of its locks.
 use Rattle.std.specs.Prelude.{ℕ, ◌≡◌, ◌≢◌, ◌<◌, true, false, List, Some, fold, reverse, slice_get}
 use Rattle.std.specs.List.{AllByRecursion}
 use Rattle.tv_base.specs.declared.numbers.SubNo.{SubNo}
@@ -38,7 +38,7 @@ abbrev pub LocksStand : Type 0
 LocksStand = (s : ScriptData) (xs : List Place) (p x k : ℕ) → AllByRecursion (IsApartFrom s p x k) xs
     → AreModesOf k x (locks_at s xs p) (modes_standing s xs p x k)
 
--- what a tree with these operations meets there is the conflict that the look back names
+-- what a transaction with these operations meets there is the conflict that the look back names
 abbrev pub MetIsConflict : Type 0
 MetIsConflict = (s : ScriptData) (xs : List Place) (p : ℕ) (ls : List Lock) (t : TreeNo) (os : List SubOp)
     → ((i : ℕ) (o : SubOp) → slice_get os i ≡ Some o → AreStanding s xs p ls o.item.0)
@@ -61,23 +61,23 @@ abbrev pub ActsAreAtHome : Type 0
 ActsAreAtHome = (s : ScriptData) (past : List Entry) → IsStepRun s past
     → AllByRecursion (λ (y : Place). IsAtHome s y.node y.act) (places_of (reverse past))
 
--- so on each item of a node a tree has its locks there in just the modes in which the look back finds it
+-- so on each item of a node a transaction has its locks there in just the modes in which the look back finds it
 abbrev pub RunLocksStand : Type 0
 RunLocksStand = (s : ScriptData) (past : List Entry) (p x : ℕ) (r : ItemRow) → has_strict s ≡ true → IsValid s → IsStepRun s past
     → p < s.nodes → slice_get s.items x ≡ Some r → r.node.0 ≡ p
     → (k : ℕ) → AreModesOf k x (keeping_in s past p).core.locks (modes_standing s (places_of (reverse past)) p x k)
 
--- locks of two trees on an item don't conflict
+-- locks of two transactions on an item don't conflict
 abbrev pub HaveNoConflict : List Lock → Type 0
 HaveNoConflict ls = (a b : Lock) → has_lock a ls ≡ true → has_lock b ls ≡ true → a.item.0 ≡ b.item.0 → a.tree.0 ≢ b.tree.0
     → modes_conflict a.mode b.mode ≡ false
 
--- neither at a node's step, nor, so, after any past, whatever letters came
+-- neither at a node's step, nor, so, after any past, whatever messages came
 abbrev pub RunsHaveNoConflict : Type 0
 RunsHaveNoConflict = (s : ScriptData) (past : List Entry) (p : ℕ) → HaveNoConflict (keeping_in s past p).core.locks
 
 -- what a subtransaction of a node meets there, if anything, is the conflict that the look back over the acts names: the first
--- of its items that a tree has in a mode that conflicts, and the least such tree
+-- of its items that a transaction has in a mode that conflicts, and the least such transaction
 abbrev pub RunsMeetConflicts : Type 0
 RunsMeetConflicts = (s : ScriptData) (past : List Entry) (p : ℕ) (t : TreeNo) (k : SubNo) → has_strict s ≡ true → IsValid s
     → IsStepRun s past → p < s.nodes → node_of s t.0 k.0 ≡ p

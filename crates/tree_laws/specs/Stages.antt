@@ -1,4 +1,4 @@
--- How far trees have come at their homes, in runs of every script.
+-- How far transactions have come at their homes, in runs of every script.
 use Rattle.std.specs.Prelude.{ℕ, ◌==◌, ◌+◌, ◌<◌, ◌≤◌, ◌≡◌, true, List, length, slice_get, Option, Some, None}
 use Rattle.letter_types.specs.declared.bodies.Body.{Body}
 use Rattle.letter_types.specs.declared.bodies.Body.TheVariants.{Decide, Decided}
@@ -23,17 +23,17 @@ is_noted None = 0
 is_noted (Some None) = 0
 is_noted (Some (Some values)) = 1
 
--- a letter that tells what was decided of tree t, or that it was applied
+-- a message that tells what was decided of transaction t, or that it was applied
 abbrev pub decides : ℕ → Body → ℕ
 decides t (Decide u v commit) = one_if (u.0 == t)
 decides t (Decided u v) = one_if (u.0 == t)
 decides t _ = 0
 
--- how many letters in flight do
+-- how many messages in flight do
 abbrev pub decisions : ScriptData → List Entry → ℕ → ℕ
 decisions s past t = tally (λ (l : Letter). decides t l.body) (in_flight s past)
 
--- what is open of tree t at its home, and what is held of it there
+-- what is open of transaction t at its home, and what is held of it there
 abbrev pub home_at : ScriptData → List Entry → ℕ → Option OpenTree
 home_at s past t = home_in (record { 0 = t }) (node_in s past (home_of s t)).homes
 
@@ -45,7 +45,7 @@ pub record AllTurned (s : ScriptData) (past : List Entry) (t : ℕ) : Type 0 whe
   pub turned : (k : ℕ) → k < length (subs_at s t) → turns past t k ≡ 1
   pub notes : (k : ℕ) → notices s past t k ≡ 0
 
--- the tree isn't born
+-- the transaction isn't born
 pub record IsUnborn (s : ScriptData) (past : List Entry) (t : ℕ) : Type 0 where
   pub root : turns past t 0 ≡ 0
   pub home : home_at s past t ≡ None
@@ -66,8 +66,8 @@ pub record IsGathering (s : ScriptData) (past : List Entry) (t : ℕ) (h : OpenT
   pub no_others : (k : ℕ) → length (subs_at s t) ≤ k → notices s past t k ≡ 0
   pub decisions : decisions s past t ≡ 0
 
--- it is strict and decided, and its answer is held: a letter of the decision is in flight for each acknowledgement that
--- is missing
+-- it is strict and decided, and its answer is held: a message of the decision is in flight for each acknowledgement
+-- that is missing
 pub record IsHolding (s : ScriptData) (past : List Entry) (t : ℕ) (h : Held) : Type 0 where
   pub strict : is_strict_at s t ≡ true
   pub names : h.answered.tree.0 ≡ t
@@ -93,7 +93,7 @@ pub data StageAt (s : ScriptData) (past : List Entry) (t : ℕ) : Type 0 where
   Holds : (h : Held) → IsHolding s past t h → StageAt s past t
   Answered : IsAnswered s past t → StageAt s past t
 
--- where each letter that came to a node brought an apt one, each tree is at one of them
+-- if each message that came to a node brought an enabled one, each transaction is at one of them
 abbrev pub StagesOfTrees : Type 0
 StagesOfTrees = (s : ScriptData) (past : List Entry) → IsValid s → AllApt s past → IsStepRun s past
     → (t : ℕ) → t < length s.trees → StageAt s past t

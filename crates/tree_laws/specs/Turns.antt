@@ -11,19 +11,19 @@ use Rattle.world_model.specs.Counts.{one_if, tally}
 use Rattle.world_model.specs.Runs.{IsStepRun, client_in}
 use Rattle.tree_laws.specs.Dids.{births, letters_asking, roots_sent}
 
--- the act of subtransaction k of tree t
+-- the act of subtransaction k of transaction t
 abbrev pub has_turn : ℕ → ℕ → Act → ℕ
 has_turn t k (Did u j values) = one_if ((u.0 == t) && (j.0 == k))
 has_turn t k (Voted u j vote) = one_if ((u.0 == t) && (j.0 == k))
 has_turn t k _ = 0
 
--- how many turns subtransaction k of tree t has had
+-- how many turns subtransaction k of transaction t has had
 abbrev pub turns : List Entry → ℕ → ℕ → ℕ
 turns [] t k = 0
 turns (e ∷ past) t k = tally (has_turn t k) e.acts + turns past t k
 
--- where each letter that came to a node brought an apt one: a root is asked for or has had its turn as often as its row
--- was submitted
+-- if each message that came to a node brought an enabled one: a root is asked for or has had its turn as often as its
+-- row was submitted
 abbrev pub RootsHaveTurns : Type 0
 RootsHaveTurns = (s : ScriptData) (past : List Entry) (t : ℕ) → IsValid s → AllApt s past → IsStepRun s past
     → letters_asking s past t 0 + turns past t 0 ≡ roots_sent t (take (client_in s past).next s.rows)
@@ -38,7 +38,7 @@ abbrev pub TurnsComeOnce : Type 0
 TurnsComeOnce = (s : ScriptData) (past : List Entry) (t k : ℕ) (x : Sub) → IsValid s → AllApt s past → IsStepRun s past
     → sub_at s t k ≡ Some x → letters_asking s past t k + turns past t k ≤ 1
 
--- and a tree is born where its root has its turn
+-- and a transaction is born if its root has its turn
 abbrev pub BirthsAreTurns : Type 0
 BirthsAreTurns = (s : ScriptData) (past : List Entry) (t : ℕ) → IsValid s → AllApt s past → IsStepRun s past
     → births past t ≡ turns past t 0

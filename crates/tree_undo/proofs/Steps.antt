@@ -1,4 +1,4 @@
--- One turn of each loop over the subtransactions of a tree that is undone.
+-- One turn of each loop over the subtransactions of a transaction that is compensated.
 use Rattle.std.proofs.Common.{◌≡◌, ◌+◌, ◌<◌, ◌∙◌, ◌∷◌, ◌++◌, [], ℕ, suc, Bool, List, length, drop, get_or, sym, ap, arith, append_assoc, add-one, drop-cons, ◌≤◌}
 use Rattle.tx_trees.specs.declared.parts.Sub.{Sub}
 use Rattle.tx_trees.proofs.UndoneTrees.{marks_len}

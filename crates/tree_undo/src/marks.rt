@@ -1,5 +1,5 @@
 // Which subtransactions go with the failed one, and the new numbers of those that stay.
-ghost use Rattle.std.specs.Prelude.{◌≡◌, ◌≤◌, ◌==◌, ◌&&◌, not, IfOk, [], false, get_or, length, count_by};
+ghost use Rattle.std.specs.Prelude.{◌≡◌, ◌≤◌, not, IfOk, [], false, get_or, length, count_by};
 ghost use Rattle.tv_base.specs.declared.numbers.TheConstants.{MOST_SUBS_OF_TREE};
 ghost use Rattle.tx_trees.specs.Undone.{goes_from, goes_next, is_undone_sub, new_number};
 

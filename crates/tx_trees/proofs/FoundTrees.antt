@@ -1,4 +1,4 @@
--- A search by name over trees finds what the search over the trees' names finds.
+-- A search by name over transactions finds what the search over the transactions' names finds.
 use Rattle.std.proofs.Common.{◌≡◌, ◌+◌, ℕ, Bool, true, false, List, length, refl, ap, ◌∙◌}
 use Rattle.std.specs.Prelude.{cond, not, nat_lt, Some, None, position}
 use Rattle.std.specs.List.{position_or_len}

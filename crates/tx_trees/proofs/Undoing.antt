@@ -1,5 +1,5 @@
--- A script stays valid when its last tree fails and its undone form takes its place. What limits say of a tree that
--- fails, what is counted then, and what a script says of trees as they were written.
+-- A script stays valid when its last transaction fails and its compensated form takes its place. What limits say of a
+-- transaction that fails, what is counted then, and what a script says of transactions as they were written.
 use Rattle.std.proofs.Common.{◌≡◌, ◌<◌, ◌≤◌, ◌+◌, ◌*◌, ℕ, zero, suc, Bool, true, false, List, [], ◌∷◌, ◌++◌, length, map, get_or, refl, sym, ap, ◌∙◌, subst, arith, inl, inr}
 use Rattle.std.specs.Prelude.{◌==◌, ◌||◌, not, if◌then◌else◌, IsTrue, Option, Some, None, nat_lt}
 use Rattle.std.specs.List.{AllByRecursion, IsDistinct}

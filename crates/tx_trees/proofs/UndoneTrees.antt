@@ -1,4 +1,4 @@
--- An undone tree is a tree again: parents come before their children, and each operation fits.
+-- A compensated transaction is a transaction again: parents come before their children, and each operation fits.
 use Rattle.std.proofs.Common.{◌≡◌, ◌+◌, ◌-◌, ◌<◌, ◌≤◌, ◌==◌, ◌&&◌, ◌||◌, ℕ, zero, suc, Bool, true, false, not, List, [], ◌∷◌, ◌++◌, length, map, get_or, refl, sym, ap, ◌∙◌, subst, arith, inl, inr, length-append}
 use Rattle.std.specs.Prelude.{if◌then◌else◌, IsTrue, Option, Some, None, nat_le, slice_get, ℤ, pos, ◌-ℤ◌, unsigned_abs}
 use Rattle.std.specs.List.{AllByRecursion}

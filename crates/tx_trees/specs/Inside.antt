@@ -16,8 +16,8 @@ script_data s = record {
   begun = s.begun;
 }
 
--- valid, with the name and the totals of each item beside the items, the name of each tree beside the trees, and how
--- many there are of what is limited
+-- valid, with the name and the totals of each item beside the items, the name of each transaction beside the
+-- transactions, and how many there are of what is limited
 pub record IsKept (s : Inside) : Type 0 where
   pub valid : IsValid (script_data s)
   pub item_names : s.item_names ≡ item_names s.items.items

@@ -1,6 +1,6 @@
 -- The table of an actor is that of a node, of the coordinator or of the client; so a run of one is a run of the other.
 -- Runs by tables of any rows of nodes.
-use Rattle.std.proofs.Common.{◌≡◌, ◌⊎◌, inl, inr, ℕ, zero, suc, ◌+◌, ◌<◌, ◌==◌, Bool, true, false, List, [], ◌∷◌, refl, ap, sym, subst, arith, Some, ◌∙◌}
+use Rattle.std.proofs.Common.{◌≡◌, ◌⊎◌, inl, inr, ℕ, ◌+◌, ◌<◌, ◌==◌, Bool, true, false, List, [], ◌∷◌, refl, ap, sym, subst, arith, Some, ◌∙◌}
 use Rattle.std.specs.Prelude.{if◌then◌else◌, nat_lt, map, slice_get}
 use Rattle.std.proofs.lemmas.Bool.Decides.{nat_tests}
 use Rattle.letter_types.specs.declared.entries.Letter.{Letter}

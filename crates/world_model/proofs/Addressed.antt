@@ -1,4 +1,4 @@
--- To whom a subtransaction sends letters, and how many.
+-- To whom a subtransaction sends messages, and how many.
 use Rattle.std.proofs.Common.{◌≡◌, ℕ, ◌+◌, ◌<◌, ◌≤◌, ◌==◌, ◌&&◌, Bool, true, false, List, [], ◌∷◌, ◌++◌, length, refl, subst, sym, arith}
 use Rattle.std.specs.Prelude.{nat_lt, All}
 use Rattle.std.specs.List.{AllByRecursion}

@@ -1,4 +1,4 @@
--- Whatever letters an actor takes, it sends letters to actors of the script. So each letter in flight is for one of
+-- Whatever messages an actor takes, it sends messages to actors of the script. So each message in flight is for one of
 -- them. No law of runs is needed.
 use Rattle.std.proofs.Common.{◌≡◌, ℕ, ◌+◌, ◌<◌, ◌==◌, Bool, true, false, List, [], ◌∷◌, length, reverse, take, drop, refl, sym, ◌∙◌, subst, arith, Option, Some, None}
 use Rattle.std.specs.Prelude.{if◌then◌else◌, nat_lt, All}

@@ -1,4 +1,4 @@
--- Letters whose Wake is in flight, and Wakes: a node's step wakes as many as it sends Wakes, and a Wake that comes
+-- Messages whose Wake is in flight, and Wakes: a node's step wakes as many as it sends Wakes, and a Wake that comes
 -- brings one of them.
 use Rattle.std.proofs.Common.{◌≡◌, ℕ, ◌+◌, ◌==◌, ◌&&◌, Bool, true, false, List, [], ◌∷◌, refl, ap, arith, Some, None}
 use Rattle.std.specs.Prelude.{if◌then◌else◌}

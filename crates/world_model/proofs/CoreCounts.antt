@@ -1,4 +1,4 @@
--- Whatever letter a core takes: each number that it counts grows by little.
+-- Whatever message a core takes: each number that it counts grows by little.
 use Rattle.std.proofs.Common.{ℕ, ◌+◌, ◌≤◌, ◌==◌, ◌&&◌, Bool, true, false, List, [], ◌∷◌, length, arith, Option, Some, None}
 use Rattle.std.specs.Prelude.{if◌then◌else◌, nat_lt}
 use Rattle.std.proofs.lemmas.List.{length-append}

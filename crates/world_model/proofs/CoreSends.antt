@@ -1,4 +1,4 @@
--- Whatever letter a core takes: all that it sends goes to actors of the script.
+-- Whatever message a core takes: all that it sends goes to actors of the script.
 use Rattle.std.proofs.Common.{◌≡◌, ℕ, ◌+◌, ◌<◌, ◌≤◌, Bool, true, false, List, [], ◌∷◌, ◌++◌, refl, arith, Option, Some, None}
 use Rattle.std.specs.Prelude.{if◌then◌else◌, nat_lt}
 use Rattle.std.specs.List.{AllByRecursion}

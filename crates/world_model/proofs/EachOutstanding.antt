@@ -1,4 +1,4 @@
--- What holds of each letter that has still to be done.
+-- What holds of each message that has still to be done.
 use Rattle.std.proofs.Common.{◌≡◌, ◌≢◌, ◌∙◌, ◌⊎◌, inl, inr, ℕ, zero, suc, ◌<◌, ◌≤◌, Bool, true, false, List, ◌∷◌, ◌++◌, map, refl, sym, subst, ◌∙◌, arith, Option, Some, None, []}
 use Rattle.std.specs.Prelude.{if◌then◌else◌, nat_lt}
 use Rattle.std.proofs.lemmas.Bool.{cases_eq}
@@ -36,7 +36,7 @@ pub each_right : {X : Type 0} (P : X → Type 0) (xs ys : List X) → Each P (xs
 each_right P [] ys all = all
 each_right P (x ∷ xs) ys all = each_right P xs ys all.1
 
--- The letter that is brought, and what stays kept meanwhile.
+-- The letter that is brought, and what stays deferred meanwhile.
 called_at : (P : Letter → Type 0) (t : TreeNo) (k : SubNo) (x : KeptLetter) (xs : List KeptLetter) (r : Letter) (test : Bool)
     → is_called_for t k x ≡ test → EachKept P (x ∷ xs) → (first_called t k xs ≡ Some r → P r)
     → first_called t k (x ∷ xs) ≡ Some r → P r

@@ -1,4 +1,4 @@
--- What holds of every letter in flight, and how a state goes on.
+-- What holds of every message in flight, and how a state goes on.
 use Rattle.std.proofs.Common.{◌≡◌, ◌≢◌, ℕ, ◌+◌, ◌<◌, ◌==◌, Bool, true, false, List, ◌∷◌, ◌++◌, refl, ap, subst, arith, Some, []}
 use Rattle.std.proofs.lemmas.Bool.Decides.{nat_tests}
 use Rattle.letter_types.specs.declared.entries.LetterId.{LetterId}

@@ -1,4 +1,4 @@
--- Letters that are sent are meant for their addressees. Parts of a list keep what holds of each.
+-- Messages that are sent are meant for their addressees. Parts of a list keep what holds of each.
 use Rattle.std.proofs.Common.{ℕ, zero, suc, List, ◌∷◌, take, drop, []}
 use Rattle.world_model.specs.Counts.{Each}
 

@@ -1,4 +1,4 @@
--- What an entry makes of numbers and sums over the letters in flight, and what stays at a node.
+-- What an entry makes of numbers and sums over the messages in flight, and what stays at a node.
 use Rattle.std.proofs.Common.{◌≡◌, ◌≢◌, ℕ, ◌+◌, ◌==◌, Bool, true, false, List, ◌∷◌, refl, ap, ◌∙◌, arith, take, drop, []}
 use Rattle.std.specs.Prelude.{if◌then◌else◌}
 use Rattle.std.proofs.lemmas.Bool.Decides.{nat_tests}

@@ -1,4 +1,4 @@
--- What holds of a core that keeps a letter, by the two reasons: it is parked, or it waits for a Show.
+-- What holds of a core that defers a message, by the two reasons: it is deferred, or it waits for a Show.
 use Rattle.std.proofs.Common.{◌≡◌, Bool, true, false, subst, Option, Some, None}
 use Rattle.std.specs.Prelude.{if◌then◌else◌, nat_lt}
 use Rattle.tv_base.specs.declared.numbers.SubNo.{SubNo}

@@ -1,5 +1,5 @@
--- Whatever letters a node takes: what it keeps is addressed to it, and is kept as what it asks for. So its Wakes go to
--- itself. A core that keeps a letter changes its versions alone.
+-- Whatever messages a node takes: what it defers is addressed to it, and is deferred as what it asks for. So its Wakes
+-- go to itself. A core that defers a message changes its versions alone.
 use Rattle.std.proofs.Common.{◌≡◌, ℕ, ◌<◌, ◌==◌, Bool, true, false, List, ◌∷◌, ◌++◌, refl, arith, Option, Some, None, []}
 use Rattle.std.specs.Prelude.{if◌then◌else◌, nat_lt}
 use Rattle.std.proofs.lemmas.Bool.{and_parts}
@@ -82,7 +82,7 @@ without_so : (p : ℕ) (t : TreeNo) (k : SubNo) (xs : List KeptLetter) → AreKe
 without_so p t k [] all = tt
 without_so p t k (x ∷ xs) all = kept_without_so p t k x xs (is_called_for t k x) all (without_so p t k xs all.1)
 
--- what stays kept meanwhile
+-- what stays deferred meanwhile
 pub still_kept : (p : ℕ) (xs : List KeptLetter) (body : Body) → AreKeptAt p xs → AreKeptAt p (kept_without xs body)
 still_kept p xs (Wake t k) all = without_so p t k xs all
 still_kept p xs _ all = all

@@ -1,4 +1,4 @@
--- In every run each letter that has still to be done is meant for its addressee, and says what its sender may say.
+-- In every run each message that has still to be done is meant for its addressee, and says what its sender may say.
 use Rattle.std.proofs.Common.{◌≡◌, ℕ, ◌<◌, Bool, true, false, List, [], ◌∷◌, refl, sym, ap, subst, ◌∙◌, Option, Some, None}
 use Rattle.std.specs.Prelude.{if◌then◌else◌}
 use Rattle.letter_types.specs.declared.bodies.Body.{Body}

@@ -1,4 +1,4 @@
--- In a run of a script without strict trees no node keeps a letter.
+-- In a run of a script without strict transactions no node defers a message.
 use Rattle.std.proofs.Common.{◌≡◌, ℕ, ◌==◌, Bool, true, false, List, ◌∷◌, refl, ap, ◌∙◌, Option, Some, None, []}
 use Rattle.std.specs.Prelude.{if◌then◌else◌}
 use Rattle.letter_types.specs.declared.bodies.Body.{Body}

@@ -1,4 +1,4 @@
--- Answers that a notice brings about: each names the tree that was noted.
+-- Answers that a notice brings about: each names the transaction that was noted.
 use Rattle.std.proofs.Common.{Bool, None, Option, Some, false, true, ◌≡◌}
 use Rattle.std.specs.Prelude.{if◌then◌else◌}
 use Rattle.tv_base.specs.declared.numbers.SubNo.{SubNo}

@@ -1,4 +1,4 @@
--- Sums over the letters that have still to be done: those in flight, and those that nodes keep. And how a node with
+-- Sums over the messages that have still to be done: those in flight, and those that nodes defer. And how a node with
 -- what it keeps goes on.
 use Rattle.std.proofs.Common.{◌≡◌, ◌≢◌, ◌⊎◌, inl, inr, ℕ, zero, suc, ◌+◌, ◌<◌, ◌≤◌, ◌==◌, Bool, true, false, List, ◌∷◌, ◌++◌, map, refl, ap, arith, Option, Some, None, []}
 use Rattle.std.specs.Prelude.{if◌then◌else◌, nat_lt, is_some}

@@ -1,4 +1,4 @@
--- In a script without strict trees no letter is kept.
+-- In a script without strict transactions no message is deferred.
 use Rattle.std.proofs.Common.{◌≡◌, ℕ, zero, suc, ◌==◌, true, false, not, List, [], ◌∷◌, sym, ap, ◌∙◌, Option, Some, None, slice_get, arith, refl}
 use Rattle.std.proofs.lemmas.Bool.Decides.{nat_tests}
 use Rattle.tv_base.specs.Sums.{one_if}

@@ -1,5 +1,5 @@
 -- What a coordinator that forgets sends, and what it never changes.
-use Rattle.std.proofs.Common.{◌≡◌, ℕ, ◌+◌, ◌<◌, ◌&&◌, ◌==◌, Bool, true, false, List, [], ◌∷◌, ◌++◌, length, refl, ◌∙◌, Option, Some, None, arith}
+use Rattle.std.proofs.Common.{◌≡◌, ℕ, ◌+◌, ◌<◌, ◌&&◌, ◌==◌, Bool, true, false, List, [], ◌∷◌, length, refl, ◌∙◌, Option, Some, None}
 use Rattle.std.specs.Prelude.{if◌then◌else◌, max, nat_lt, slice_set, is_some}
 use Rattle.std.specs.List.{list_all}
 use Rattle.tv_base.specs.declared.numbers.Version.{Version}

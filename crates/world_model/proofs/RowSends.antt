@@ -1,4 +1,4 @@
--- What the row of a letter sends, and a fact of each letter of it, by what it is sent for.
+-- What the row of a message sends, and a fact of each message of it, by what it is sent for.
 use Rattle.std.proofs.Common.{◌≡◌, ℕ, zero, suc, ◌<◌, ◌≤◌, Bool, true, false, List, [], ◌∷◌, ◌++◌, length, refl, sym, subst, arith, Option, Some, None}
 use Rattle.std.proofs.lemmas.Bool.{and_parts}
 use Rattle.std.specs.Prelude.{if◌then◌else◌, nat_lt}

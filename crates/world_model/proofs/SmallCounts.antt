@@ -1,6 +1,6 @@
--- Whatever letters an actor takes: its counters are small while its entries are few, and a coordinator keeps its number
--- of nodes. No law of runs is needed.
-use Rattle.std.proofs.Common.{◌≡◌, ℕ, ◌+◌, ◌*◌, ◌<◌, ◌≤◌, ◌==◌, Bool, true, false, List, [], ◌∷◌, length, reverse, refl, sym, ap, ◌∙◌, subst, arith, Option, Some, None}
+-- Whatever messages an actor takes: its counters are small while its entries are few, and a coordinator keeps its
+-- number of nodes. No law of runs is needed.
+use Rattle.std.proofs.Common.{◌≡◌, ℕ, ◌+◌, ◌*◌, ◌<◌, ◌≤◌, ◌==◌, Bool, true, false, List, [], ◌∷◌, length, reverse, refl, sym, ap, subst, arith, Option, Some, None}
 use Rattle.std.specs.Prelude.{if◌then◌else◌, nat_lt}
 use Rattle.std.proofs.lemmas.List.{length-reverse}
 use Rattle.std.proofs.lemmas.List.Sums.{count_by-le-length, length-filter}

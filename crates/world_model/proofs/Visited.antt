@@ -1,4 +1,4 @@
--- The nodes that a tree visits are nodes of the script, and no more than there are.
+-- The nodes that a transaction visits are nodes of the script, and no more than there are.
 use Rattle.std.proofs.Common.{ℕ, zero, suc, ◌<◌, ◌≤◌, Bool, true, false, List, [], ◌∷◌, length, arith}
 use Rattle.std.specs.Prelude.{if◌then◌else◌}
 use Rattle.std.proofs.lemmas.List.{length-append}

@@ -1,4 +1,4 @@
--- What a node does with the coordinator's letters.
+-- What a node does with the coordinator's messages.
 use Rattle.std.specs.Prelude.{ℕ, List, [], ◌∷◌, nat_lt}
 use Rattle.tv_base.specs.declared.numbers.Version.{Version}
 use Rattle.letter_types.specs.declared.acts.Act.TheVariants as acts
@@ -13,7 +13,7 @@ use Rattle.script_parts.specs.ScriptData.{ScriptData}
 use Rattle.world_model.specs.Done.{turned_if}
 use Rattle.world_model.specs.Node.{Node}
 
--- a letter to the coordinator, whose number follows those of the nodes
+-- a message to the coordinator, whose number follows those of the nodes
 abbrev pub to_coordinator : ScriptData → Body → List Outgoing
 to_coordinator s body = record { to = record { 0 = s.nodes }; body = body } ∷ []
 
@@ -65,7 +65,7 @@ asked_row s v k st = record {
   acts = [];
 }
 
--- the row of a letter of the coordinator
+-- the row of a message of the coordinator
 abbrev pub advancing_row : ScriptData → Body → Node → Out Node
 advancing_row s (Turn v) st = turn_row s v st
 advancing_row s (Show v) st = show_row s v st

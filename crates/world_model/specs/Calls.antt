@@ -1,4 +1,4 @@
--- Kept letters whose Wake is in flight, and Wakes.
+-- Deferred messages whose Wake is in flight, and Wakes.
 use Rattle.std.specs.Prelude.{ℕ, ◌==◌, ◌&&◌, List}
 use Rattle.tv_base.specs.declared.numbers.SubNo.{SubNo}
 use Rattle.tv_base.specs.declared.numbers.TreeNo.{TreeNo}
@@ -8,7 +8,7 @@ use Rattle.letter_types.specs.declared.bodies.Body.TheVariants.{Wake}
 use Rattle.letter_types.specs.declared.kept.KeptLetter.{KeptLetter}
 use Rattle.world_model.specs.Counts.{one_if, tally}
 
--- how many kept letters of subtransaction k of tree t are called
+-- how many deferred messages of subtransaction k of transaction t are called
 abbrev pub calls : TreeNo → SubNo → List KeptLetter → ℕ
 calls t k kept = tally (λ (x : KeptLetter). one_if (is_called_for t k x)) kept
 

@@ -12,7 +12,8 @@ use Rattle.letter_types.specs.Steps.{Out, still}
 use Rattle.tv_base.specs.declared.numbers.Version.{Version}
 use Rattle.script_parts.specs.Counts.{is_lossy}
 
--- how many rows are submitted, which trees are answered, how many advancements have ended, whether all is finished
+-- how many rows are submitted, which transactions are answered, how many advancements have ended, whether all is
+-- finished
 pub record Client : Type 0 where
   pub next : ℕ
   pub answered : List Bool
@@ -22,7 +23,7 @@ pub record Client : Type 0 where
 abbrev pub start_client : ScriptData → Client
 start_client s = record { next = 0; answered = replicate (length s.trees) false; ended = 0; finished = false }
 
--- each tree of these rows is answered
+-- each transaction of these rows is answered
 abbrev pub all_answered : List Bool → List ScriptRow → Bool
 all_answered answered [] = true
 all_answered answered (TreeRow t ∷ rows) = get_or answered t.0 false && all_answered answered rows
@@ -41,12 +42,12 @@ submitted c before (SettleRow ∷ rows) =
     if have_ended c before then submitted c (before ++ SettleRow ∷ []) rows + 1 else 0
 submitted c before (row ∷ rows) = submitted c (before ++ row ∷ []) rows + 1
 
--- the letter that asks for the advancement after so many: it has a number where the coordinator may forget
+-- the message that asks for the advancement after that many: it has a number if the coordinator may forget
 abbrev pub advance_letter : ScriptData → ℕ → Body
 advance_letter s k = if is_lossy s then AdvanceNo (k + 1) else Advance
 
--- a Root to its home for each tree, a letter to the coordinator for each advancement and for each row that makes it forget, of
--- rows before which so many advancements were asked for
+-- a Root to its home for each transaction, a message to the coordinator for each advancement and for each row that
+-- makes it forget, of rows before which that many advancements were asked for
 abbrev pub rows_letters : ScriptData → ℕ → List ScriptRow → List Outgoing
 rows_letters s k [] = []
 rows_letters s k (TreeRow t ∷ rows) = record { to = record { 0 = home_of s t.0 }; body = Root t } ∷ rows_letters s k rows
@@ -62,11 +63,11 @@ advances_sent s c = advances_in (take c.next s.rows)
 abbrev pub next_after : ScriptData → Client → ℕ
 next_after s c = c.next + submitted c (take c.next s.rows) (drop c.next s.rows)
 
--- with so many rows submitted, everything has ended, and the client hasn't finished
+-- with that many rows submitted, everything has ended, and the client hasn't finished
 abbrev pub client_finishes : ScriptData → ℕ → Client → Bool
 client_finishes s next c = (next == length s.rows) && (have_ended c s.rows && not c.finished)
 
--- the client submits what it may, after the letters that are sent first, and finishes if all is over
+-- the client submits what it may, after the messages that are sent first, and finishes if all is over
 abbrev pub submit : ScriptData → Client → List Outgoing → Out Client
 submit s c first = record {
   state = record {
@@ -80,11 +81,11 @@ submit s c first = record {
   acts = if client_finishes s (next_after s c) c then Finished ∷ [] else [];
 }
 
--- tree t is answered
+-- transaction t is answered
 abbrev pub with_answer : ℕ → Client → Client
 with_answer t c = record c { answered = slice_set c.answered t true }
 
--- one more advancement has ended, or so many have, where the coordinator may forget; the number stays at its type's end
+-- one more advancement has ended, or that many have, if the coordinator may forget; the number stays at its type's end
 abbrev pub with_end : ScriptData → Version → Client → Client
 with_end s v c = record c { ended = if is_lossy s then max c.ended v.0 else min (c.ended + 1) (2 ^ 64 - 1) }
 
@@ -96,11 +97,11 @@ wanted s e c = record {
   acts = [];
 }
 
--- the coordinator hears that a tree was answered
+-- the coordinator hears that a transaction was answered
 abbrev pub nudge : ScriptData → Outgoing
 nudge s = record { to = record { 0 = s.nodes }; body = Nudge }
 
--- what the client does with a letter of this body
+-- what the client does with a message of this body
 abbrev pub client_row : ScriptData → Client → Body → Out Client
 client_row s c Go = submit s c []
 client_row s c (Reply t v answer) =

@@ -34,7 +34,7 @@ start_coordinator n = record {
   count = start_count 0;
 }
 
--- a letter of this body to each of the nodes 0 to n - 1
+-- a message of this body to each of the nodes 0 to n - 1
 abbrev pub to_nodes : ℕ → Body → List Outgoing
 to_nodes zero body = []
 to_nodes (suc n) body = to_nodes n body ++ record { to = record { 0 = n }; body = body } ∷ []
@@ -43,7 +43,7 @@ to_nodes (suc n) body = to_nodes n body ++ record { to = record { 0 = n }; body 
 abbrev pub in_phase : Phase → Coordinator → Coordinator
 in_phase phase c = record c { phase = phase; acks = 0 }
 
--- it begins with a letter to every node
+-- it begins with a message to every node
 abbrev pub begin_phase : Phase → Body → Coordinator → Out Coordinator
 begin_phase phase body c = record { state = in_phase phase c; sent = to_nodes c.nodes body; acts = [] }
 
@@ -66,7 +66,7 @@ abbrev pub ask_requests : Coordinator → Out Coordinator
 ask_requests c =
     record { state = c; sent = to_nodes c.nodes (AskAsked c.count.current.version c.count.current.number); acts = [] }
 
--- a version is quiet: the update version is shown to reads, or what is older is swept
+-- a version is quiescent: the update version is shown to reads, or what is older is swept
 abbrev pub end_count : Bool → Coordinator → Out Coordinator
 end_count false c = begin_phase Showing (Show (version c.update)) c
 end_count true c = begin_phase Sweeping (Sweep (version c.update)) c
@@ -102,7 +102,7 @@ end_advance c =
       acts = [];
     }
 
--- the row of a letter and a phase
+-- the row of a message and a phase
 abbrev pub row_of : Body → Phase → ℕ → Coordinator → Out Coordinator
 row_of Advance Idle from c = begin_phase Turning (Turn (version (one_more c.update))) c
 row_of Advance _ from c = still (record c { waits = one_more c.waits })
@@ -115,6 +115,6 @@ row_of (Shown v) Showing from c = acknowledged (begin_round true c) c
 row_of (Swept v) Sweeping from c = acknowledged (end_advance c) c
 row_of _ _ from c = still c
 
--- what the coordinator does with a letter of this sender and body
+-- what the coordinator does with a message of this sender and body
 abbrev pub coordinator_row : Coordinator → ℕ → Body → Out Coordinator
 coordinator_row c from body = row_of body c.phase from c

@@ -1,4 +1,5 @@
--- What a node has beside what commuting trees need: its locks, the answers that it holds, and the noes of strict trees.
+-- What a node has beside what commuting transactions need: its locks, the answers that it holds, and the negative votes
+-- of strict transactions.
 use Rattle.std.specs.Prelude.{if◌then◌else◌, ℕ, nat_lt, List, [], Option, Some, None}
 use Rattle.tree_home.specs.Maps.{put_at}
 use Rattle.tv_base.specs.declared.numbers.SubNo.{SubNo}
@@ -12,22 +13,22 @@ use Rattle.tree_home.specs.HeldAnswers.{HeldAnswers}
 use Rattle.world_model.specs.declared.refusal.NegativeVote.{NegativeVote}
 use Rattle.world_model.specs.Node.{Node, start_node}
 
--- of each strict tree that is at home here the no of the least number, among the votes that have come
+-- of each strict transaction that is at home here the negative vote of the least number, among the votes that have come
 abbrev pub Refusals : Type 0
 Refusals = ℕ → Option NegativeVote
 
--- of two noes that of the lesser number
+-- of two negative votes that of the lesser number
 abbrev pub lesser : Option NegativeVote → NegativeVote → NegativeVote
 lesser None r = r
 lesser (Some old) r = if nat_lt r.sub.0 old.sub.0 then r else old
 
--- the noes after a notice of subtransaction k of tree t
+-- the negative votes after a notice of subtransaction k of transaction t
 abbrev pub refused_by : TreeNo → SubNo → Notice → Refusals → Refusals
 refused_by t k (No cause) rs = put_at t.0 (Some (lesser (rs t.0) (record { sub = k; cause = cause }))) rs
 refused_by t k _ rs = rs
 
--- the node that commuting trees see, its locks, the answers that it holds, the noes, and the epoch of the coordinator that it
--- has last heard of
+-- the node that commuting transactions see, its locks, the answers that it holds, the negative votes, and the epoch of
+-- the coordinator that it has last heard of
 pub record Core : Type 0 where
   pub node : Node
   pub locks : List Lock
@@ -35,10 +36,11 @@ pub record Core : Type 0 where
   pub refusals : Refusals
   pub epoch : ℕ
 
--- a node as a run begins: without locks, it holds no answer and knows of no no, and of no epoch but the first
+-- a node as a run begins: without locks, it holds no answer and knows of no negative vote, and of no epoch but the
+-- first
 abbrev pub start_core : ScriptData → ℕ → Core
 start_core s p = record { node = start_node s p; locks = []; holds = λ t. None; refusals = λ t. None; epoch = 0 }
 
--- what comes of a letter at the node, within its core
+-- what comes of a message at the node, within its core
 abbrev pub in_core : Core → Out Node → Out Core
 in_core c out = record { state = record c { node = out.state }; sent = out.sent; acts = out.acts }

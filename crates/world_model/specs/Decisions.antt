@@ -1,4 +1,4 @@
--- What a node makes of the decision on a strict tree.
+-- What a node makes of the decision on a strict transaction.
 use Rattle.std.specs.Prelude.{if◌then◌else◌, ℕ, Bool, true, false, not, ◌==◌, ◌&&◌, ◌||◌, List, [], ◌∷◌, ◌++◌, Option, Some, None}
 use Rattle.tv_base.specs.declared.numbers.TreeNo.{TreeNo}
 use Rattle.tv_base.specs.declared.numbers.Version.{Version}
@@ -20,7 +20,7 @@ abbrev pub ops_at : ℕ → List Sub → List SubOp
 ops_at p [] = []
 ops_at p (k ∷ ks) = if k.node.0 == p then k.ops ++ ops_at p ks else ops_at p ks
 
--- version v of an item is given what a set or a draw makes of what is seen there; so it is made where it is missing
+-- version v of an item is given what a set or a draw makes of what is seen there; so it is made if it is missing
 abbrev pub overwritten : Version → SubOp → Option Value → Table → Table
 overwritten v o None items = items
 overwritten v o (Some w) items = put_value_in v o.item (after_deed o.deed w) items
@@ -33,7 +33,7 @@ abbrev pub applied_in : Version → List SubOp → Table → Table
 applied_in v [] items = items
 applied_in v (o ∷ os) items = applied_in v os (overwritten_in v o items)
 
--- the table after a decision: a commit applies what tree t has at node p in version v, and an abort nothing
+-- the table after a decision: a commit applies what transaction t has at node p in version v, and an abort nothing
 abbrev pub decided_items : ScriptData → ℕ → TreeNo → Version → Bool → Table → Table
 decided_items s p t v commit items = if commit then applied_in v (ops_at p (subs_at s t.0)) items else items
 
@@ -61,6 +61,6 @@ abbrev pub can_apply : Version → List SubOp → Table → Bool
 can_apply v [] items = true
 can_apply v (o ∷ os) items = can_apply_op v o items && can_apply v os items
 
--- what a commit of tree t applies at node p in version v can be applied
+-- what a commit of transaction t applies at node p in version v can be applied
 abbrev pub can_decide : ScriptData → ℕ → TreeNo → Version → Bool → Table → Bool
 can_decide s p t v commit items = not commit || can_apply v (ops_at p (subs_at s t.0)) items

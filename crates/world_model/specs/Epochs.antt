@@ -1,6 +1,6 @@
 -- Orders and questions of a coordinator that forgets: each is of one of its epochs, and an order stands for one of a coordinator
 -- that remembers.
-use Rattle.std.specs.Prelude.{if◌then◌else◌, ℕ, Bool, true, not, ◌==◌, ◌&&◌, ◌||◌, nat_lt, []}
+use Rattle.std.specs.Prelude.{if◌then◌else◌, ℕ, Bool, true, not, ◌&&◌, ◌||◌, nat_lt}
 use Rattle.tv_base.specs.declared.numbers.Version.{Version}
 use Rattle.letter_types.specs.declared.bodies.Body.{Body}
 use Rattle.letter_types.specs.declared.bodies.Body.TheVariants.{Ask, Lose, AdvanceNo, Numbers, Obeyed, Order, Wanted, Turn, Show, Sweep, Turned, Shown, Swept, Advance}
@@ -15,7 +15,7 @@ use Rattle.world_model.specs.Node.{Node}
 use Rattle.world_model.specs.Named.{is_timely}
 use Rattle.world_model.specs.Apt.{is_widely_timely}
 
--- a letter is none of the kind of coordinator that the script doesn't run: these are of, or to, one that forgets, and
+-- a message is none of the kind of coordinator that the script doesn't run: these are of, or to, one that forgets, and
 -- then one that remembers
 abbrev pub suits_coordinator : ScriptData → Body → Bool
 suits_coordinator s Lose = is_lossy s
@@ -54,7 +54,7 @@ is_obeyed_now e what v c = not (nat_lt e c.epoch) && not (was_obeyed what v c.no
 abbrev pub heard_in : ScriptData → ℕ → Body → Out Core → Out Core
 heard_in s e answer out = record { state = record out.state { epoch = e }; sent = to_coordinator s answer; acts = out.acts }
 
--- an order is left where it is of an epoch before the node's, and else obeyed, if it wasn't before
+-- an order is left if it is of an epoch before the node's, and else obeyed, if it wasn't before
 abbrev pub order_core : ScriptData → ℕ → What → Version → Core → Out Core
 order_core s e what v c =
     if nat_lt e c.epoch then still c
@@ -66,8 +66,8 @@ ask_core s e c =
     if nat_lt e c.epoch then still c
     else heard_in s e (Numbers e c.node.turns.update c.node.turns.read c.node.turns.low) (still c)
 
--- the version of a letter is one that the node can go by now: an order of an epoch before the node's always is, any other where
--- the order is for which it stands
+-- the version of a message is one that the node can go by now: an order of an epoch before the node's always is, any
+-- other if the order is for which it stands
 abbrev pub is_core_timely : ScriptData → Core → Body → Bool
 is_core_timely s c (Order e what v) = nat_lt e c.epoch || is_timely s c.node (plain_order what v)
 is_core_timely s c body = is_timely s c.node body

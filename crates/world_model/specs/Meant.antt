@@ -1,4 +1,4 @@
--- What each letter that has still to be done says, and between which actors it goes.
+-- What each message that has still to be done says, and between which actors it goes.
 use Rattle.std.specs.Prelude.{ℕ, Bool, true, false, ◌<◌, ◌≡◌, ◌⊎◌, List, length}
 use Rattle.tv_base.specs.declared.numbers.SubNo.{SubNo}
 use Rattle.tv_base.specs.declared.numbers.TreeNo.{TreeNo}
@@ -15,12 +15,12 @@ use Rattle.world_model.specs.Kept.{outstanding}
 use Rattle.world_model.specs.Named.{is_strict_at, suits}
 use Rattle.world_model.specs.Runs.{IsStepRun}
 
--- a node of the script that tree t visits
+-- a node of the script that transaction t visits
 pub record IsVisited (s : ScriptData) (t : TreeNo) (q : ℕ) : Type 0 where
   pub visits : visits (subs_at s t.0) q ≡ true
   pub below : q < s.nodes
 
--- a Root goes to its tree's home
+-- a Root goes to its transaction's home
 pub record IsMeantRoot (s : ScriptData) (to : ℕ) (t : TreeNo) : Type 0 where
   pub tree : t.0 < length s.trees
   pub home : to ≡ home_of s t.0
@@ -33,8 +33,8 @@ pub record IsMeantSub (s : ScriptData) (from to : ℕ) (t : TreeNo) (k : SubNo) 
   pub node : to ≡ node_of s t.0 k.0
   pub sender : from < s.nodes
 
--- a Done goes from a node to its tree's home: of a strict tree's subtransaction it brings a vote, and of another's what
--- was done
+-- a Done goes from a node to its transaction's home: of a strict transaction's subtransaction it brings a vote, and of
+-- another's what was done
 pub record IsMeantDone (s : ScriptData) (from to : ℕ) (t : TreeNo) (k : SubNo) (notice : Notice) : Type 0 where
   pub tree : t.0 < length s.trees
   pub sub : k.0 < length (subs_at s t.0)
@@ -43,7 +43,7 @@ pub record IsMeantDone (s : ScriptData) (from to : ℕ) (t : TreeNo) (k : SubNo)
   pub sender : from < s.nodes
   pub fits : suits (is_strict_at s t.0) notice ≡ true
 
--- a Decide goes from a strict tree's home to a node that the tree visits
+-- a Decide goes from a strict transaction's home to a node that the transaction visits
 pub record IsMeantDecide (s : ScriptData) (from to : ℕ) (t : TreeNo) : Type 0 where
   pub strict : is_strict_at s t.0 ≡ true
   pub visited : IsVisited s t to
@@ -55,13 +55,13 @@ pub record IsMeantDecided (s : ScriptData) (from to : ℕ) (t : TreeNo) : Type 0
   pub visited : IsVisited s t from
   pub home : to ≡ home_of s t.0
 
--- a Release goes to a node that an update tree visits, where there are strict trees
+-- a Release goes to a node that an update transaction visits, if there are strict transactions
 pub record IsMeantRelease (s : ScriptData) (to : ℕ) (t : TreeNo) : Type 0 where
   pub update : updates s t.0 ≡ true
   pub visited : IsVisited s t to
   pub some_strict : has_strict s ≡ true
 
--- a Wake goes from the node of its subtransaction to itself, where there are strict trees
+-- a Wake goes from the node of its subtransaction to itself, if there are strict transactions
 pub record IsMeantWake (s : ScriptData) (from to : ℕ) (t : TreeNo) (k : SubNo) : Type 0 where
   pub tree : t.0 < length s.trees
   pub sub : k.0 < length (subs_at s t.0)
@@ -70,7 +70,7 @@ pub record IsMeantWake (s : ScriptData) (from to : ℕ) (t : TreeNo) (k : SubNo)
   pub own : from ≡ to
   pub some_strict : has_strict s ≡ true
 
--- a letter from a node to the coordinator
+-- a message from a node to the coordinator
 abbrev pub IsToCoordinator : ScriptData → ℕ → ℕ → Type 0
 IsToCoordinator s from to = (from < s.nodes) × (to ≡ s.nodes)
 
@@ -84,7 +84,7 @@ IsReportOf lossy s from to = IsToCoordinator s from to × (is_lossy s ≡ lossy)
 abbrev pub IsRequestOf : Bool → ScriptData → ℕ → Type 0
 IsRequestOf lossy s to = (to ≡ s.nodes) × (is_lossy s ≡ lossy)
 
--- a letter of this body, between these actors
+-- a message of this body, between these actors
 abbrev pub IsMeant : ScriptData → ℕ → ℕ → Body → Type 0
 IsMeant s from to Go = to ≡ client_of s
 IsMeant s from to (Root t) = IsMeantRoot s to t
@@ -119,6 +119,6 @@ IsMeant s from to (Obeyed e what v) = IsReportOf true s from to
 abbrev pub IsLetterMeant : ScriptData → Letter → Type 0
 IsLetterMeant s l = IsMeant s l.from.0 l.to.0 l.body
 
--- in every run of every valid script, whatever letters came
+-- in every run of every valid script, whatever messages came
 abbrev pub LettersAreMeant : Type 0
 LettersAreMeant = (s : ScriptData) (past : List Entry) → IsValid s → IsStepRun s past → Each (IsLetterMeant s) (outstanding s past)

@@ -1,4 +1,4 @@
--- Whether a letter is one that node p takes. What its operations may do is said beside their rows.
+-- Whether a message is one that node p takes. What its operations may do is said beside their rows.
 use Rattle.std.specs.Prelude.{if◌then◌else◌, ℕ, ◌+◌, Bool, true, false, not, ◌==◌, ◌&&◌, nat_le, nat_lt, length, Option, Some, None, is_some, slice_get}
 use Rattle.tv_base.specs.declared.numbers.Version.{Version}
 use Rattle.item_versions.specs.Window.{in_window}
@@ -11,11 +11,11 @@ use Rattle.script_parts.specs.ScriptData.{ScriptData, home_of, is_strict, node_o
 use Rattle.script_parts.specs.declared.parts.TreeKind.{TreeKind}
 use Rattle.world_model.specs.Node.{Node}
 
--- the kind of a tree of the script
+-- the kind of a transaction of the script
 abbrev pub tree_kind_at : ScriptData → ℕ → Option TreeKind
 tree_kind_at s t = elim (slice_get s.trees t) [ Some tree ↦ Some tree.kind | None ↦ None ]
 
--- tree t is there, and is strict
+-- transaction t is there, and is strict
 abbrev pub is_strict_at : ScriptData → ℕ → Bool
 is_strict_at s t = elim (tree_kind_at s t) [ Some kind ↦ is_strict kind | None ↦ false ]
 
@@ -24,12 +24,12 @@ abbrev pub is_did : Notice → Bool
 is_did (Did values) = true
 is_did _ = false
 
--- a strict tree's notices are votes, and those of another tree tell what was done
+-- a strict transaction's notices are votes, and those of another transaction tell what was done
 abbrev pub suits : Bool → Notice → Bool
 suits strict notice = if strict then not (is_did notice) else is_did notice
 
--- what a letter of this sender and body names is in the script and belongs to node p, which is one of the script's
--- nodes; so is a letter that names no tree
+-- what a message of this sender and body names is in the script and belongs to node p, which is one of the script's
+-- nodes; so is a message that names no transaction
 abbrev pub is_named : ScriptData → ℕ → ℕ → Body → Bool
 is_named s p from (Root t) = home_of s t.0 == p
 is_named s p from (SubLetter t k v) = (node_of s t.0 k.0 == p) && nat_lt from s.nodes
@@ -42,7 +42,7 @@ is_named s p from (Decide t v commit) = is_strict_at s t.0 && (visits (subs_at s
 is_named s p from (Decided t v) = (home_of s t.0 == p) && nat_lt from s.nodes
 is_named s p from _ = true
 
--- a root's tree isn't open at its home yet
+-- a root's transaction isn't open at its home yet
 abbrev pub is_new : ScriptData → Node → Body → Bool
 is_new s st (Root t) = not (is_some (home_in t st.homes))
 is_new s st _ = true
@@ -51,7 +51,7 @@ is_new s st _ = true
 abbrev pub is_near : Node → Version → Bool
 is_near st v = in_window st.turns.low.0 v.0
 
--- the version of a letter is one that the node can go by now: what is counted in it, raised or shown to it is near,
+-- the version of a message is one that the node can go by now: what is counted in it, raised or shown to it is near,
 -- and what is collected to it is neither lowered nor still read or updated
 abbrev pub is_timely : ScriptData → Node → Body → Bool
 is_timely s st (SubLetter t k v) = is_near st v

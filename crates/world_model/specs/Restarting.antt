@@ -18,7 +18,7 @@ use Rattle.world_model.specs.declared.restarting.RestartPhase.TheVariants.{Idle,
 use Rattle.world_model.specs.declared.restarting.Told.{Told}
 use Rattle.world_model.specs.Coordinator.{version, to_nodes}
 
--- what each node told, or none where it hasn't
+-- what each node told, or none if it hasn't
 abbrev pub AllTold : Type 0
 AllTold = List (Option Told)
 
@@ -53,7 +53,7 @@ start_restarting n = record {
 abbrev pub in_restart_phase : RestartPhase → Restarting → Restarting
 in_restart_phase phase c = record c { phase = phase; acks = 0 }
 
--- the version that nodes are told to turn to, to show or to sweep to, where so many advances have ended
+-- the version that nodes are told to turn to, to show or to sweep to, if that many advances have ended
 abbrev pub target : What → ℕ → Version
 target ToTurn f = version (one_more (one_more f))
 target ToShow f = version (one_more f)
@@ -68,11 +68,11 @@ orders _ c = []
 abbrev pub enter : RestartPhase → Restarting → Out Restarting
 enter phase c = record { state = in_restart_phase phase c; sent = orders phase c; acts = [] }
 
--- the phase in which no advancement is in progress: turning begins where one more is wanted than have ended
+-- the phase in which no advancement is in progress: turning begins if one more is wanted than have ended
 abbrev pub next_advance : ℕ → ℕ → RestartPhase
 next_advance wanted ended = if nat_lt ended wanted then Doing ToTurn else Idle
 
--- a letter to the client
+-- a message to the client
 abbrev pub to_client : Body → Restarting → Outgoing
 to_client body c = record { to = record { 0 = c.nodes + 1 }; body = body }
 
@@ -103,7 +103,7 @@ abbrev pub ask_all_requests : Restarting → Out Restarting
 ask_all_requests c =
     record { state = c; sent = to_nodes c.nodes (AskAsked c.count.current.version c.count.current.number); acts = [] }
 
--- the version that was counted is quiet: it is shown to reads, or where reads have left it nodes sweep to the next one
+-- the version that was counted is quiescent: it is shown to reads, or if reads have left it nodes sweep to the next one
 abbrev pub end_counting : Bool → Restarting → Out Restarting
 end_counting false c = enter (Doing ToShow) c
 end_counting true c = enter (Doing ToSweep) c
@@ -120,7 +120,7 @@ by_counted reads Pauses c = still (in_restart_phase (Paused reads) c)
 abbrev pub by_count : Bool → CountOut → Restarting → Out Restarting
 by_count reads o c = by_counted reads o.counted (record c { count = o.state })
 
--- the coordinator where so many advances are wanted, and so many have ended
+-- the coordinator if that many advances are wanted, and that many have ended
 abbrev pub with_advances : ℕ → ℕ → Restarting → Restarting
 with_advances wanted f c = record c { wanted = wanted; ended = f }
 
@@ -175,7 +175,7 @@ forget c = record {
   acts = [];
 }
 
--- the least low version that was told, or the greatest number where none was
+-- the least low version that was told, or the greatest number if none was
 abbrev pub least_low : AllTold → ℕ
 least_low [] = 2 ^ 64 - 1
 least_low (None ∷ ts) = least_low ts
@@ -194,7 +194,7 @@ abbrev pub update_is : ℕ → Option Told → Bool
 update_is v None = false
 update_is v (Some t) = t.update.0 == v
 
--- where so many advancements are wanted and have ended, it goes on by what nodes told: with a sweep that some node has
+-- if that many advancements are wanted and have ended, it goes on by what nodes told: with a sweep that some node has
 -- done, else with a show that some has done, else with a turn that some has done or that is wanted
 abbrev pub phase_by : AllTold → ℕ → ℕ → RestartPhase
 phase_by ts wanted f =
@@ -216,7 +216,7 @@ resume_if _ _ c = still c
 abbrev pub recover : Restarting → Out Restarting
 recover c = resume_if (list_all is_some c.told) c.heard c
 
--- what a node told is kept in place of an earlier one, where the node has a place
+-- what a node told is kept in place of an earlier one, if the node has a place
 abbrev pub with_told : ℕ → Told → Restarting → Restarting
 with_told from t c = record c { told = slice_set c.told from (Some t) }
 
@@ -224,7 +224,7 @@ with_told from t c = record c { told = slice_set c.told from (Some t) }
 abbrev pub with_wanted : ℕ → Restarting → Restarting
 with_wanted i c = record c { wanted = max c.wanted i }
 
--- the row of a letter and a phase
+-- the row of a message and a phase
 abbrev pub restart_row_of : Body → RestartPhase → ℕ → Restarting → Out Restarting
 restart_row_of Lose _ from c = forget c
 restart_row_of (AdvanceNo i) Idle from c = enter (next_advance (max c.wanted i) c.ended) (with_wanted i c)
@@ -241,6 +241,6 @@ restart_row_of Nudge (Counting reads) from c = by_count reads (told_nudge false 
 restart_row_of Nudge (Paused reads) from c = by_count reads (told_nudge true c.count) c
 restart_row_of _ _ from c = still c
 
--- what the coordinator does with a letter of this sender and body
+-- what the coordinator does with a message of this sender and body
 abbrev pub restarting_row : Restarting → ℕ → Body → Out Restarting
 restarting_row c from body = restart_row_of body c.phase from c

@@ -15,7 +15,7 @@ use Rattle.world_model.specs.Tables.{ActorData, NodeData, CoordinatorData, Resta
 use Rattle.world_model.specs.Restarting.{Restarting, start_restarting}
 use Rattle.script_parts.specs.Counts.{is_lossy}
 
--- The public shape: the letters went as letters do, and each actor's own entries, in order, are a run of its table.
+-- The public shape: the messages went as messages do, and each actor's own entries, in order, are a run of its table.
 
 -- these entries are a run of a table from a state
 abbrev pub IsRunOf : {St : Type 0} → (St → Letter → Out St) → St → List Entry → Type 0
@@ -28,12 +28,12 @@ abbrev pub after : {St : Type 0} → (St → Letter → Out St) → St → List 
 after row st [] = st
 after row st (e ∷ es) = after row (row st e.took).state es
 
--- a run by tables: letters went as letters do, and each actor's own entries are a run of its table from its start
+-- a run by tables: messages went as messages do, and each actor's own entries are a run of its table from its start
 pub record IsWorldRun (s : ScriptData) (h : List Entry) : Type 0 where
   pub postal : IsMessageRun (client_of s) (map delivery_of h)
   pub actors : (a : ℕ) → a < s.nodes + 2 → IsRunOf (actor_row s a) (start_actor s a) (own a h)
 
--- the same by the wider aptness
+-- the same by the wider condition of being enabled
 pub record IsWideRun (s : ScriptData) (h : List Entry) : Type 0 where
   pub postal : IsMessageRun (client_of s) (map delivery_of h)
   pub actors : (a : ℕ) → a < s.nodes + 2 → IsRunOf (wide_actor_row s a) (start_actor s a) (own a h)
@@ -42,10 +42,10 @@ pub record IsWideRun (s : ScriptData) (h : List Entry) : Type 0 where
 abbrev pub actor_after : ScriptData → List Entry → ℕ → ActorData
 actor_after s h a = after (actor_row s a) (start_actor s a) (own a h)
 
--- The shape for proofs: one entry after the other. A past has the newest entry first, and the letters in flight and the
--- states are functions of it.
+-- The shape for proofs: one entry after the other. A past has the newest entry first, and the messages in flight and
+-- the states are functions of it.
 
--- the letters in flight after a past
+-- the messages in flight after a past
 abbrev pub in_flight : ScriptData → List Entry → List Letter
 in_flight s past = in_flight_for (client_of s) past
 
@@ -54,7 +54,7 @@ keeping_in s [] p = start_keeping s p
 keeping_in s (e ∷ past) p =
     if e.actor.0 == p then (keeping_row s p (keeping_in s past p) e.took).state else keeping_in s past p
 
--- what commuting trees see of a node
+-- what commuting transactions see of a node
 abbrev pub node_in : ScriptData → List Entry → ℕ → Node
 node_in s past p = (keeping_in s past p).core.node
 
@@ -83,7 +83,7 @@ actor_in s past a =
     if nat_lt a s.nodes then NodeData (keeping_in s past a)
     else if a == s.nodes then coordination_in s past else ClientData (client_in s past)
 
--- the table says these letters and these acts
+-- the table says these messages and these acts
 abbrev pub Says : {St : Type 0} → Out St → Entry → Type 0
 Says out e = (e.sent ≡ out.sent) × (e.acts ≡ out.acts)
 

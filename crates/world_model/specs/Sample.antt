@@ -1,4 +1,4 @@
--- A run of a small script, oldest letter first.
+-- A run of a small script, oldest message first.
 use Rattle.std.specs.Prelude.{if◌then◌else◌, ℕ, pos, false, ◌==◌, ◌+◌, nat_lt, List, [], ◌∷◌, ◌++◌, length, suc, zero, None}
 use Rattle.commute_ops.specs.declared.kinds.Kind.TheVariants.{Sum}
 use Rattle.commute_ops.specs.declared.kinds.Op.TheVariants.{Add}
@@ -14,7 +14,7 @@ use Rattle.world_model.specs.Keeping.{keeping_row}
 use Rattle.world_model.specs.Tables.{client_table, coordinator_table}
 use Rattle.world_model.specs.Runs.{in_flight, keeping_in, coordinator_in, client_in}
 
--- an actor takes a letter, and its table says this
+-- an actor takes a message, and its table says this
 abbrev pub entry_by : {St : Type 0} → List Entry → Letter → Out St → Entry
 entry_by past l out = record {
   stamp = record { 0 = length past + 1 };
@@ -34,12 +34,13 @@ abbrev pub next_of : ScriptData → List Entry → List Letter → List Entry
 next_of s past [] = past
 next_of s past (l ∷ ls) = entry_of s past l ∷ past
 
--- the past after so many letters, or after all
+-- the past after that many messages, or after all
 abbrev pub sample : ScriptData → ℕ → List Entry
 sample s zero = []
 sample s (suc n) = next_of s (sample s n) (in_flight s (sample s n))
 
--- item a at node 0 with 10 and item b at node 1 with 0; one tree adds 5 to a and sends a child, which adds 7 to b
+-- item a at node 0 with 10 and item b at node 1 with 0; one transaction adds 5 to a and sends a child, which adds 7 to
+-- b
 abbrev pub small : ScriptData
 small = record {
   form = One;
@@ -58,7 +59,8 @@ small = record {
   begun = false;
 }
 
--- the same, and once its tree is answered a read tree, whose root gets b at node 1 and whose child gets a at node 0
+-- the same, and once its transaction is answered a read transaction, whose root gets b at node 1 and whose child gets a
+-- at node 0
 abbrev pub with_read : ScriptData
 with_read = record small {
   trees = small.trees ++ record {

@@ -1,4 +1,5 @@
--- What a node does where there are strict trees: update trees mark their items, strict trees vote, and their homes decide.
+-- What a node does if there are strict transactions: update transactions mark their items, strict transactions vote,
+-- and their homes decide.
 use Rattle.std.specs.Prelude.{if◌then◌else◌, ℕ, Bool, true, false, not, ◌==◌, ◌&&◌, ◌||◌, ◌+◌, nat_lt, List, [], ◌∷◌, ◌++◌, length, map, Option, Some, None, is_some}
 use Rattle.tree_home.specs.Maps.{put_at}
 use Rattle.tv_base.specs.declared.numbers.SubNo.{SubNo}
@@ -48,11 +49,12 @@ use Rattle.world_model.specs.Reads.{getting}
 use Rattle.world_model.specs.Updates.{touching}
 use Rattle.world_model.specs.Votes.{vote_of}
 
--- a letter of this body to each of these nodes
+-- a message of this body to each of these nodes
 abbrev pub to_each : Body → List ℕ → List Outgoing
 to_each body qs = map (λ (q : ℕ). record { to = record { 0 = q }; body = body }) qs
 
--- an update or a read tree is answered: the marks of an update tree are let go before, where there are strict trees
+-- an update or a read transaction is answered: the marks of an update transaction are let go before, if there are
+-- strict transactions
 abbrev pub marks : ScriptData → ℕ → Bool
 marks s t = has_strict s && updates s t
 
@@ -67,11 +69,11 @@ answered s c o = record {
   acts = o.out.acts;
 }
 
--- the marks that operations of an update tree take: none where there is no strict tree
+-- the marks that operations of an update transaction take: none if there is no strict transaction
 abbrev pub marks_of : ScriptData → List SubOp → Wanted
 marks_of s ops = if has_strict s then marks_on (map (λ (o : SubOp). o.item) ops) else []
 
--- a subtransaction of an update tree, and of a read tree
+-- a subtransaction of an update transaction, and of a read transaction
 abbrev pub update_core : ScriptData → ℕ → ℕ → TreeNo → Body → Core → Out Core
 update_core s p from t body c =
     let v = asked_version c.node.turns.update body in
@@ -83,8 +85,9 @@ read_core s p from body c =
     let v = asked_version c.node.turns.read body in
     answered s c (tree_part s p from v false (getting v (asked_ops s body) c.node.items) body c.node)
 
--- the home of a strict tree decides once all votes are there: it commits where none is a no. Each node that the tree
--- visits is told, in the version of the tree, and the answer is held until all have told that they applied it
+-- the home of a strict transaction decides once all votes are there: it commits if none is a negative vote. Each node
+-- that the transaction visits is told, in the version of the transaction, and the answer is held until all have told
+-- that they applied it
 abbrev pub none_refuses : TreeNo → Refusals → Bool
 none_refuses t rs = not (is_some (rs t.0))
 
@@ -99,7 +102,7 @@ decided s c o (Some a) = record {
   acts = o.out.acts ++ acts.Decided a.tree (none_refuses a.tree c.refusals) ∷ [];
 }
 
--- what a vote tells the tree's home, and which locks it takes: a yes those that its operations want
+-- what a vote tells the transaction's home, and which locks it takes: a yes those that its operations want
 abbrev pub notice_by : Vote → Notice
 notice_by (Yes values) = notices.Yes values
 notice_by (No cause) = notices.No cause
@@ -112,12 +115,12 @@ locks_by (No cause) t ops locks = locks
 abbrev pub voting : Vote → Table → Effect
 voting vote items = record { items = items; notice = notice_by vote }
 
--- the noes after a vote: that of a root is at its home
+-- the negative votes after a vote: that of a root is at its home
 abbrev pub noted_vote : Body → Vote → Refusals → Refusals
 noted_vote (Root t) vote rs = refused_by t (record { 0 = 0 }) (notice_by vote) rs
 noted_vote _ vote rs = rs
 
--- a subtransaction of a strict tree votes this, in version v
+-- a subtransaction of a strict transaction votes this, in version v
 abbrev pub voted_core : ScriptData → ℕ → ℕ → TreeNo → Version → Vote → Body → Core → Out Core
 voted_core s p from t v vote body c =
     let o = tree_part s p from v (nat_lt c.node.turns.update.0 v.0) (voting vote c.node.items) body c.node in
@@ -130,14 +133,14 @@ strict_core s p from t body c =
     let v = asked_version c.node.turns.update body in
     voted_core s p from t v (vote_of c.locks c.node.items t v (asked_ops s body)) body c
 
--- a letter that asks for a subtransaction of a tree of this kind
+-- a message that asks for a subtransaction of a transaction of this kind
 abbrev pub core_by_kind : ScriptData → ℕ → ℕ → TreeNo → Body → Option TreeKind → Core → Out Core
 core_by_kind s p from t body (Some Update) c = update_core s p from t body c
 core_by_kind s p from t body (Some Read) c = read_core s p from body c
 core_by_kind s p from t body (Some Strict) c = strict_core s p from t body c
 core_by_kind s p from t body None c = still c
 
--- a notice at its tree's home: a no that was missing is kept in mind
+-- a notice at its transaction's home: a negative vote that was missing is kept in mind
 abbrev pub refused_there : TreeNo → SubNo → Notice → Core → Refusals
 refused_there t k notice c = if misses t k c.node.homes then refused_by t k notice c.refusals else c.refusals
 
@@ -147,7 +150,7 @@ note_core s from t k v notice c =
     if is_strict_at s t.0 then decided s (record c { refusals = refused_there t k notice c }) o o.answered
     else answered s c o
 
--- a node applies what was decided of a strict tree, frees its locks, and tells its home
+-- a node applies what was decided of a strict transaction, frees its locks, and tells its home
 abbrev pub decided_letter : ScriptData → TreeNo → Version → Outgoing
 decided_letter s t v = record { to = record { 0 = home_of s t.0 }; body = Decided t v }
 
@@ -164,7 +167,7 @@ decide_core s p from t v commit c = record {
   acts = acts.Applied t commit ∷ [];
 }
 
--- the answer of a strict tree: whole, or the cause of the no of the least number
+-- the answer of a strict transaction: complete, or the cause of the negative vote of the least number
 abbrev pub answer_by : Option NegativeVote → Answered → Answer
 answer_by None a = Whole a.values
 answer_by (Some r) a = Aborted r.cause
@@ -174,7 +177,7 @@ answer_letters s rs None = []
 answer_letters s rs (Some a) =
     record { to = record { 0 = client_of s }; body = Reply a.tree a.version (answer_by (rs a.tree.0) a) } ∷ []
 
--- the noes, without those of a tree that is answered
+-- the negative votes, without those of a transaction that is answered
 abbrev pub refusals_after : Option Answered → Refusals → Refusals
 refusals_after None rs = rs
 refusals_after (Some a) rs = put_at a.tree.0 None rs
@@ -193,11 +196,11 @@ acked_core s from t v c =
       acts = [];
     }
 
--- an update tree's marks go
+-- an update transaction's marks go
 abbrev pub release_core : TreeNo → Core → Out Core
 release_core t c = record { state = record c { locks = without t c.locks }; sent = []; acts = acts.Freed t ∷ [] }
 
--- the row of an apt letter
+-- the row of an enabled message
 abbrev pub core_row : ScriptData → ℕ → Core → ℕ → Body → Out Core
 core_row s p c from (Root t) = core_by_kind s p from t (Root t) (tree_kind_at s t.0) c
 core_row s p c from (SubLetter t k v) = core_by_kind s p from t (SubLetter t k v) (tree_kind_at s t.0) c
@@ -209,9 +212,9 @@ core_row s p c from (Order e what v) = order_core s e what v c
 core_row s p c from (Ask e) = ask_core s e c
 core_row s p c from body = in_core c (advancing_row s body c.node)
 
--- Which letters are apt.
+-- Which messages are enabled.
 
--- a letter that only strict trees have
+-- a message that only strict transactions have
 abbrev pub is_of_strict : Body → Bool
 is_of_strict (Decide t v commit) = true
 is_of_strict (Decided t v) = true
@@ -219,12 +222,13 @@ is_of_strict (Release t) = true
 is_of_strict (Wake t k) = true
 is_of_strict _ = false
 
--- the answer of a root's tree isn't held at its home
+-- the answer of a root's transaction isn't held at its home
 abbrev pub is_unheld : Body → HeldAnswers → Bool
 is_unheld (Root t) hs = not (is_some (held_in t hs))
 is_unheld _ hs = true
 
--- a notice after which a strict tree is decided: the version that the tree began with is one that the node counts in
+-- a notice after which a strict transaction is decided: the version that the transaction began with is one that the
+-- node counts in
 abbrev pub is_near_answer : ScriptData → Node → Option Answered → Bool
 is_near_answer s st None = true
 is_near_answer s st (Some a) = not (is_strict_at s a.tree.0) || is_near st a.version
@@ -233,19 +237,19 @@ abbrev pub decides_near : ScriptData → Node → Body → Bool
 decides_near s st (Done t k v notice) = is_near_answer s st (answer_noted t k (values_of notice) st.homes)
 decides_near s st _ = true
 
--- what a letter asks for may be made: a vote always, and a commit where it can be applied
+-- what a message asks for may be made: a vote always, and a commit if it can be applied
 abbrev pub can_make_at : ScriptData → ℕ → Core → Body → Bool
 can_make_at s p c (Root t) = is_strict_at s t.0 || can_make s c.node (Root t)
 can_make_at s p c (SubLetter t k v) = is_strict_at s t.0 || can_make s c.node (SubLetter t k v)
 can_make_at s p c (Decide t v commit) = can_decide s p t v commit c.node.items
 can_make_at s p c _ = true
 
--- a letter that the script has: of strict trees where there are some, and of its coordinator
+-- a message that the script has: of strict transactions if there are some, and of its coordinator
 abbrev pub is_of_script : ScriptData → Body → Bool
 is_of_script s body = (has_strict s || not (is_of_strict body)) && suits_coordinator s body
 
--- a letter is apt at a node: it is one that the script has, what it names belongs there, a root is new, its version is
--- one that the node can go by, and what it asks for may be made
+-- a message is enabled at a node: it is one that the script has, what it names belongs there, a root is new, its
+-- version is one that the node can go by, and what it asks for may be made
 abbrev pub is_core_apt : ScriptData → ℕ → Core → Letter → Bool
 is_core_apt s p c l =
     is_of_script s l.body
@@ -253,7 +257,7 @@ is_core_apt s p c l =
     && (is_new s c.node l.body && is_unheld l.body c.holds
     && (is_core_timely s c l.body && decides_near s c.node l.body && can_make_at s p c l.body)))
 
--- a letter is apt at a node that keeps versions without end
+-- a message is enabled at a node that keeps versions without end
 abbrev pub is_widely_core_apt : ScriptData → ℕ → Core → Letter → Bool
 is_widely_core_apt s p c l =
     is_of_script s l.body
@@ -261,13 +265,13 @@ is_widely_core_apt s p c l =
     && (is_new s c.node l.body && is_unheld l.body c.holds
     && (is_widely_core_timely s c l.body && can_make_at s p c l.body)))
 
--- what a core makes of a letter that it doesn't keep
+-- what a core makes of a message that it doesn't defer
 abbrev pub core_step : ScriptData → ℕ → Core → Letter → Out Core
 core_step s p c l = if is_core_apt s p c l then core_row s p c l.from.0 l.body else still c
 
--- Which letters a node keeps.
+-- Which messages a node defers.
 
--- the reason why a letter of subtransaction k of tree t is kept, and what the core makes of that
+-- the reason why a message of subtransaction k of transaction t is deferred, and what the core makes of that
 pub record CoreKeeping : Type 0 where
   pub tree : TreeNo
   pub sub : SubNo
@@ -275,7 +279,7 @@ pub record CoreKeeping : Type 0 where
   pub state : Core
   pub acts : List Act
 
--- a strict tree is born only where the version that is updated follows the one that is read: else its root waits
+-- a strict transaction is born only if the version that is updated follows the one that is read: else its root waits
 abbrev pub is_born_now : Node → Bool
 is_born_now st = st.turns.update.0 == st.turns.read.0 + 1
 
@@ -288,8 +292,8 @@ root_waiting t c = record {
   acts = acts.Waits t c.node.turns.update c.node.turns.read ∷ [];
 }
 
--- a subtransaction of an update tree that meets a lock is parked for its holder, and raises the update version before,
--- if it must
+-- a subtransaction of an update transaction that meets a lock is deferred for its holder, and raises the update version
+-- before, if it must
 abbrev pub parked : TreeNo → SubNo → Bool → Version → Met → Core → CoreKeeping
 parked t k raises v met c = record {
   tree = t;
@@ -303,11 +307,11 @@ abbrev pub parked_if : TreeNo → SubNo → Bool → Version → Option Met → 
 parked_if t k raises v None c = None
 parked_if t k raises v (Some met) c = Some (parked t k raises v met c)
 
--- what an update tree with these operations meets
+-- what an update transaction with these operations meets
 abbrev pub meets : ScriptData → TreeNo → List SubOp → Core → Option Met
 meets s t ops c = met_in t (marks_of s ops) c.locks
 
--- whether a node keeps an apt letter that asks for a subtransaction of a tree of this kind
+-- whether a node defers an enabled message that asks for a subtransaction of a transaction of this kind
 abbrev pub kept_by_kind : ScriptData → Core → TreeNo → Body → Option TreeKind → Option CoreKeeping
 kept_by_kind s c t (Root u) (Some Update) = parked_if t (record { 0 = 0 }) false c.node.turns.update (meets s t (asked_ops s (Root u)) c) c
 kept_by_kind s c t (SubLetter u k v) (Some Update) =
@@ -315,7 +319,7 @@ kept_by_kind s c t (SubLetter u k v) (Some Update) =
 kept_by_kind s c t (Root u) (Some Strict) = if is_born_now c.node then None else Some (root_waiting t c)
 kept_by_kind s c t _ _ = None
 
--- whether a node keeps an apt letter, and what its core makes of that
+-- whether a node defers an enabled message, and what its core makes of that
 abbrev pub core_keeping : ScriptData → Core → Body → Option CoreKeeping
 core_keeping s c (Root t) = kept_by_kind s c t (Root t) (tree_kind_at s t.0)
 core_keeping s c (SubLetter t k v) = kept_by_kind s c t (SubLetter t k v) (tree_kind_at s t.0)

@@ -1,4 +1,4 @@
--- How each actor begins, and what it does with a letter: one table for all of them.
+-- How each actor begins, and what it does with a message: one table for all of them.
 use Rattle.std.specs.Prelude.{if◌then◌else◌, ℕ, ◌==◌, nat_lt}
 use Rattle.script_parts.specs.ScriptData.{ScriptData}
 use Rattle.letter_types.specs.declared.entries.Letter.{Letter}
@@ -16,7 +16,7 @@ pub data ActorData : Type 0 where
   RestartingData : Restarting → ActorData
   ClientData : Client → ActorData
 
--- the coordinator at the start: one that may forget where the script has a row that makes it
+-- the coordinator at the start: one that may forget if the script has a row that makes it
 abbrev pub start_coordination : ScriptData → ActorData
 start_coordination s = if is_lossy s then RestartingData (start_restarting s.nodes) else CoordinatorData (start_coordinator s.nodes)
 
@@ -26,11 +26,11 @@ start_actor s a =
     if nat_lt a s.nodes then NodeData (start_keeping s a)
     else if a == s.nodes then start_coordination s else ClientData (start_client s)
 
--- what comes of a letter, seen as the state of an actor
+-- what comes of a message, seen as the state of an actor
 abbrev pub as_actor : {St : Type 0} → (St → ActorData) → Out St → Out ActorData
 as_actor see out = record { state = see out.state; sent = out.sent; acts = out.acts }
 
--- the rows of coordinators and of the client for a letter
+-- the rows of coordinators and of the client for a message
 abbrev pub coordinator_table : Coordinator → Letter → Out Coordinator
 coordinator_table c l = coordinator_row c l.from.0 l.body
 
@@ -40,14 +40,14 @@ restarting_table c l = restarting_row c l.from.0 l.body
 abbrev pub client_table : ScriptData → Client → Letter → Out Client
 client_table s c l = client_row s c l.body
 
--- what actor a does with a letter
+-- what actor a does with a message
 abbrev pub actor_row : ScriptData → ℕ → ActorData → Letter → Out ActorData
 actor_row s a (NodeData n) l = as_actor NodeData (keeping_row s a n l)
 actor_row s a (CoordinatorData c) l = as_actor CoordinatorData (coordinator_table c l)
 actor_row s a (RestartingData c) l = as_actor RestartingData (restarting_table c l)
 actor_row s a (ClientData c) l = as_actor ClientData (client_table s c l)
 
--- the same by the wider aptness, which has no window of versions
+-- the same by the wider condition of being enabled, which has no window of versions
 abbrev pub wide_actor_row : ScriptData → ℕ → ActorData → Letter → Out ActorData
 wide_actor_row s a (NodeData n) l = as_actor NodeData (wide_keeping_row s a n l)
 wide_actor_row s a (CoordinatorData c) l = as_actor CoordinatorData (coordinator_table c l)

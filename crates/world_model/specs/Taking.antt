@@ -1,4 +1,4 @@
--- What has to hold of an actor's state so that it may take a letter, and how much a letter adds to what it counts.
+-- What has to hold of an actor's state so that it may take a message, and how much a message adds to what it counts.
 use Rattle.std.specs.Prelude.{ℕ, ◌<◌}
 use Rattle.letter_types.specs.declared.entries.Letter.{Letter}
 use Rattle.pair_counters.specs.Numbers.{AllBelow}
@@ -6,7 +6,7 @@ use Rattle.script_parts.specs.ScriptData.{ScriptData}
 use Rattle.world_model.specs.Keeping.{AreKeptAt}
 use Rattle.world_model.specs.Tables.{ActorData, NodeData}
 
--- a letter for a node is addressed to one of the script's, and so are all that the node keeps to the same
+-- a message for a node is addressed to one of the script's, and so are all that the node keeps to the same
 abbrev pub IsAddressed : ScriptData → Letter → ActorData → Type 0
 IsAddressed s l (NodeData n) = (l.to.0 < s.nodes) × AreKeptAt l.to.0 n.kept
 IsAddressed s l _ = Unit {0}

@@ -1,4 +1,4 @@
--- What the operations of an update tree make of a node's items.
+-- What the operations of an update transaction make of a node's items.
 use Rattle.std.specs.Prelude.{Bool, true, false, ◌&&◌, List, [], ◌∷◌}
 use Rattle.tv_base.specs.declared.numbers.ItemNo.{ItemNo}
 use Rattle.tv_base.specs.declared.numbers.Version.{Version}
@@ -36,6 +36,6 @@ table_after_ops v (o ∷ os) items = table_after_ops v os (table_after_deed v o.
 abbrev pub touching : Version → List SubOp → Table → Effect
 touching v ops items = record { items = table_after_ops v ops items; notice = Did [] }
 
--- the operations that a letter asks for may be made; a root takes the node's update version
+-- the operations that a message asks for may be made; a root takes the node's update version
 abbrev pub can_update : ScriptData → Node → Body → Bool
 can_update s st body = can_touch (asked_version st.turns.update body) (asked_ops s body) st.items

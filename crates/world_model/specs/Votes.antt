@@ -1,4 +1,4 @@
--- How a subtransaction of a strict tree votes: no for the first cause that is found, else yes.
+-- How a subtransaction of a strict transaction votes: no for the first cause that is found, else yes.
 use Rattle.std.specs.Prelude.{if◌then◌else◌, ℕ, nat_lt, max, List, [], ◌∷◌, fold, Option, Some, None}
 use Rattle.std.specs.Option.{option_or}
 use Rattle.tv_base.specs.declared.numbers.ItemNo.{ItemNo}
@@ -51,7 +51,7 @@ abbrev pub short_in : Version → List SubOp → Table → Option Cause
 short_in v [] items = None
 short_in v (o ∷ os) items = option_or (short_at v o items) (short_in v os items)
 
--- why strict tree t votes no in version v with these operations, if it does: a lock that conflicts, else a newer
+-- why strict transaction t votes no in version v with these operations, if it does: a lock that conflicts, else a newer
 -- version, else a value that is short
 abbrev pub cause_in : List Lock → Table → TreeNo → Version → List SubOp → Option Cause
 cause_in locks items t v os =

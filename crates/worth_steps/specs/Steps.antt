@@ -14,7 +14,7 @@ join Top n m = int_max n m
 join Sum n m = n +ℤ m
 join Bag n m = n +ℤ m
 
--- what a step makes of the number below it: where a set is among its deeds, that doesn't count
+-- what a step makes of the number below it: if a set is among its deeds, that doesn't count
 abbrev pub act_on : Kind → Bool → ℤ → ℤ → ℤ
 act_on k true own n = own
 act_on k false own n = join k n own

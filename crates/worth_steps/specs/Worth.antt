@@ -32,7 +32,7 @@ after_noted w n = after_deed n.deed w
 abbrev pub worth_of : Value → List Noted → ℕ → Value
 worth_of first ns v = fold after_noted first (in_order ns v)
 
--- some tree may have the deed on an item of this kind
+-- some transaction may have the deed on an item of this kind
 abbrev pub deed_suits : Kind → Deed → Bool
 deed_suits kind deed = deed_fits trees.Update kind deed || (deed_fits trees.Read kind deed || deed_fits trees.Strict kind deed)
 
@@ -43,12 +43,12 @@ alters (deeds.Apply op) = true
 alters (deeds.Set n) = true
 alters (deeds.Draw n) = true
 
--- the greatest of some numbers, 0 where there is none
+-- the greatest of some numbers, 0 if there is none
 abbrev pub greatest : List ℕ → ℕ
 greatest [] = 0
 greatest (n ∷ ns) = max n (greatest ns)
 
--- the greatest version with a deed that alters the item, 0 where there is none
+-- the greatest version with a deed that alters the item, 0 if there is none
 abbrev pub last_altered : List Noted → ℕ
 last_altered ns = greatest (map (λ (n : Noted). n.version) (filter (λ (n : Noted). alters n.deed) ns))
 

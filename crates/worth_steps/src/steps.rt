@@ -1,5 +1,5 @@
 // The steps of a sum or a top.
-ghost use Rattle.std.specs.Prelude.{◌≡◌, ◌+◌, ◌<◌, ◌≤◌, ◌++◌, nat_le, drop, take, length, Some, IfOk, IfSome, OnErr, OnOk};
+ghost use Rattle.std.specs.Prelude.{◌≡◌, ◌+◌, ◌<◌, ◌≤◌, ◌++◌, nat_le, drop, take, length, IfOk, IfSome, OnErr, OnOk};
 ghost use Rattle.worth_steps.specs.Kept.{steps_back, steps_over};
 ghost use Rattle.worth_steps.specs.Steps.{Ascends, act_on, newest_step, seen_to};
 ghost use Rattle.worth_steps.specs.inside.Editing.{changed_number, first_own, is_set, number_below, revalued, stands_before, step_begun, step_gone_on, step_valued, steps_up_to, AreEdited, HasGoneOn, begun_at};

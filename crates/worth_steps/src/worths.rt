@@ -1,6 +1,5 @@
 // What an item is worth at each version.
 ghost use Rattle.std.specs.Prelude.{◌≡◌, ◌∷◌, [], true, false, IfOk, IsTrue, OnErr, OnOk};
-ghost use Rattle.commute_ops.specs.declared.value.Value.{Value};
 ghost use Rattle.worth_steps.specs.Kept.{AreWorths, worths_back, AreWorthsWith, OfWorths};
 ghost use Rattle.worth_steps.specs.Steps.{seen_to};
 ghost use Rattle.worth_steps.specs.Worth.{MayBegin, alters, deed_suits, last_altered, value_kind, worth_of};

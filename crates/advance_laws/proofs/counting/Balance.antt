@@ -1,5 +1,5 @@
--- Requests are completions and the counted letters that have still to be done, from both low versions up, and low
--- versions never fall: in runs of apt letters, of every script. Counters are small.
+-- Requests are completions and the counted messages that have still to be done, from both low versions up, and low
+-- versions never fall: in runs of enabled messages, of every script. Counters are small.
 use Rattle.std.proofs.Common.{◌≡◌, ◌≢◌, ◌⊎◌, inl, inr, ℕ, ◌+◌, ◌*◌, ◌<◌, ◌≤◌, ◌&&◌, Bool, true, false, List, [], ◌∷◌, ◌++◌, length, refl, sym, ap, subst, ◌∙◌, arith, Option, Some, None}
 use Rattle.std.specs.Prelude.{if◌then◌else◌, nat_le, nat_lt}
 use Rattle.std.proofs.lemmas.Bool.{cases_eq}

@@ -1,5 +1,5 @@
--- What the rows of a core count: its requests grow by the counted letters that it sends, and its completions by the letter
--- that it does.
+-- What the rows of a core count: its requests grow by the counted messages that it sends, and its completions by the
+-- message that it does.
 use Rattle.std.proofs.Common.{◌≡◌, ℕ, ◌+◌, ◌<◌, ◌≤◌, ◌==◌, ◌&&◌, Bool, true, false, List, [], ◌∷◌, ◌++◌, length, refl, ap, arith, Option, Some, None}
 use Rattle.std.specs.Prelude.{if◌then◌else◌, nat_lt, slice_get}
 use Rattle.std.proofs.lemmas.Bool.Decides.{nat_tests}

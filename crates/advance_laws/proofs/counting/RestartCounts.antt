@@ -1,5 +1,5 @@
 -- The count of a coordinator that forgets: each of its entries is a step of a count, and the version that it counts is open
--- where it wasn't given yet.
+-- if it wasn't given yet.
 use Rattle.std.proofs.Common.{◌≡◌, ℕ, ◌+◌, ◌<◌, ◌≤◌, ◌==◌, Bool, true, false, List, [], ◌∷◌, refl, sym, ap, subst, ◌∙◌, Option, Some, arith}
 use Rattle.std.specs.Prelude.{if◌then◌else◌, max, is_some}
 use Rattle.std.specs.List.{list_all}

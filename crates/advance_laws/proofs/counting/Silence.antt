@@ -1,5 +1,5 @@
--- A version of which no counted letter is outstanding, and in which no root is born, stays so. Counters grow. A version
--- is silent, or a pair has a letter of it.
+-- A version of which no counted message is outstanding, and in which no root is born, stays so. Counters grow. A
+-- version is silent, or a pair has a message of it.
 use Rattle.std.proofs.Common.{if◌then◌else◌, ◌≡◌, ◌≢◌, ◌⊎◌, inl, inr, ℕ, zero, suc, ◌<◌, ◌≤◌, ◌==◌, Bool, true, false, List, [], ◌∷◌, ◌++◌, refl, sym, ap, subst, ◌∙◌, arith, take, drop}
 use Rattle.std.proofs.lemmas.Bool.Decides.{nat_tests}
 use Rattle.letter_types.specs.declared.bodies.Body.{Body}

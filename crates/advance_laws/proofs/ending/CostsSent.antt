@@ -1,6 +1,6 @@
--- What the letters cost that a coordinator that forgets sends. A round that a nudge begins costs 4 entries for each node. Each
--- time that it forgets costs 10 for each node and 3: it asks each node and the client and is answered, it tells the client what
--- has ended, and it may have to do again what costs 8 for each node: two orders and a round.
+-- What the messages cost that a coordinator that forgets sends. A round that a nudge begins costs 4 entries for each
+-- node. Each time that it forgets costs 10 for each node and 3: it asks each node and the client and is answered, it
+-- tells the client what has ended, and it may have to do again what costs 8 for each node: two orders and a round.
 use Rattle.std.proofs.Common.{if◌then◌else◌, ◌≡◌, ◌≢◌, ◌⊎◌, inl, inr, ℕ, ◌+◌, ◌*◌, ◌<◌, ◌≤◌, ◌==◌, Bool, true, false, List, [], ◌∷◌, replicate, refl, sym, ap, subst, ◌∙◌, arith, None}
 use Rattle.std.specs.Prelude.{is_some, max}
 use Rattle.std.specs.List.{list_all}

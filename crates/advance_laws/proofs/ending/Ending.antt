@@ -1,5 +1,5 @@
--- The client hears of each advancement that has ended: where a coordinator that forgets knows how many have, the client has
--- heard of as many, or will by a letter in flight.
+-- The client hears of each advancement that has ended: if a coordinator that forgets knows how many have, the client
+-- has heard of as many, or will by a message in flight.
 use Rattle.std.proofs.Common.{◌≡◌, ◌≢◌, ◌⊎◌, inl, inr, ℕ, ◌+◌, ◌≤◌, Bool, true, false, List, [], ◌∷◌, refl, sym, ap, subst, ◌∙◌, arith}
 use Rattle.std.specs.Prelude.{max, nat_le}
 use Rattle.std.proofs.Math.Nat.{le-max_left, le-max_right}

@@ -1,4 +1,4 @@
--- What the steps of a coordinator that forgets cost, in entries, as letters do: each step is paid for.
+-- What the steps of a coordinator that forgets cost, in entries, as messages do: each step is paid for.
 use Rattle.std.proofs.Common.{if◌then◌else◌, ◌≡◌, ◌⊎◌, inl, inr, ℕ, zero, suc, ◌+◌, ◌*◌, ◌<◌, ◌≤◌, ◌&&◌, not, Bool, true, false, List, [], ◌∷◌, length, set, refl, sym, ap, subst, ◌∙◌, arith, Option, Some, None}
 use Rattle.std.specs.Prelude.{max, is_some, slice_set}
 use Rattle.std.specs.List.{list_all}

@@ -1,5 +1,5 @@
--- A coordinator that forgets hears of each advancement that the client asked for: it wants them all, or a letter in flight asks
--- for them, or it recovers, and what the client tells it in this epoch covers them.
+-- A coordinator that forgets hears of each advancement that the client asked for: it wants them all, or a message in
+-- flight asks for them, or it recovers, and what the client tells it in this epoch covers them.
 use Rattle.std.proofs.Common.{◌≡◌, ◌≢◌, ◌⊎◌, inl, inr, ℕ, zero, suc, ◌+◌, ◌<◌, ◌≤◌, true, List, [], ◌∷◌, take, drop, refl, sym, ap, subst, ◌∙◌, arith, Some}
 use Rattle.std.specs.Prelude.{max, nat_le}
 use Rattle.std.proofs.Math.Nat.{le-max_right}

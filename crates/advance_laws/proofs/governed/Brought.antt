@@ -1,7 +1,6 @@
--- The letter that is brought to a node, which came there now or is one that the node kept. It is outstanding, and meant
--- for the node.
-use Rattle.std.proofs.Common.{◌≡◌, ℕ, ◌<◌, ◌≤◌, true, List, [], ◌∷◌, length, subst, arith, Some}
-use Rattle.std.proofs.lemmas.List.Elements.{recursion_from_All}
+-- The message that is brought to a node, which came there now or is one that the node deferred. It is outstanding, and
+-- meant for the node.
+use Rattle.std.proofs.Common.{◌≡◌, ℕ, ◌<◌, ◌≤◌, true, List, [], ◌∷◌, subst, arith, Some}
 use Rattle.tv_base.specs.declared.numbers.SubNo.{SubNo}
 use Rattle.tv_base.specs.declared.numbers.TreeNo.{TreeNo}
 use Rattle.tx_trees.proofs.SubsOf.{home_below}

@@ -1,6 +1,6 @@
--- What the laws above need of advancements, whichever coordinator a script has: what holds in each run in which every letter
--- that came to a node was apt.
-use Rattle.std.proofs.Common.{◌≡◌, ℕ, ◌<◌, Bool, true, false, List, ◌∷◌, [], sym, ◌∙◌, refl, Some}
+-- What the laws above need of advancements, whichever coordinator a script has: what holds in each run in which every
+-- message that came to a node was enabled.
+use Rattle.std.proofs.Common.{◌≡◌, ℕ, ◌<◌, true, false, List, ◌∷◌, [], sym, ◌∙◌, refl, Some}
 use Rattle.letter_types.specs.Kept.{brought}
 use Rattle.letter_types.specs.declared.bodies.Body.{Body}
 use Rattle.letter_types.specs.declared.bodies.Body.TheVariants.{Go, Order}

@@ -1,4 +1,4 @@
--- What the laws of phases and of counting need of the trees of a script.
+-- What the laws of phases and of counting need of the transactions of a script.
 use Rattle.std.proofs.Common.{◌≡◌, ℕ, ◌<◌, ◌≤◌, List, length, Some, false}
 use Rattle.tv_base.specs.declared.numbers.SubNo.{SubNo}
 use Rattle.tv_base.specs.declared.numbers.TreeNo.{TreeNo}

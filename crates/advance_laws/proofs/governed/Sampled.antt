@@ -1,4 +1,4 @@
--- While the child of the small run is in flight, the balance has a letter in it.
+-- While the child of the small run is in flight, the balance has a message in it.
 use Rattle.std.proofs.Common.{◌≡◌, refl}
 use Rattle.world_model.specs.Sample.{sample, small}
 use Rattle.advance_laws.specs.Balance.{out}

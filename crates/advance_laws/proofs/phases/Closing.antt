@@ -1,4 +1,4 @@
--- Every letter comes in time: a letter of a tree is of a version that its node goes by, and so is an order.
+-- Every message comes in time: a message of a transaction is of a version that its node goes by, and so is an order.
 use Rattle.std.proofs.Common.{if◌then◌else◌, ◌≡◌, ◌⊎◌, inl, inr, ℕ, ◌+◌, ◌<◌, ◌≤◌, ◌||◌, not, Bool, true, false, List, [], ◌∷◌, ◌++◌, refl, sym, ap, subst, ◌∙◌, arith, take, drop, Option, Some, None}
 use Rattle.std.proofs.lemmas.Bool.{or_right}
 use Rattle.item_versions.proofs.Window.{in_window-is}

@@ -1,5 +1,5 @@
 -- The level of a node: its versions, and the orders in flight to it, against the coordinator's phase.
-use Rattle.std.proofs.Common.{◌≡◌, ℕ, ◌+◌, ◌-◌, ◌<◌, ◌≤◌, ◌==◌, true, false, List, ◌∷◌, refl, arith, Option, Some, None, []}
+use Rattle.std.proofs.Common.{◌≡◌, ℕ, ◌+◌, ◌-◌, ◌<◌, ◌≤◌, ◌==◌, true, false, List, refl, Option, Some, None}
 use Rattle.std.specs.Prelude.{slice_get}
 use Rattle.letter_types.specs.declared.bodies.Body.{Body}
 use Rattle.letter_types.specs.declared.bodies.Body.TheVariants.{Sub as SubLetter, Turn, Show, Sweep, Order}

@@ -1,4 +1,4 @@
--- What an entry makes of the versions in letters.
+-- What an entry makes of the versions in messages.
 use Rattle.std.proofs.Common.{if◌then◌else◌, ◌≡◌, ◌≢◌, ℕ, ◌+◌, ◌≤◌, ◌==◌, Bool, true, false, List, [], ◌∷◌, ◌++◌, refl, sym, ap, subst, ◌∙◌, arith, take, drop}
 use Rattle.std.proofs.lemmas.Bool.Decides.{nat_tests}
 use Rattle.tv_base.specs.declared.numbers.TreeNo.{TreeNo}
@@ -31,7 +31,7 @@ use Rattle.advance_laws.specs.Phases.{Stage, Told, TurnStage, ShowStage, SweepSt
 use Rattle.advance_laws.proofs.phases.Outcomes.{Outcome, Rests, Queues, Flags, Turns, Acks, LastTurned, LastShown, Finishes, GoesOn, Resumes, KeepsDone, KeepsAsked, Agrees, Recounts, Pauses, asked_kept, finished, gone_on, round_begun}
 use Rattle.advance_laws.proofs.phases.Small.{outcome_in}
 use Rattle.advance_laws.proofs.recovery.Tokens.{told}
-use Rattle.advance_laws.proofs.phases.LevelAt.{LevelBody, Levels, order, orders_no_trees, tells}
+use Rattle.advance_laws.proofs.phases.LevelAt.{LevelBody, Levels, order, orders_no_trees}
 use Rattle.advance_laws.proofs.governed.Brought.{each_of_brought}
 use Rattle.advance_laws.proofs.counting.Letters.{waits_in_flight}
 use Rattle.advance_laws.proofs.recovery.Heeds.{IsWake}

@@ -1,4 +1,4 @@
--- What a step of the coordinator can be, where its numbers can still grow.
+-- What a step of the coordinator can be, if its numbers can still grow.
 use Rattle.std.proofs.Common.{if◌then◌else◌, ◌≡◌, ◌⊎◌, inl, inr, ℕ, ◌+◌, ◌-◌, ◌^◌, ◌<◌, ◌==◌, ◌&&◌, not, Bool, true, false, List, [], ◌∷◌, refl, sym, ap, subst, ◌∙◌, arith, Option, Some, None}
 use Rattle.tv_base.specs.declared.numbers.Version.{Version}
 use Rattle.tv_base.specs.Outside.{one_more}

@@ -1,4 +1,4 @@
--- The round that a coordinator counts has a place for each node; no letter is of a later round; and what the rows of
+-- The round that a coordinator counts has a place for each node; no message is of a later round; and what the rows of
 -- completions in flight say.
 use Rattle.std.proofs.Common.{if◌then◌else◌, ◌≡◌, ◌≢◌, ◌⊎◌, inl, inr, ℕ, zero, suc, ◌<◌, ◌≤◌, Bool, true, false, List, [], ◌∷◌, ◌++◌, length, refl, sym, ap, subst, ◌∙◌, arith, Some, None}
 use Rattle.std.specs.Prelude.{slice_index}
@@ -22,10 +22,9 @@ use Rattle.world_model.specs.Counts.{Each}
 use Rattle.world_model.specs.Runs.{node_in, in_flight, IsStepRun}
 use Rattle.world_model.specs.AllApt.{AllApt}
 use Rattle.world_model.proofs.Every.{each_map, each_step, each_taken}
-use Rattle.advance_laws.proofs.governed.Lawful.{IsLawful, IsTreeLawful}
+use Rattle.advance_laws.proofs.governed.Lawful.{IsTreeLawful}
 use Rattle.world_model.proofs.Orders.{to_nodes_each}
 use Rattle.advance_laws.proofs.counting.Balance.{apt_low_rises}
-use Rattle.advance_laws.proofs.counting.CoordinatorCounts.{Always, coordinator_counts, count_in}
 use Rattle.advance_laws.proofs.counting.Counting.{Count, CountStep, Denies, Holds, IsCounting, IsNudged, InRound, Lasts, Leaves, Begins, TakesDone, TakesRequests, begun, count_asked, count_done, none_in_round, Premise}
 use Rattle.advance_laws.proofs.right.Sending.{AllPlain, IsApart, IsPlain, IsRowless, apart_plain, Sending, SendsApart, SendsDone, SendsAsked, SendsOrders, sending}
 use Rattle.advance_laws.proofs.counting.Silence.{below_or_at, done_grows}

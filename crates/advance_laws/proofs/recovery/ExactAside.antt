@@ -23,7 +23,6 @@ use Rattle.world_model.specs.declared.restarting.RestartPhase.{RestartPhase}
 use Rattle.world_model.specs.declared.restarting.RestartPhase.TheVariants.{Idle, Recovering, Doing, Counting, Paused}
 use Rattle.world_model.proofs.EachOutstanding.{each_waits}
 use Rattle.world_model.proofs.Every.{each_both, each_map, each_step, node_kept}
-use Rattle.world_model.proofs.Orders.{of}
 use Rattle.world_model.specs.Meant.{IsLetterMeant, IsMeant}
 use Rattle.world_model.proofs.Meant.{letters_are_meant}
 use Rattle.advance_laws.proofs.recovery.Heeds.{Answers, Heed, Leaves, Obeys, Repeats, turned_to}

@@ -1,5 +1,5 @@
--- While a coordinator that forgets recovers, each node and the client is asked by a letter in flight, or answers by one, or its
--- answer is kept; and not all are. So some letter is in flight.
+-- While a coordinator that forgets recovers, each node and the client is asked by a message in flight, or answers by
+-- one, or its answer is kept; and not all are. So some message is in flight.
 use Rattle.std.proofs.Common.{◌≡◌, ◌≢◌, ◌⊎◌, inl, inr, ℕ, zero, suc, ◌+◌, ◌<◌, ◌≤◌, ◌==◌, ◌&&◌, not, Bool, true, false, List, [], ◌∷◌, length, replicate, refl, sym, ap, subst, ◌∙◌, arith, Option, Some, None}
 use Rattle.std.specs.Prelude.{is_some, slice_get, slice_set}
 use Rattle.std.specs.List.{list_all}

@@ -1,4 +1,4 @@
--- A letter that is no order and no question of a coordinator that forgets leaves its node in the epoch in which it is.
+-- A message that is no order and no question of a coordinator that forgets leaves its node in the epoch in which it is.
 use Rattle.std.proofs.Common.{◌≡◌, ℕ, Bool, true, false, List, ◌∷◌, refl, Option, Some, None, arith}
 use Rattle.letter_types.specs.declared.bodies.Body.{Body}
 use Rattle.letter_types.specs.declared.bodies.Body.TheVariants.{Ask, Order}

@@ -1,4 +1,4 @@
--- What is left to show of an entry of the coordinator, once its letters are as they should be.
+-- What is left to show of an entry of the coordinator, once its messages are as they should be.
 use Rattle.std.proofs.Common.{◌≡◌, ◌⊎◌, inl, inr, ℕ, ◌+◌, ◌<◌, ◌≤◌, List, ◌∷◌, ap, arith}
 use Rattle.std.proofs.lemmas.Bool.{cases_lt}
 use Rattle.letter_types.specs.declared.bodies.Body.{Body}

@@ -1,4 +1,4 @@
--- An entry of the coordinator leaves nodes and the client, and letters that it doesn't take.
+-- An entry of the coordinator leaves nodes and the client, and messages that it doesn't take.
 use Rattle.std.proofs.Common.{◌≡◌, ◌⊎◌, inl, inr, ℕ, zero, suc, ◌+◌, ◌<◌, ◌≤◌, List, [], ◌∷◌, refl, sym, ap, subst, ◌∙◌, arith}
 use Rattle.std.specs.Prelude.{take}
 use Rattle.letter_types.specs.Letters.{drop_id, letters_of}

@@ -1,5 +1,5 @@
--- Letters in flight after an entry of the client or of a node: those that were there stay right, and those that it sends are
--- right.
+-- Messages in flight after an entry of the client or of a node: those that were there stay right, and those that it
+-- sends are right.
 use Rattle.std.proofs.Common.{◌≡◌, ℕ, ◌<◌, ◌≤◌, List, ◌∷◌, sym, ap, subst, ◌∙◌, arith}
 use Rattle.tv_base.specs.declared.numbers.Version.{Version}
 use Rattle.letter_types.specs.declared.bodies.Body.{Body}

@@ -1,4 +1,4 @@
--- Entries of the coordinator by which nodes are told something, or by which it begins to count: no letter of its epoch
+-- Entries of the coordinator by which nodes are told something, or by which it begins to count: no message of its epoch
 -- is left then.
 use Rattle.std.proofs.Common.{◌≡◌, ℕ, zero, suc, ◌+◌, ◌<◌, ◌≤◌, List, [], ◌∷◌, ◌++◌, refl, sym, ap, subst, ◌∙◌, arith}
 use Rattle.tv_base.specs.declared.numbers.Version.{Version}

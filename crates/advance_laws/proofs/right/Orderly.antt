@@ -1,5 +1,5 @@
--- A coordinator that forgets is idle only where it wants no more advancements than have ended, and misses an acknowledgement at
--- any time.
+-- A coordinator that forgets is idle only if it wants no more advancements than have ended, and misses an
+-- acknowledgement at any time.
 use Rattle.std.proofs.Common.{◌≡◌, ℕ, ◌+◌, ◌<◌, ◌≤◌, ◌==◌, Bool, true, false, List, [], ◌∷◌, sym, ap, subst, ◌∙◌, arith}
 use Rattle.std.specs.Prelude.{if◌then◌else◌, max}
 use Rattle.std.proofs.lemmas.Bool.Decides.{nat_tests}

@@ -1,5 +1,5 @@
--- Letters that were as they should be are so after an entry of the coordinator: where it gives nothing new and waits
--- for what it waited for, or where none of its epoch is left.
+-- Messages that were as they should be are so after an entry of the coordinator: if it gives nothing new and waits
+-- for what it waited for, or if none of its epoch is left.
 use Rattle.std.proofs.Common.{◌≡◌, ℕ, ◌<◌, ◌≤◌, ◌==◌, List, ◌∷◌, subst, ◌∙◌, arith}
 use Rattle.letter_types.specs.declared.bodies.Body.{Body}
 use Rattle.letter_types.specs.declared.bodies.Body.TheVariants.{Go, Advanced, Ask, Numbers, Obeyed, Order, Wanted}

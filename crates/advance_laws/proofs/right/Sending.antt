@@ -1,6 +1,6 @@
 -- What an entry sends, by four kinds of entries: one that sends no row, no order and asks for none; one that tells a row of
 -- completions, or of requests; and one of the coordinator, which sends no row.
-use Rattle.std.proofs.Common.{◌≡◌, ◌≢◌, ℕ, ◌<◌, List, [], ◌∷◌, ◌++◌, sym, ap, subst, ◌∙◌, arith, take, drop, ◌⊎◌, inl, inr}
+use Rattle.std.proofs.Common.{◌≡◌, ◌≢◌, ℕ, ◌<◌, List, [], ◌∷◌, ◌++◌, sym, ap, subst, ◌∙◌, arith, take, drop, inl, inr}
 use Rattle.letter_types.specs.declared.bodies.Body.{Body}
 use Rattle.letter_types.specs.declared.bodies.Body.TheVariants.{Go, Root, Sub as SubLetter, Done, Reply, Advanced, Turn, Show, Sweep, Turned, Shown, Swept, AskDone, AskAsked, DoneRow, AskedRow, Decide, Decided, Release, Wake, Order as OrderLetter, Obeyed, Ask}
 use Rattle.letter_types.specs.declared.entries.Entry.{Entry}

@@ -1,4 +1,4 @@
--- The deeds of trees that acts close, noted on the items' worths, and how that is taken back.
+-- The deeds of transactions that acts close, noted on the items' worths, and how that is taken back.
 use Rattle.std.specs.Prelude.{if◌then◌else◌, ◌≡◌, ◌==◌, Bool, true, ℕ, List, [], ◌∷◌, ◌++◌, map, Decides, IsTrue, Option, Some, None, slice_get, slice_set}
 use Rattle.std.specs.List.{AllByRecursion}
 use Rattle.tv_base.specs.declared.numbers.TreeNo.{TreeNo}
@@ -70,24 +70,25 @@ pub record HasNoted (more : ℕ → List Noted) (olds news : List WorthsData) : 
 abbrev pub one_noted : ℕ → Noted → ℕ → List Noted
 one_noted i n x = if i == x then n ∷ [] else []
 
--- one deed on an item; the deeds of a tree's subtransactions, in version v
+-- one deed on an item; the deeds of a transaction's subtransactions, in version v
 abbrev pub HasNotedOne : ItemNo → ℕ → Deed → List WorthsData → List WorthsData → Type 0
 HasNotedOne item v deed olds news = HasNoted (one_noted item.0 (record { version = v; deed = deed })) olds news
 
 abbrev pub HasNotedSubs : ℕ → List Sub → List WorthsData → List WorthsData → Type 0
 HasNotedSubs v subs olds news = HasNoted (λ (x : ℕ). subs_noted v x subs) olds news
 
--- the deeds of a tree that is closed, if there is one
+-- the deeds of a transaction that is closed, if there is one
 abbrev pub closed_noted : ScriptData → List Place → ℕ → Option TreeNo → List Noted
 closed_noted s xs x None = []
 closed_noted s xs x (Some t) = tree_noted s xs x t.0
 
--- those of a tree that is closed, by whatever acts these are the tallies of
+-- those of a transaction that is closed, by whatever acts these are the tallies of
 abbrev pub HasNotedClosed : ScriptData → BoardData → Option TreeNo → List WorthsData → List WorthsData → Type 0
 HasNotedClosed s b closed olds news =
     OfBoard s b (λ xs. HasNoted (λ (x : ℕ). closed_noted s xs x closed) olds news)
 
--- the act y after the acts xs was a move, this tree is closed by it, and these are the tallies after it and later acts
+-- the act y after the acts xs was a move, this transaction is closed by it, and these are the tallies after it and
+-- later acts
 pub record IsClosing (s : ScriptData) (xs later : List Place) (y : Place) (closed : Option TreeNo) (b : BoardData) : Type 0 where
   pub move : IsMoveButCause s [] xs y
   pub closes : tree_number closed ≡ closes_in s (xs ++ y ∷ []) y.act

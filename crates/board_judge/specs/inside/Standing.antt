@@ -18,17 +18,17 @@ use Rattle.board_judge.specs.declared.users.User.{User}
 use Rattle.board_judge.specs.inside.Users.{first_tree, newer_item, stands_against}
 use Rattle.board_judge.specs.declared.at_once.Asked.{Asked}
 
--- the tree of the first of these operations that stands at node p against what is needed
+-- the transaction of the first of these operations that stands at node p against what is needed
 abbrev pub NamesFirst : ScriptData → BoardData → ℕ → Need → List User → Option TreeNo → Type 0
 NamesFirst s b p need users found =
     OfBoard s b (λ xs. tree_number found ≡ first_tree (stands_against s xs p need.tree.0 need.mode) users)
 
--- the tree of least number that has the item there against what is needed
+-- the transaction of least number that has the item there against what is needed
 abbrev pub NamesHolder : ScriptData → BoardData → UsersData → ℕ → Need → ItemNo → Option TreeNo → Type 0
 NamesHolder s b u p need item found = OfView s b u (λ xs. item.0 < length s.items → MayNeed s need.mode
     → tree_number found ≡ holder_of s xs p need.tree.0 item.0 need.mode)
 
--- the lock that is in the way of these operations of tree t, as a cause
+-- the lock that is in the way of these operations of transaction t, as a cause
 abbrev pub NamesConflict : ScriptData → BoardData → UsersData → ℕ → ℕ → List SubOp → Option Cause → Type 0
 NamesConflict s b u p t ops cause =
     OfView s b u (λ xs. AreThere s ops → MayLook s ops → cause ≡ conflict_of s xs p t ops)
@@ -52,6 +52,6 @@ abbrev pub NamesNewerOf : ScriptData → BoardData → UsersData → ℕ → ℕ
 NamesNewerOf s b u p v op cause =
     OfView s b u (λ xs. op.item.0 < length s.items → has_strict s ≡ true → cause ≡ newer_item s xs p v op)
 
--- an entry with these acts at node p does at once what the letter of this body asks for
+-- an entry with these acts at node p does at once what the message of this body asks for
 abbrev pub DecidesAtOnce : ScriptData → BoardData → UsersData → ℕ → Body → List Act → Bool → Type 0
 DecidesAtOnce s b u p body acts once = OfView s b u (λ xs. Decides once (IsDoneAtOnce s xs p body acts))

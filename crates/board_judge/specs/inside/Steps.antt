@@ -23,7 +23,7 @@ pub record IsStepped (s : ScriptData) (h : List Entry) (xs : List Place) (x : Pl
   pub closes : tree_number st.noted.closed ≡ closes_in s (xs ++ x ∷ []) x.act
   pub board : IsBoardOf s (xs ++ x ∷ []) b
 
--- what the steps say of the trees that these acts close, after the acts xs
+-- what the steps say of the transactions that these acts close, after the acts xs
 abbrev pub AreClosings : ScriptData → List Place → List Place → List NotedStep → Type 0
 AreClosings s xs [] [] = Unit {0}
 AreClosings s xs [] (st ∷ sts) = ⊥

@@ -1,5 +1,5 @@
--- Who has which item in which mode, by what trees have done and voted: the operations on an item, tree by tree, and
--- which of them stand.
+-- Who has which item in which mode, by what transactions have done and voted: the operations on an item, transaction by
+-- transaction, and which of them stand.
 use Rattle.std.specs.Prelude.{if◌then◌else◌, ℕ, suc, max, Bool, true, false, not, ◌==◌, ◌&&◌, ◌||◌, List, [], ◌∷◌, ◌++◌, ◌≡◌, ◌<◌, length, get_or, Option, Some, None, min, nat_lt, slice_get, take}
 use Rattle.std.specs.List.{list_any}
 use Rattle.tv_base.specs.declared.numbers.TreeNo.{TreeNo}
@@ -18,21 +18,22 @@ use Rattle.board_rules.specs.Histories.{Place, version_in, version_or, was_appli
 use Rattle.board_rules.specs.Stands.{modes_on, newest_of, overwrites, voted_yes, was_freed}
 use Rattle.board_judge.specs.declared.users.User.{User}
 
--- subtransaction j of tree k has taken its items: an update tree's was done, or it has voted yes
+-- subtransaction j of transaction k has taken its items: an update transaction's was done, or it has voted yes
 abbrev pub has_taken : ScriptData → List Place → ℕ → ℕ → Bool
 has_taken s xs k j = (updates s k && was_done k j xs) || voted_yes k j xs
 
--- the operation was done in an update tree
+-- the operation was done in an update transaction
 abbrev pub was_updated : ScriptData → List Place → User → Bool
 was_updated s xs u = updates s u.tree.0 && was_done u.tree.0 u.sub.0 xs
 
--- of these subtransactions of tree k, the first of which is number j, one has taken item x in a mode that passes
+-- of these subtransactions of transaction k, the first of which is number j, one has taken item x in a mode that passes
 abbrev pub any_taken : ScriptData → List Place → ℕ → ℕ → (Mode → Bool) → ℕ → List Sub → Bool
 any_taken s xs x k test j [] = false
 any_taken s xs x k test j (sub ∷ subs) =
     (has_taken s xs k j && list_any test (modes_on x sub.ops)) || any_taken s xs x k test (suc j) subs
 
--- the operations of a script's trees of a kind on item x, in order of trees, subtransactions and operations
+-- the operations of a script's transactions of a kind on item x, in order of transactions, subtransactions and
+-- operations
 abbrev pub user_of : ℕ → ℕ → SubOp → User
 user_of t j o = record { tree = record { 0 = t }; sub = record { 0 = j }; mode = mode_wanted o.deed }
 
@@ -54,17 +55,17 @@ trees_users of t x (tree ∷ trees) = tree_users of t x tree ++ trees_users of (
 abbrev pub users_of : (TreeKind → Bool) → ScriptData → ℕ → List User
 users_of of s x = trees_users of 0 x s.trees
 
--- what tree k has at node p was let go
+-- what transaction k has at node p was let go
 abbrev pub was_let_go : ℕ → ℕ → List Place → Bool
 was_let_go k p xs = was_freed k p xs || was_applied k p xs
 
--- the operation stands at node p against tree t, which needs its item in this mode
+-- the operation stands at node p against transaction t, which needs its item in this mode
 abbrev pub stands_against : ScriptData → List Place → ℕ → ℕ → Mode → User → Bool
 stands_against s xs p t mode u =
     not (u.tree.0 == t)
     && (not (was_let_go u.tree.0 p xs) && (has_taken s xs u.tree.0 u.sub.0 && modes_conflict mode u.mode))
 
--- tree k is there, and is of this kind
+-- transaction k is there, and is of this kind
 abbrev pub is_tree_of : (TreeKind → Bool) → ScriptData → ℕ → Bool
 is_tree_of of s k = elim (slice_get s.trees k) [ Some tree ↦ of tree.kind | None ↦ false ]
 
@@ -85,13 +86,13 @@ is_mark Mark = true
 is_mark Look = false
 is_mark Hold = false
 
--- the tree of the first operation that passes
+-- the transaction of the first operation that passes
 abbrev pub first_tree : (User → Bool) → List User → Option ℕ
 first_tree test [] = None
 first_tree test (u ∷ us) = if test u then Some u.tree.0 else first_tree test us
 
--- the operation has written its item, which is at node p: it changes it, and was done in an update tree, or its tree's
--- commit was applied there
+-- the operation has written its item, which is at node p: it changes it, and was done in an update transaction, or its
+-- transaction's commit was applied there
 abbrev pub changes_in : Mode → Bool
 changes_in Look = false
 changes_in Mark = true
@@ -102,7 +103,7 @@ has_written s xs p u =
     changes_in u.mode
     && ((updates s u.tree.0 && was_done u.tree.0 u.sub.0 xs) || (was_decided_as u.tree.0 true xs && was_applied u.tree.0 p xs))
 
--- the greatest version of a tree whose operation has written
+-- the greatest version of a transaction whose operation has written
 abbrev pub version_by : List Place → User → ℕ
 version_by xs u = version_or 0 (version_in u.tree.0 xs)
 
@@ -127,21 +128,22 @@ pub record HasMore (more : ℕ → List User) (olds news : List (List User)) : T
   pub count : length news ≡ length olds
   pub each : (x : ℕ) → x < length olds → get_or news x [] ≡ get_or olds x [] ++ more x
 
--- there are so many lists, and nothing is in them
+-- there are that many lists, and nothing is in them
 pub record HaveNoUsers (items : ℕ) (lists : List (List User)) : Type 0 where
   pub count : length lists ≡ items
   pub each : (x : ℕ) → get_or lists x [] ≡ []
 
--- the kind of the trees that are meant
+-- the kind of the transactions that are meant
 abbrev pub is_meant : Bool → TreeKind → Bool
 is_meant strict k = if strict then is_strict k else is_update k
 
--- each list has the tree's operations on its item more at its end, if the tree is of the kind that is meant
+-- each list has the transaction's operations on its item more at its end, if the transaction is of the kind that is
+-- meant
 abbrev pub HasTreeMore : Bool → ℕ → Tree → List (List User) → List (List User) → Type 0
 HasTreeMore strict t tree olds news = HasMore (λ (x : ℕ). tree_users (is_meant strict) t x tree) olds news
 
--- for each item they are the operations on it of the script's strict trees, or of its update trees: of the first n
--- trees, and of all
+-- for each item they are the operations on it of the script's strict transactions, or of its update transactions: of
+-- the first n transactions, and of all
 pub record AreUsersTo (s : ScriptData) (strict : Bool) (n : ℕ) (lists : List (List User)) : Type 0 where
   pub count : length lists ≡ length s.items
   pub each : (x : ℕ) → x < length lists → get_or lists x [] ≡ trees_users (is_meant strict) 0 x (take n s.trees)

@@ -52,7 +52,7 @@ DecidesMove basis b ws x moves = OfMidway basis b ws (λ h xs. Decides moves (Is
 abbrev pub IsNoMove : Basis → BoardData → List WorthsData → Place → Type 0
 IsNoMove basis b ws x = OfMidway basis b ws (λ h xs. IsMove basis.script.now h xs x → ⊥)
 
--- why a subtransaction of a strict tree has to vote no there, at node p, if it has to
+-- why a subtransaction of a strict transaction has to vote no there, at node p, if it has to
 abbrev pub IsCauseThere : Basis → BoardData → List WorthsData → ℕ → Asked → Option Cause → Type 0
 IsCauseThere basis b ws p asked cause = OfMidway basis b ws (λ h xs. is_strict_tree basis.script.now asked.tree.0 ≡ true
     → cause ≡ cause_of basis.script.now h xs p asked.tree.0 (ops_of basis.script.now asked.tree.0 asked.sub.0))
@@ -101,7 +101,7 @@ IsRightRead s upto (Did t k values) = IsRightAct s [] upto (Did t k values)
 IsRightRead s upto Finished = Unit {0}
 IsRightRead s upto _ = Unit {0}
 
--- the act's tree has the same version after these acts and after those
+-- the act's transaction has the same version after these acts and after those
 abbrev pub HasVersions : List Place → List Place → Act → Type 0
 HasVersions xs upto (Did t k values) = version_in t.0 upto ≡ version_in t.0 xs
 HasVersions xs upto Finished = Unit {0}
@@ -111,8 +111,8 @@ HasVersions xs upto _ = Unit {0}
 abbrev pub OfBoth : ScriptData → BoardData → List WorthsData → (List Place → List Place → Type 0) → Type 0
 OfBoth s b ws P = (xs upto : List Place) → IsBoardOf s xs b → AreKnown s upto ws → P xs upto
 
--- the act shows what was worth after those acts, if it is a read tree's; and these values are what the subtransaction's
--- gets were worth after them
+-- the act shows what was worth after those acts, if it is a read transaction's; and these values are what the
+-- subtransaction's gets were worth after them
 abbrev pub DecidesRead : ScriptData → BoardData → List WorthsData → Act → Bool → Type 0
 DecidesRead s b ws act right =
     OfBoth s b ws (λ xs upto. HasVersions xs upto act → Decides right (IsRightRead s upto act))

@@ -11,7 +11,7 @@ use Rattle.board_model.specs.declared.standings.Standing.{Standing}
 use Rattle.board_rules.specs.Serial.{is_version}
 use Rattle.board_rules.specs.Worth.{changes}
 
--- the subtransactions of tree t of these
+-- the subtransactions of transaction t of these
 abbrev pub subs_in : List Tree → ℕ → List Sub
 subs_in ts t = elim (slice_get ts t) [ Some tree ↦ tree.subs | None ↦ [] ]
 
@@ -20,7 +20,7 @@ abbrev pub no_marks : List ItemRow → List Bool
 no_marks [] = []
 no_marks (row ∷ rows) = false ∷ no_marks rows
 
--- the items that the operations change marked, where they are there
+-- the items that the operations change marked, if they are there
 abbrev pub mark_op : SubOp → List Bool → List Bool
 mark_op o ms = if changes o.deed then slice_set ms o.item.0 true else ms
 
@@ -32,17 +32,17 @@ abbrev pub mark_subs : List Sub → List Bool → List Bool
 mark_subs [] ms = ms
 mark_subs (k ∷ ks) ms = mark_subs ks (mark_ops k.ops ms)
 
--- a tree of this kind writes, by whether it was decided to commit
+-- a transaction of this kind writes, by whether it was decided to commit
 abbrev pub may_write_by : TreeKind → Bool → Bool
 may_write_by Update committed = true
 may_write_by Read committed = false
 may_write_by Strict committed = committed
 
--- a tree of this kind and standing is of version v, and writes
+-- a transaction of this kind and standing is of version v, and writes
 abbrev pub writes_by : ℕ → TreeKind → Standing → Bool
 writes_by v kind st = is_version v st.born && may_write_by kind st.committed
 
--- the items that such trees change marked
+-- the items that such transactions change marked
 abbrev pub mark_trees : ℕ → List Tree → List Standing → List Bool → List Bool
 mark_trees v [] sts ms = ms
 mark_trees v (t ∷ ts) [] ms = ms

@@ -1,5 +1,5 @@
--- What is kept of the votes of trees while a history is gone over. These are the definitions that private code alone
--- cites.
+-- What is kept of the votes of transactions while a history is gone over. These are the definitions that private code
+-- alone cites.
 use Rattle.std.specs.Prelude.{List, [], ◌∷◌, ◌++◌}
 use Rattle.letter_types.specs.declared.acts.Act.{Act}
 use Rattle.letter_types.specs.declared.acts.Act.TheVariants.{Voted, Decided, Finished}
@@ -7,7 +7,7 @@ use Rattle.letter_types.specs.declared.entries.Entry.{Entry}
 use Rattle.tx_trees.specs.declared.parts.Tree.{Tree}
 use Rattle.board_model.specs.inside.Tallies.{on_row}
 
--- an empty row for each tree
+-- an empty row for each transaction
 abbrev pub no_ballots : List Tree → List (List Act)
 no_ballots [] = []
 no_ballots (tree ∷ ts) = [] ∷ no_ballots ts
@@ -16,7 +16,7 @@ no_ballots (tree ∷ ts) = [] ∷ no_ballots ts
 abbrev pub with_act : Act → List Act → List Act
 with_act a acts = acts ++ a ∷ []
 
--- the rows with an act more, where it tells of a tree that has a row
+-- the rows with an act more, if it tells of a transaction that has a row
 abbrev pub ballots_with_act : Act → List (List Act) → List (List Act)
 ballots_with_act (Voted t k vote) rows = on_row t.0 (with_act (Voted t k vote)) rows
 ballots_with_act (Decided t commit) rows = on_row t.0 (with_act (Decided t commit)) rows

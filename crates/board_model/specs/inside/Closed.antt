@@ -1,5 +1,5 @@
--- What is kept of the trees that were closed while a history is gone over from its end. These are the definitions
--- that private code alone cites.
+-- What is kept of the transactions that were closed while a history is gone over from its end. These are the
+-- definitions that private code alone cites.
 use Rattle.std.specs.Prelude.{List, [], ◌∷◌, if◌then◌else◌, ℕ, Bool, true, false, ◌&&◌, ◌++◌, get_or, replicate, slice_set}
 use Rattle.tx_trees.specs.ScriptData.{ScriptData, updates}
 use Rattle.board_rules.specs.Histories.{Place, is_strict_tree}
@@ -7,7 +7,7 @@ use Rattle.tv_base.specs.declared.numbers.TreeNo.{TreeNo}
 use Rattle.letter_types.specs.declared.acts.Act.{Act}
 use Rattle.letter_types.specs.declared.acts.Act.TheVariants.{Did, Decided, Finished}
 
--- a mark for each tree that was closed, and these trees, the last one first
+-- a mark for each transaction that was closed, and these transactions, the last one first
 pub record Closed : Type 0 where
   pub marks : List Bool
   pub order : List TreeNo
@@ -15,7 +15,7 @@ pub record Closed : Type 0 where
 abbrev pub none_closed : ℕ → Closed
 none_closed n = record { marks = replicate n false; order = [] }
 
--- a tree before those that were closed later, unless it is marked
+-- a transaction before those that were closed later, unless it is marked
 abbrev pub with_tree_closed : TreeNo → Closed → Closed
 with_tree_closed t c =
     if get_or c.marks t.0 false then c else record { marks = slice_set c.marks t.0 true; order = c.order ++ t ∷ [] }

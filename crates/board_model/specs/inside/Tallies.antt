@@ -1,5 +1,5 @@
--- What is kept of each tree while the acts of a history are gone over from the last one. Only the code of the report
--- cites it.
+-- What is kept of each transaction while the acts of a history are gone over from the last one. Only the code of the
+-- report cites it.
 use Rattle.std.specs.Prelude.{ℕ, zero, suc, Bool, true, false, ◌&&◌, ◌||◌, List, [], ◌∷◌, length, Some, None, replicate, slice_set, get_or, is_some}
 use Rattle.tv_base.specs.declared.numbers.Version.{Version}
 use Rattle.letter_types.specs.declared.acts.Act.{Act}
@@ -15,7 +15,7 @@ use Rattle.board_model.specs.declared.tallies.Tally.{Tally}
 use Rattle.tv_base.specs.declared.numbers.TheConstants.{MOST_NODES, MOST_SUBS_OF_TREE}
 use Rattle.board_rules.specs.Histories.{Place}
 
--- nothing is known of the tree yet
+-- nothing is known of the transaction yet
 abbrev pub blank : Tally
 blank = record {
   born = None;
@@ -43,7 +43,7 @@ with_news (news.Done k) = with_sub_done k.0
 with_news (news.Decided commit) = with_decided commit
 with_news (news.Applied p) = with_applied p.0
 
--- the row of tree t changed, where it is there
+-- the row of transaction t changed, if it is there
 abbrev pub on_row : {A : Type 0} → ℕ → (A → A) → List A → List A
 on_row t f [] = []
 on_row zero f (row ∷ rows) = f row ∷ rows
@@ -78,7 +78,7 @@ is_through_by Strict subs row = all_met subs row.applied
 is_through_by Update subs row = all_marked (length subs) row.done
 is_through_by Read subs row = all_marked (length subs) row.done
 
--- what a row says of its tree
+-- what a row says of its transaction
 abbrev pub standing_by : Tree → Tally → Standing
 standing_by tree row =
     record {

@@ -8,7 +8,7 @@ use Rattle.board_tallies.specs.GateRows.{GatesData}
 use Rattle.board_tallies.specs.declared.gates.RowGate.{RowGate}
 use Rattle.board_tallies.specs.declared.numbers.Numbers.{Numbers}
 
--- a gate that is there is open: so many trees are whole, and every node has collected to so many versions
+-- a gate that is there is open: that many transactions are complete, and every node has collected to that many versions
 abbrev pub is_open_gate : Option RowGate → BoardData → Bool
 is_open_gate None b = false
 is_open_gate (Some gate) b =
@@ -18,16 +18,16 @@ is_open_gate (Some gate) b =
 abbrev pub gate_to : List RowGate → ℕ → Option RowGate
 gate_to gates v = if nat_le 2 v then slice_get gates (v - 2) else None
 
--- a node has gone through so many advancements
+-- a node has gone through that many advancements
 abbrev pub has_gone : ℕ → Numbers → Bool
 has_gone asked n = (n.update.0 == asked + 1) && (n.read.0 == asked) && (n.low.0 == asked)
 
--- the client of so many nodes may finish
+-- the client of that many nodes may finish
 abbrev pub may_finish : ℕ → ℕ → BoardData → ℕ → Bool
 may_finish count asked b p =
     (p == count + 1) && not b.finished && (b.passed == length b.trees) && list_all (has_gone asked) b.nodes
 
--- the act of actor p keeps to a script of so many nodes and advancements
+-- the act of actor p keeps to a script of that many nodes and advancements
 abbrev pub keeps_by : GatesData → BoardData → ℕ → ℕ → ℕ → Act → Bool
 keeps_by g b count asked p (Born t v) = is_open_gate (slice_get g.trees t.0) b
 keeps_by g b count asked p (Turned v) = is_open_gate (gate_to g.advances v.0) b

@@ -1,4 +1,4 @@
--- The marks of a tree's state, by what they are of.
+-- The marks of a transaction's state, by what they are of.
 use Rattle.std.specs.Prelude.{Bool, List}
 use Rattle.board_tallies.specs.declared.states.Marked.{Marked}
 use Rattle.board_tallies.specs.declared.states.Marked.TheVariants as marked

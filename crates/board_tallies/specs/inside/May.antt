@@ -29,14 +29,14 @@ takes_turn subs had k p =
       | None ↦ false
     ]
 
--- the version that a tree of this kind takes at a node of these numbers
+-- the version that a transaction of this kind takes at a node of these numbers
 abbrev pub takes_version : TreeKind → Numbers → ℕ → Bool
 takes_version kinds.Update n v = v == n.update.0
 takes_version kinds.Read n v = v == n.read.0
 takes_version kinds.Strict n v = (v == n.update.0) && (v == n.read.0 + 1)
 
--- the tests of acts at node p, whose numbers are n, that are of a tree in this state: it isn't born, and its home is the
--- node
+-- the tests of acts at node p, whose numbers are n, that are of a transaction in this state: it isn't born, and its
+-- home is the node
 abbrev pub may_begin : Tree → TreeState → ℕ → Bool
 may_begin tree st p = runs_at tree.subs 0 p && is_none st.born
 
@@ -109,7 +109,7 @@ may_by_node nodes ps p (Swept v) = may_sweep nodes ps p v.0
 may_by_node nodes ps p Finished = true
 may_by_node nodes ps p _ = true
 
--- the tree whose state has a say in the act
+-- the transaction whose state has a say in the act
 abbrev pub tree_of : Act → Option TreeNo
 tree_of (Born t v) = Some t
 tree_of (Waits t u r) = Some t

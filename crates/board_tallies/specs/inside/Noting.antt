@@ -1,4 +1,4 @@
--- What an act makes of the numbers of its node and of the state of its tree, and how that is taken back.
+-- What an act makes of the numbers of its node and of the state of its transaction, and how that is taken back.
 use Rattle.std.specs.Prelude.{if◌then◌else◌, ℕ, Bool, true, false, not, ◌&&◌, ◌||◌, ◌≡◌, ◌≤◌, ◌<◌, List, [], length, replicate, IsTrue, Option, Some, None, get_or, slice_set, slice_get}
 use Rattle.std.specs.Option.{option_or, unwrap_or}
 use Rattle.board_rules.specs.Moves.{showed_to, swept_to, turned_to}
@@ -38,7 +38,7 @@ abbrev pub is_yes : Vote → Bool
 is_yes (Yes values) = true
 is_yes (No cause) = false
 
--- what an act at node p tells, and of which tree
+-- what an act at node p tells, and of which transaction
 abbrev pub news_by : ℕ → Act → Option (TreeNo × StateNews)
 news_by p (Born t v) = Some (t, news.Born v)
 news_by p (Did t k values) = Some (t, news.Done k)
@@ -49,7 +49,7 @@ news_by p (Applied t commit) = Some (t, news.Applied (record { 0 = p }))
 news_by p Finished = None
 news_by p _ = None
 
--- the state of a tree with what is told of it: the version of its first birth, and marks
+-- the state of a transaction with what is told of it: the version of its first birth, and marks
 abbrev pub with_birth : Version → TreeState → TreeState
 with_birth v st = record st { born = option_or st.born (Some v) }
 
@@ -86,7 +86,7 @@ state_was (news.Applied p) st = was.Applied p (get_or st.applied p.0 false)
 state_was (news.Freed p) st = was.Freed p (get_or st.freed p.0 false)
 state_was (news.Decided commit) st = was.Decided st.committed st.aborted
 
--- the states of all trees after an act at node p
+-- the states of all transactions after an act at node p
 abbrev pub states_told : Option (TreeNo × StateNews) → List TreeState → List TreeState
 states_told None states = states
 states_told (Some told) states = slice_set states told.0.0 (state_with told.1 (state_at states told.0.0))
@@ -94,18 +94,18 @@ states_told (Some told) states = slice_set states told.0.0 (state_with told.1 (s
 abbrev pub states_with : ℕ → Act → List TreeState → List TreeState
 states_with p act states = states_told (news_by p act) states
 
--- the version in which the tree of this place isn't whole yet, if it is there; and whether it reads
+-- the version in which the transaction of this place isn't complete yet, if it is there; and whether it reads
 abbrev pub pending_at : List Tree → List TreeState → ℕ → Option Version
 pending_at trees states t = elim (slice_get trees t) [ Some tree ↦ pending_version tree (state_at states t) | None ↦ None ]
 
 abbrev pub reads_at : List Tree → ℕ → Bool
 reads_at trees t = elim (slice_get trees t) [ Some tree ↦ is_read tree.kind | None ↦ false ]
 
--- the tree of this place is there, and of a kind that passes the test
+-- the transaction of this place is there, and of a kind that passes the test
 abbrev pub kind_passes : (TreeKind → Bool) → List Tree → ℕ → Bool
 kind_passes test trees t = elim (slice_get trees t) [ Some tree ↦ test tree.kind | None ↦ false ]
 
--- the tree that an act has made a member of the serial order, where these are the states after it
+-- the transaction that an act has made a member of the serial order, if these are the states after it
 abbrev pub closed_by : List Tree → List TreeState → Act → Option TreeNo
 closed_by trees states (Did t k values) =
     if kind_passes is_update trees t.0 && whole_at trees states t.0 then Some t else None
@@ -114,7 +114,7 @@ closed_by trees states (Decided t commit) =
 closed_by trees states Finished = None
 closed_by trees states _ = None
 
--- from the first of these places up to the second trees are whole, and there one isn't
+-- from the first of these places up to the second transactions are complete, and there one isn't
 pub record GoesOn (ts : List Tree) (states : List TreeState) (since until : ℕ) : Type 0 where
   pub further : since ≤ until
   pub within : since ≤ length states → until ≤ length states
@@ -129,7 +129,7 @@ pub record IsNoted (ts : List Tree) (p : ℕ) (act : Act) (old new : BoardData) 
   pub passed : GoesOn ts new.trees old.passed new.passed
   pub finished : new.finished ≡ (old.finished || finishes act)
 
--- the tallies of so many nodes and trees at first
+-- the tallies of that many nodes and transactions at first
 abbrev pub first_board : ℕ → ℕ → BoardData
 first_board nodes trees = record {
   nodes = replicate nodes first_numbers;
@@ -139,6 +139,6 @@ first_board nodes trees = record {
   finished = false;
 }
 
--- where the counts were those of the states before a change, they are those of the states after it
+-- if the counts were those of the states before a change, they are those of the states after it
 abbrev pub StayCounted : List Tree → List TreeState → List Pending → List TreeState → List Pending → Type 0
 StayCounted trees states ps states' ps' = AreCounted trees states ps → AreCounted trees states' ps'

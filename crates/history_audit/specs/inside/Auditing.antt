@@ -35,7 +35,7 @@ RefusesSo w j refusal = (s : ScriptData) (text : List ℕ) (h : List Entry) → 
 abbrev pub audit_refusal : ℕ → AuditRule → AuditRefusal
 audit_refusal entry rule = refusals.Refused (record { entry = entry; rule = rule })
 
--- how an audit of so many entries ends, where the client has finished or hasn't
+-- how an audit of that many entries ends, if the client has finished or hasn't
 abbrev pub end_of : ℕ → Bool → Result ℕ AuditRefusal
 end_of count true = Ok count
 end_of count false = Err (audit_refusal count rules.End)

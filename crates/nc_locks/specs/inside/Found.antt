@@ -23,7 +23,7 @@ IsFirst test ls r = IsFirstOf (λ q. has_lock q ls && test q) r
 abbrev pub same_place : Lock → Lock → Bool
 same_place a b = (a.item.0 == b.item.0) && (mode_rank a.mode == mode_rank b.mode)
 
--- a lock at the same place, of a lesser tree, of a greater tree, and of any other tree
+-- a lock at the same place, of a lesser transaction, of a greater transaction, and of any other transaction
 abbrev pub is_of_lesser : Lock → Lock → Bool
 is_of_lesser own l = same_place own l && nat_lt l.tree.0 own.tree.0
 
@@ -37,7 +37,7 @@ is_of_other own l = same_place own l && not (l.tree.0 == own.tree.0)
 abbrev pub missing_locks : TreeNo → Wanted → List Lock → List Lock
 missing_locks t ws ls = filter (λ l. not (has_lock l ls)) (wanted_locks t ws)
 
--- a lock by its tree
+-- a lock by its transaction
 abbrev pub owned : Lock → Owned
 owned l = record { tree = l.tree; item = l.item; mode = l.mode }
 
@@ -49,7 +49,7 @@ owned_order a b =
 abbrev pub has_owned : Owned → List Owned → Bool
 has_owned o os = list_any (λ a. is_eq (owned_order o a)) os
 
--- the locks by item and the locks by tree are the same
+-- the locks by item and the locks by transaction are the same
 pub record AreMirrored (ls : List Lock) (os : List Owned) : Type 0 where
   pub same : (l : Lock) → has_owned (owned l) os ≡ has_lock l ls
 
@@ -73,12 +73,12 @@ pub record AreTaken (gone old new : List Lock) : Type 0 where
   pub at : (l : Lock) → has_lock l new ≡ (not (has_lock l gone) && has_lock l old)
   pub ascending : AreLocks new
 
--- the lock is one of the tree's
+-- the lock is one of the transaction's
 abbrev pub IsLockOf : TreeNo → List Lock → Option Lock → Type 0
 IsLockOf t ls None = (q : Lock) → has_lock q ls ≡ true → (q.tree.0 == t.0) ≡ false
 IsLockOf t ls (Some l) = (has_lock l ls ≡ true) × (l.tree.0 ≡ t.0)
 
--- some of the tree's locks may be gone, and each other one is as before
+-- some of the transaction's locks may be gone, and each other one is as before
 pub record IsPartlyFree (t : TreeNo) (old new : List Lock) : Type 0 where
   pub at : (l : Lock) → (l.tree.0 == t.0) ≡ false → has_lock l new ≡ has_lock l old
   pub ascending : AreLocks new

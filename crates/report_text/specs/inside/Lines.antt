@@ -1,5 +1,5 @@
--- What read trees show of these values of all items, and the lines of trees and items, one for each place of several
--- lists. These are the definitions that private code alone cites.
+-- What read transactions show of these values of all items, and the lines of transactions and items, one for each place
+-- of several lists. These are the definitions that private code alone cites.
 use Rattle.std.specs.Prelude.{ℕ, ◌+◌, Bool, if◌then◌else◌, List, [], ◌∷◌, ◌++◌, Option, Some, None, slice_get}
 use Rattle.commute_ops.specs.declared.value.Value.{Value}
 use Rattle.letter_types.specs.declared.acts.Act.{Act}
@@ -31,14 +31,14 @@ abbrev pub subs_texts : List ItemRow → List Value → List Sub → List ℕ
 subs_texts rows ws [] = []
 subs_texts rows ws (k ∷ ks) = ops_texts rows ws k.ops ++ subs_texts rows ws ks
 
--- the lines of the trees of these standings, texts of values and ballots, if the list begins with tree t
+-- the lines of the transactions of these standings, texts of values and ballots, if the list begins with transaction t
 abbrev pub trees_lines : ScriptData → ℕ → List Tree → List Standing → List (List ℕ) → List (List Act) → List ℕ
 trees_lines s t (tree ∷ ts) (st ∷ sts) (r ∷ rs) (b ∷ bs) =
     tree_line tree tree.kind st.born (λ (v : ℕ). r) (outcome_of s b t tree.subs) ++ trees_lines s (t + 1) ts sts rs bs
 trees_lines s t [] sts rs bs = []
 trees_lines s t _ _ _ _ = []
 
--- the history in which trees may have voted: only strict ones vote
+-- the history in which transactions may have voted: only strict ones vote
 abbrev pub history_of_votes : ScriptData → List Entry → List Entry
 history_of_votes s h = if has_strict s then h else []
 

@@ -1,4 +1,4 @@
--- The values of read trees, each taken when its version is reached. Only the code of the report cites it.
+-- The values of read transactions, each taken when its version is reached. Only the code of the report cites it.
 use Rattle.std.specs.Prelude.{◌≡◌, ◌<◌, ◌≤◌, ℕ, ◌+◌, true, ◌==◌, List, [], ◌∷◌, ◌++◌, length, Option, Some, None, slice_get, slice_index_or}
 use Rattle.std.specs.List.{list_any}
 use Rattle.std.specs.List.Sorted.{IsNonDecreasingBy}
@@ -17,24 +17,24 @@ use Rattle.report_text.specs.declared.served.Served.{Served}
 use Rattle.report_text.specs.Report.{gets_text}
 use Rattle.report_text.specs.declared.run.Run.{Run}
 
--- the version of a read tree
+-- the version of a read transaction
 abbrev pub read_version : TreeKind → Option Version → Option Version
 read_version Read born = born
 read_version Update born = None
 read_version Strict born = None
 
--- tree t with its version, if there is one
+-- transaction t with its version, if there is one
 abbrev pub ask_at : Option Version → ℕ → List Member
 ask_at None t = []
 ask_at (Some v) t = record { version = v; tree = record { 0 = t } } ∷ []
 
--- the read trees that are born, with their versions, if the list begins with tree t
+-- the read transactions that are born, with their versions, if the list begins with transaction t
 abbrev pub asks_from : ℕ → List Tree → List Standing → List Member
 asks_from t [] sts = []
 asks_from t (tree ∷ ts) [] = []
 asks_from t (tree ∷ ts) (st ∷ sts) = ask_at (read_version tree.kind st.born) t ++ asks_from (t + 1) ts sts
 
--- each is a tree with its version, by version; and all read trees that are born are there
+-- each is a transaction with its version, by version; and all read transactions that are born are there
 pub record AreAsked (s : ScriptData) (h : List Entry) (asks : List Member) : Type 0 where
   pub ascending : IsNonDecreasingBy (λ (m : Member). m.version.0) asks
   pub right : (i : ℕ) (d : Member) → i < length asks
@@ -47,17 +47,17 @@ abbrev pub values_at : ScriptData → List Entry → Option Version → List Sub
 values_at s h None ks = []
 values_at s h (Some v) ks = gets_text s h v.0 ks
 
--- what tree t shows at its version
+-- what transaction t shows at its version
 abbrev pub values_of_tree : ScriptData → List Entry → ℕ → List ℕ
 values_of_tree s h t = values_at s h (version_of h t) (subs_at s t)
 
--- what the first n that were asked for show is listed by tree number
+-- what the first n that were asked for show is listed by transaction number
 abbrev pub AreTold : ScriptData → List Entry → List Member → ℕ → List (List ℕ) → Type 0
 AreTold s h asks n texts =
     (i : ℕ) (d : Member) → i < n
     → slice_get texts (slice_index_or asks i d).tree.0 ≡ Some (values_of_tree s h (slice_index_or asks i d).tree.0)
 
--- those before the place show their values, and the others are of the version that was reached or of later ones
+-- that many were asked for, the others are of the version that was reached or of later ones
 pub record IsServed (s : ScriptData) (h : List Entry) (serial asks : List Member) (texts : List (List ℕ))
     (r : Served) : Type 0 where
   pub place : r.place ≤ length asks
@@ -67,15 +67,15 @@ pub record IsServed (s : ScriptData) (h : List Entry) (serial asks : List Member
   pub count : length texts ≡ length s.trees
   pub told : AreTold s h asks r.place texts
 
--- the same of a run
+-- that many of a run's
 abbrev pub IsServedIn : Run → List Member → List (List ℕ) → Served → Type 0
 IsServedIn run asks texts r = IsServed run.script.now run.history.now run.serial.now asks texts r
 
--- the version of the tree that was asked for at this place
+-- the version of the transaction that was asked for at this place
 abbrev pub IsAskedFor : List Member → ℕ → Version → Type 0
 IsAskedFor asks place v = (d : Member) → v ≡ (slice_index_or asks place d).version
 
--- what each read tree shows is listed by tree number
+-- what each read transaction shows is listed by transaction number
 pub record AreRead (s : ScriptData) (h : List Entry) (texts : List (List ℕ)) : Type 0 where
   pub count : length texts ≡ length s.trees
   pub each : (t : ℕ) (v : Version) → reads s t ≡ true → version_of h t ≡ Some v

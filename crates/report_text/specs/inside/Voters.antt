@@ -1,4 +1,4 @@
--- The text of a strict tree, by its votes and what was decided of it.
+-- The text of a strict transaction, by its votes and what was decided of it.
 use Rattle.std.specs.Prelude.{ℕ, Bool, List, [], Option}
 use Rattle.std.specs.Option.{option_map_or}
 use Rattle.tv_base.specs.declared.numbers.Version.{Version}
@@ -17,14 +17,14 @@ vote_text s vote = got_text s (option_map_or got_of vote [])
 abbrev pub votes_text : ScriptData → Voters → List ℕ
 votes_text s v = got_text s (got_from v.ballot.now v.number.0 0 v.tree.now.subs)
 
--- that the tree commits or aborts; and how it came out, if it did
+-- that the transaction commits or aborts; and how it came out, if it did
 abbrev pub decision_text : ScriptData → Voters → Bool → List ℕ
 decision_text s v commit = decided_text s v.ballot.now v.number.0 v.tree.now.subs commit
 
 abbrev pub outcome_text : ScriptData → Voters → List ℕ
 outcome_text s v = outcome_of s v.ballot.now v.number.0 v.tree.now.subs
 
--- its line; and the line of any tree, by the text of what it shows
+-- its line; and the line of any transaction, by the text of what it shows
 abbrev pub voters_line : ScriptData → Voters → Version → List ℕ
 voters_line s v version = strict_line v.tree.now.name version.0 (outcome_text s v)
 

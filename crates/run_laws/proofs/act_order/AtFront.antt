@@ -1,5 +1,5 @@
--- The acts before an act of an entry: they follow their rules; where none of the entry's own lasts, they make of items what
--- the acts before the entry made; and writers of a version that is shown are whole after them.
+-- The acts before an act of an entry: they follow their rules; if none of the entry's own lasts, they make of items
+-- what the acts before the entry made; and writers of a version that is shown are complete after them.
 use Rattle.std.proofs.Common.{◌≡◌, ℕ, zero, suc, ◌+◌, ◌<◌, true, false, List, [], ◌∷◌, map, length, take, refl, sym, ap, subst, ◌∙◌, arith, Some}
 use Rattle.std.specs.Prelude.{not, slice_get}
 use Rattle.std.proofs.Math.Seq.{take-append-add, take-append_seam}

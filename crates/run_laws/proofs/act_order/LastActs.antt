@@ -1,4 +1,4 @@
--- A decision is the last act of its entry, so all turns of its tree are had before it.
+-- A decision is the last act of its entry, so its transaction has had all its turns before it.
 use Rattle.std.proofs.Common.{◌≡◌, ◌⊎◌, inl, inr, ℕ, zero, suc, ◌+◌, ◌<◌, ◌≤◌, Bool, true, false, List, [], ◌∷◌, ◌++◌, map, length, take, refl, sym, ap, ◌∙◌, subst, arith, append-nil, Option, Some, None}
 use Rattle.std.specs.Prelude.{if◌then◌else◌, nat_lt, slice_get}
 use Rattle.std.proofs.Math.Seq.{take-append_seam}

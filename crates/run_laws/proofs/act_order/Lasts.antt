@@ -1,5 +1,5 @@
--- An act of an entry that lasts, by what its node does: a subtransaction of an update or a read tree is done, one of a
--- strict tree votes, a decision is applied, or marks are freed. No act before it in its entry lasts.
+-- An act of an entry that lasts, by what its node does: a subtransaction of an update or a read transaction is done,
+-- one of a strict transaction votes, a decision is applied, or marks are freed. No act before it in its entry lasts.
 use Rattle.std.proofs.Common.{◌≡◌, ℕ, ◌≤◌, Bool, true, List, [], ◌∷◌, length, take, refl, sym, ap, ◌∙◌, arith, Option, Some, None}
 use Rattle.std.specs.Prelude.{slice_get}
 use Rattle.tv_base.specs.declared.numbers.ItemNo.{ItemNo}

@@ -1,5 +1,5 @@
--- An act that bears a tree, raises a number or lets a root wait is the first of its entry; and the letter that is brought
--- then.
+-- An act that bears a transaction, raises a number or lets a root wait is the first of its entry; and the message that
+-- is brought then.
 use Rattle.std.proofs.Common.{◌≡◌, ℕ, zero, suc, ◌+◌, ◌==◌, Bool, true, false, List, [], ◌∷◌, ◌++◌, take, refl, sym, ap, subst, ◌∙◌, arith, append-nil, Option, Some, None}
 use Rattle.std.specs.Prelude.{if◌then◌else◌, nat_lt, slice_get}
 use Rattle.tv_base.specs.declared.numbers.SubNo.{SubNo}

@@ -1,5 +1,5 @@
--- In every run of every valid script the order of acts is what the laws of strict trees need: each act follows its rule, and
--- strict trees are born late.
+-- In every run of every valid script the order of acts is what the laws of strict transactions need: each act follows
+-- its rule, and strict transactions are born late.
 use Rattle.std.proofs.Common.{◌≡◌, ℕ, Bool, true, false, List, [], ◌∷◌, take, refl, sym, ap, ◌∙◌, subst, Option, Some, None}
 use Rattle.std.specs.Prelude.{slice_get}
 use Rattle.tv_base.specs.declared.numbers.ItemNo.{ItemNo}

@@ -1,5 +1,5 @@
--- One entry with the Did of a read tree and the last Did of an update tree of its version: the update comes first only
--- where its Did does, and not where it comes later in the same entry.
+-- One entry with the Did of a read transaction and the last Did of an update transaction of its version: the update
+-- comes first only if its Did does, and not if it comes later in the same entry.
 use Rattle.std.proofs.Common.{◌≡◌, ℕ, zero, suc, true, false, List, [], ◌∷◌, refl, subst, arith}
 use Rattle.std.specs.Prelude.{pos}
 use Rattle.letter_types.specs.declared.entries.Entry.{Entry}

@@ -1,4 +1,5 @@
--- Where a subtransaction is done or votes: it is one of its tree, at its node, and the tree is born before.
+-- When a subtransaction is done or votes: it is one of its transaction, at its node, and the transaction is born
+-- before.
 use Rattle.std.proofs.Common.{◌≡◌, ℕ, zero, suc, ◌<◌, ◌≤◌, true, false, List, [], ◌∷◌, ◌++◌, map, length, take, refl, sym, ap, ◌∙◌, subst, arith, Option, Some, None}
 use Rattle.std.specs.Prelude.{is_some, nat_lt, slice_get}
 use Rattle.tv_base.specs.declared.numbers.SubNo.{SubNo}

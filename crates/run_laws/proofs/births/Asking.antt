@@ -1,4 +1,5 @@
--- The version in which a letter's subtransaction has its turn: it is its tree's, and no less than its node's low version.
+-- The version in which a message's subtransaction has its turn: it is its transaction's, and no less than its node's
+-- low version.
 use Rattle.std.proofs.Common.{◌≡◌, ℕ, ◌<◌, ◌≤◌, true, List, [], ◌∷◌, ◌++◌, sym, ap, subst, ◌∙◌, arith, Some}
 use Rattle.tv_base.specs.declared.numbers.SubNo.{SubNo}
 use Rattle.tv_base.specs.declared.numbers.TreeNo.{TreeNo}

@@ -1,5 +1,6 @@
--- In every run of every valid script a tree is born at its home, once, in the version that its home gives to trees of its
--- kind; and where a strict tree waits, it isn't born, and its home's numbers are those that are told.
+-- In every run of every valid script a transaction is born at its home, once, in the version that its home gives to
+-- transactions of its kind; and if a strict transaction waits, it isn't born, and its home's numbers are those that are
+-- told.
 use Rattle.std.proofs.Common.{◌≡◌, ℕ, ◌+◌, ◌≤◌, ◌==◌, true, List, ◌∷◌, refl, sym, ap, subst, ◌∙◌, arith, Some}
 use Rattle.std.specs.Prelude.{slice_get}
 use Rattle.tv_base.proofs.Truths.{same_test}

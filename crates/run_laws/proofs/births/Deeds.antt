@@ -1,5 +1,5 @@
--- In every run each Did is of a born tree's subtransaction at its node, once, and that of an update tree meets no lock that
--- conflicts.
+-- In every run each Did is of a born transaction's subtransaction at its node, once, and that of an update transaction
+-- meets no lock that conflicts.
 use Rattle.std.proofs.Common.{◌≡◌, ℕ, zero, suc, ◌+◌, ◌≤◌, true, false, List, [], ◌∷◌, ◌++◌, take, refl, sym, ap, ◌∙◌, arith, Option, Some, None}
 use Rattle.std.specs.Prelude.{nat_lt, slice_get}
 use Rattle.tv_base.specs.declared.numbers.ItemNo.{ItemNo}

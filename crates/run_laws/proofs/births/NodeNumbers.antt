@@ -1,5 +1,5 @@
 -- In every run of every valid script a node's three versions are what its acts so far say. What the acts of a row and
--- of a kept letter lead to.
+-- of a deferred message lead to.
 use Rattle.std.proofs.Common.{◌≡◌, ◌≢◌, ◌⊎◌, inl, inr, ℕ, ◌<◌, ◌==◌, Bool, true, false, List, ◌∷◌, ◌++◌, map, refl, sym, ap, subst, ◌∙◌, arith, Option, Some, None, reverse, []}
 use Rattle.std.specs.Prelude.{if◌then◌else◌, fold, nat_lt}
 use Rattle.std.proofs.lemmas.Bool.{cases_eq}

@@ -1,5 +1,5 @@
--- In every run of every valid script a node raises its numbers one by one, each where what was given allows it, and
--- shows and sweeps to a version only once the trees up to there are whole.
+-- In every run of every valid script a node raises its numbers one by one, each if what was given allows it, and
+-- shows and sweeps to a version only once the transactions up to there are complete.
 use Rattle.std.proofs.Common.{◌≡◌, ℕ, ◌+◌, ◌<◌, ◌≤◌, not, true, false, List, ◌∷◌, refl, sym, ap, subst, ◌∙◌, arith, Some}
 use Rattle.std.specs.Prelude.{nat_lt, slice_get}
 use Rattle.std.proofs.lemmas.Bool.Decides.{nat_tests}
@@ -20,7 +20,7 @@ use Rattle.board_rules.specs.Histories.{Place}
 use Rattle.board_rules.specs.Moves.{IsShowing, IsSweeping, IsTurn}
 use Rattle.tree_laws.proofs.apt.AptVersions.{before}
 use Rattle.advance_laws.specs.Given.{greatest_given}
-use Rattle.advance_laws.specs.Phases.{Stage, ShowStage, SweepStage, TurnStage, stage_of}
+use Rattle.advance_laws.specs.Phases.{TurnStage, stage_of}
 use Rattle.advance_laws.proofs.governed.Advancing.{IsOrderGiven, brought_turned, taken_ahead, taken_given}
 use Rattle.advance_laws.proofs.governed.Brought.{BringsTo, IsAsking}
 use Rattle.advance_laws.proofs.phases.Progress.{itself}

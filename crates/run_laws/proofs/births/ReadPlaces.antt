@@ -1,6 +1,6 @@
--- An act of a read tree at its position in a run: its version was shown before its entry. And from what holds of each act at
--- its position to what holds of each act of each entry.
-use Rattle.std.proofs.Common.{◌≡◌, ◌⊎◌, inl, inr, ℕ, zero, suc, ◌+◌, ◌<◌, ◌≤◌, true, false, List, [], ◌∷◌, ◌++◌, length, take, reverse, sym, ap, subst, ◌∙◌, append_assoc, arith, Some}
+-- An act of a read transaction at its position in a run: its version was shown before its entry. And from what holds of
+-- each act at its position to what holds of each act of each entry.
+use Rattle.std.proofs.Common.{◌≡◌, ℕ, zero, suc, ◌+◌, ◌<◌, ◌≤◌, true, false, List, [], ◌∷◌, ◌++◌, length, take, reverse, sym, ap, subst, ◌∙◌, append_assoc, arith, Some}
 use Rattle.std.specs.Prelude.{slice_get}
 use Rattle.std.proofs.lemmas.List.{length-append, length-take, take-append-le}
 use Rattle.std.proofs.lemmas.Option.{slice_get_within}

@@ -1,5 +1,5 @@
--- A read tree's version is one that was shown: up to it all writers are whole, in every run.
-use Rattle.std.proofs.Common.{◌≡◌, ◌⊎◌, inl, inr, ℕ, ◌<◌, ◌≤◌, true, false, List, [], ◌∷◌, reverse, sym, ap, ◌∙◌, arith, Some}
+-- A read transaction's version is one that was shown: up to it all writers are complete, in every run.
+use Rattle.std.proofs.Common.{◌≡◌, ◌⊎◌, inl, inr, ℕ, ◌<◌, true, false, List, [], ◌∷◌, reverse, sym, ap, ◌∙◌, arith, Some}
 use Rattle.std.specs.Prelude.{not}
 use Rattle.tv_base.specs.declared.numbers.Version.{Version}
 use Rattle.letter_types.specs.declared.entries.Entry.{Entry}

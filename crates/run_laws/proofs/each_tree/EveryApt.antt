@@ -1,7 +1,7 @@
--- In every run of every valid script each letter that comes to a node brings one, which is apt there: what it names belongs
--- there, a root is new, its version is one that the node can go by, and what it asks for can be made.
+-- In every run of every valid script each message that comes to a node brings one, which is enabled there: what it
+-- names belongs there, a root is new, its version is one that the node can go by, and what it asks for can be made.
 use Rattle.std.proofs.Common.{◌≡◌, ℕ, ◌<◌, ◌≤◌, ◌==◌, ◌&&◌, ◌||◌, Bool, true, false, not, List, [], ◌∷◌, length, refl, sym, ap, subst, ◌∙◌, arith, Option, Some, None}
-use Rattle.std.specs.Prelude.{IsSome, nat_lt, if◌then◌else◌}
+use Rattle.std.specs.Prelude.{IsSome, nat_lt}
 use Rattle.std.proofs.lemmas.Bool.{and_from, lt-ltb, or_left, or_right}
 use Rattle.std.proofs.lemmas.Bool.Decides.{nat_tests}
 use Rattle.letter_types.specs.Kept.{brought, first_called}

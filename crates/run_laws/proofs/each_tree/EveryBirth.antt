@@ -1,5 +1,6 @@
--- In every run of every valid script: a tree that an entry bears takes the version of its node, a read tree that which is
--- read, and any other that which is updated; a strict tree is born only where that follows the one that is read.
+-- In every run of every valid script: a transaction that an entry bears takes the version of its node, a read
+-- transaction that which is read, and any other that which is updated; a strict transaction is born only if that
+-- follows the one that is read.
 use Rattle.std.proofs.Common.{◌≡◌, ◌⊎◌, inl, inr, ℕ, ◌+◌, ◌<◌, ◌≤◌, ◌==◌, Bool, true, false, List, [], ◌∷◌, ◌++◌, refl, sym, ap, subst, ◌∙◌, arith, Option, Some, None}
 use Rattle.std.specs.Prelude.{if◌then◌else◌, slice_get}
 use Rattle.std.specs.Option.{option_or}

@@ -1,4 +1,5 @@
--- In every run of every valid script: a strict tree that was born and isn't open at its home any more was decided on.
+-- In every run of every valid script: a strict transaction that was born and isn't open at its home any more was
+-- decided on.
 use Rattle.std.proofs.Common.{◌≡◌, ℕ, ◌+◌, ◌<◌, ◌≤◌, ◌==◌, ◌&&◌, Bool, true, false, not, List, [], ◌∷◌, length, refl, sym, ap, subst, ◌∙◌, arith, Option, Some, None}
 use Rattle.std.specs.Prelude.{if◌then◌else◌, nat_lt}
 use Rattle.std.proofs.lemmas.Bool.Decides.{nat_tests}

@@ -1,5 +1,5 @@
--- In every run of every valid script: only subtransactions of strict trees vote, so one of any other tree has its turn where
--- it is done.
+-- In every run of every valid script: only subtransactions of strict transactions vote, so one of any other transaction
+-- has its turn if it is done.
 use Rattle.std.proofs.Common.{◌≡◌, ℕ, ◌+◌, ◌<◌, ◌==◌, ◌&&◌, Bool, true, false, List, [], ◌∷◌, refl, sym, ap, subst, ◌∙◌, arith, Option, Some, None}
 use Rattle.std.specs.Prelude.{nat_lt}
 use Rattle.std.proofs.lemmas.Bool.Decides.{nat_tests}

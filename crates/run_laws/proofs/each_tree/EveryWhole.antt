@@ -1,5 +1,6 @@
--- In every run of every valid script a tree of a version of which nothing is outstanding is whole: each of its
--- subtransactions has had its turn, and what was decided of a strict tree was applied at each node that it visits.
+-- In every run of every valid script a transaction of a version of which nothing is outstanding is complete: each of
+-- its subtransactions has had its turn, and what was decided of a strict transaction was applied at each node that it
+-- visits.
 use Rattle.std.proofs.Common.{◌≡◌, ◌⊎◌, inl, inr, ℕ, zero, suc, ◌+◌, ◌<◌, ◌≤◌, ◌==◌, ◌&&◌, ◌||◌, Bool, true, false, not, List, [], ◌∷◌, length, reverse, refl, sym, ap, subst, ◌∙◌, arith, Option, Some, None}
 use Rattle.std.specs.Prelude.{if◌then◌else◌, is_some, map, slice_get}
 use Rattle.std.proofs.lemmas.Bool.{and_from}

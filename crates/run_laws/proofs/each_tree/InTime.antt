@@ -21,9 +21,7 @@ use Rattle.advance_laws.specs.Given.{IsGivenAnew, greatest_given}
 use Rattle.advance_laws.specs.Phases.{Stage}
 use Rattle.advance_laws.specs.Quiet.{IsGivenInQuiet}
 use Rattle.advance_laws.proofs.governed.Advancing.{IsAdvancing}
-use Rattle.advance_laws.proofs.phases.GivenInPhase.{advancing}
 use Rattle.advance_laws.proofs.counting.Balance.{apt_parts, counts_are_small}
-use Rattle.advance_laws.proofs.counting.Below.{balanced}
 use Rattle.advance_laws.proofs.phases.Shows.{given_in_quiet}
 use Rattle.run_laws.proofs.each_tree.EveryApt.{all_apt as every_apt, governed, lawful as every_lawful}
 use Rattle.script_parts.specs.Counts.{is_lossy}

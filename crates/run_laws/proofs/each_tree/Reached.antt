@@ -1,4 +1,4 @@
--- How far the trees of a kind are whole, by what was given, in every run of every valid script.
+-- How far the transactions of a kind are complete, by what was given, in every run of every valid script.
 use Rattle.std.proofs.Common.{◌≡◌, ◌⊎◌, inl, inr, ℕ, ◌+◌, ◌<◌, ◌≤◌, Bool, true, false, List, [], ◌∷◌, length, reverse, refl, sym, ap, subst, ◌∙◌, arith, Some, None}
 use Rattle.std.proofs.lemmas.Bool.{not-true}
 use Rattle.tv_base.specs.declared.numbers.Version.{Version}

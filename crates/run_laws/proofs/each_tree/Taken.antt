@@ -1,4 +1,4 @@
--- Each letter that a node takes in a run of any valid script is apt there.
+-- Each message that a node takes in a run of any valid script is enabled there.
 use Rattle.std.proofs.Common.{◌≡◌, ℕ, ◌<◌, true, List, [], ◌∷◌, reverse, sym, ap, subst, ◌∙◌}
 use Rattle.letter_types.specs.Kept.{brought}
 use Rattle.letter_types.specs.declared.entries.Entry.{Entry}

@@ -1,4 +1,5 @@
--- Trees that read and trees that don't: in which version one is born, and up to which version they are whole.
+-- Transactions that read and transactions that don't: in which version one is born, and up to which version they are
+-- complete.
 use Rattle.std.proofs.Common.{◌≡◌, ◌⊎◌, inl, inr, ℕ, ◌<◌, Bool, true, false, not, List, ◌++◌, length, reverse, refl, sym, ◌∙◌, Option, Some, None}
 use Rattle.std.specs.Option.{option_or}
 use Rattle.tv_base.specs.declared.numbers.Version.{Version}

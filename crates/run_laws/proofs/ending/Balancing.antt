@@ -1,4 +1,4 @@
--- Where no letter of a tree that is born has still to be done, requests are completions.
+-- If no message of a transaction that is born has still to be done, requests are completions.
 use Rattle.std.proofs.Common.{◌≡◌, ℕ, ◌<◌, ◌≤◌, false, refl, arith, List}
 use Rattle.letter_types.specs.declared.bodies.Body.{Body}
 use Rattle.letter_types.specs.declared.bodies.Body.TheVariants.{Go, Sub as SubLetter, Done, Decide, Decided}

@@ -1,4 +1,5 @@
--- Busyness falls only where a nudge is taken, and where nothing is busy no letter of a tree that is born has still to be done.
+-- Busyness falls only if a nudge is taken, and if nothing is busy no message of a transaction that is born has still to
+-- be done.
 use Rattle.std.proofs.Common.{◌≡◌, ◌≢◌, ℕ, ◌+◌, ◌<◌, ◌≤◌, ◌==◌, ◌&&◌, Bool, true, false, not, List, [], ◌∷◌, length, get_or, set, take, drop, refl, sym, ap, subst, ◌∙◌, arith}
 use Rattle.std.proofs.lemmas.Bool.Decides.{nat_tests}
 use Rattle.std.proofs.lemmas.List.{get_or-set_other}

@@ -1,5 +1,5 @@
--- What the letters of advancements cost, where the coordinator remembers.
-use Rattle.std.proofs.Common.{if◌then◌else◌, ◌≡◌, ◌≢◌, ℕ, zero, suc, ◌+◌, ◌*◌, ◌<◌, ◌≤◌, ◌==◌, Bool, true, false, List, [], ◌∷◌, ◌++◌, replicate, set, take, drop, refl, sym, ap, subst, ◌∙◌, arith, Some, None}
+-- What the messages of advancements cost, if the coordinator remembers.
+use Rattle.std.proofs.Common.{if◌then◌else◌, ◌≡◌, ◌≢◌, ℕ, ◌+◌, ◌*◌, ◌<◌, ◌≤◌, ◌==◌, Bool, true, false, List, [], ◌∷◌, ◌++◌, set, take, drop, refl, sym, ap, subst, ◌∙◌, arith, Some}
 use Rattle.std.proofs.Math.Seq.{take-add}
 use Rattle.std.proofs.lemmas.Bool.{eqb-true, not-false}
 use Rattle.tx_trees.proofs.Rebuilding.{advances_in-append}

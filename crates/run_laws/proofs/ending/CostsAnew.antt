@@ -1,4 +1,4 @@
--- How many letters of advancements are taken where the coordinator forgets: what the client asked for and the
+-- How many messages of advancements are taken if the coordinator forgets: what the client asked for and the
 -- coordinator sent covers them.
 use Rattle.std.proofs.Common.{◌≡◌, ◌≢◌, inl, inr, ℕ, ◌+◌, ◌*◌, ◌<◌, ◌≤◌, true, List, [], ◌∷◌, ◌++◌, length, take, drop, refl, ap, arith}
 use Rattle.std.proofs.Math.Nat.{mul-le-mul_left}

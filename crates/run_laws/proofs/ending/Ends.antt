@@ -1,4 +1,4 @@
--- Where no letter is in flight, the coordinator is idle, nothing is kept, and the client has finished.
+-- If no message is in flight, the coordinator is idle, nothing is deferred, and the client has finished.
 use Rattle.std.proofs.Common.{◌≡◌, inl, inr, ℕ, zero, suc, ◌+◌, ◌<◌, ◌≤◌, Bool, true, false, List, ◌++◌, length, get_or, map, reverse, take, refl, sym, ap, subst, ◌∙◌, arith, []}
 use Rattle.std.specs.Prelude.{nat_le}
 use Rattle.std.proofs.lemmas.Bool.{and_from}

@@ -1,5 +1,5 @@
--- Where no letter is in flight in a run of a script whose coordinator forgets, it is idle: each node updates the version after
--- the one that it reads, and the client has heard that each advancement that it asked for has ended.
+-- If no message is in flight in a run of a script whose coordinator forgets, it is idle: each node updates the version
+-- after the one that it reads, and the client has heard that each advancement that it asked for has ended.
 use Rattle.std.proofs.Common.{◌≡◌, ℕ, ◌+◌, ◌<◌, ◌≤◌, Bool, true, false, List, [], ◌∷◌, refl, sym, ap, subst, ◌∙◌, arith}
 use Rattle.tv_base.specs.declared.numbers.Version.{Version}
 use Rattle.letter_types.specs.declared.bodies.Body.TheVariants.{Sweep}

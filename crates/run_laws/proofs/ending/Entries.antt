@@ -1,4 +1,5 @@
--- How many entries a run to its end has, where no tree is strict: what was sent was taken then, and each tree is answered.
+-- How many entries a run to its end has, if no transaction is strict: what was sent was taken then, and each
+-- transaction is answered.
 use Rattle.std.proofs.Common.{◌≡◌, ◌≢◌, ℕ, ◌+◌, ◌*◌, ◌<◌, ◌≤◌, ◌==◌, ◌&&◌, Bool, true, false, List, [], ◌∷◌, length, reverse, take, drop, get_or, refl, sym, ap, ◌∙◌, arith}
 use Rattle.std.proofs.lemmas.Bool.Decides.{nat_tests}
 use Rattle.letter_types.specs.declared.bodies.Body.{Body}

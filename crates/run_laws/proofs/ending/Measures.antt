@@ -1,4 +1,4 @@
--- How much is left to do for trees.
+-- How much is left to do for transactions.
 use Rattle.std.specs.Prelude.{ℕ, Bool, false, not, ◌==◌, ◌&&◌, ◌+◌, List, take, get_or}
 use Rattle.letter_types.specs.declared.bodies.Body.{Body}
 use Rattle.letter_types.specs.declared.bodies.Body.TheVariants.{Go, Nudge, Sub as SubLetter, Done, Decide, Decided}

@@ -1,4 +1,5 @@
--- Where no letter is in flight each tree is unborn or answered, and only roots of strict trees are kept, which wait for a Show.
+-- If no message is in flight each transaction is unborn or answered, and only roots of strict transactions are
+-- deferred, which wait for a Show.
 use Rattle.std.proofs.Common.{◌≡◌, ◌⊎◌, inl, inr, ℕ, zero, suc, ◌+◌, ◌<◌, ◌≤◌, ◌==◌, ◌&&◌, Bool, true, false, List, [], ◌∷◌, length, map, refl, sym, ap, ◌∙◌, arith}
 use Rattle.std.specs.Prelude.{slice_get}
 use Rattle.std.proofs.lemmas.Bool.Decides.{nat_tests}

@@ -1,4 +1,4 @@
--- Where no letter is in flight, no tree is busy, and no count has a round.
+-- If no message is in flight, no transaction is busy, and no count has a round.
 use Rattle.std.proofs.Common.{◌≡◌, ◌⊎◌, inl, inr, ℕ, ◌<◌, ◌≤◌, ◌==◌, ◌&&◌, Bool, true, false, not, List, ◌∷◌, length, get_or, take, refl, sym, ◌∙◌, arith, []}
 use Rattle.std.proofs.lemmas.Bool.Decides.{nat_tests}
 use Rattle.phase_out.specs.Rounds.{all_in}

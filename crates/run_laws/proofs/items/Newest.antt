@@ -1,5 +1,5 @@
--- In runs of apt letters, of every script: nothing newer is held of an item than the strict tree that holds it. What a
--- commit writes its tree holds.
+-- In runs of enabled messages, of every script: nothing newer is held of an item than the strict transaction that holds
+-- it. What a commit writes its transaction holds.
 use Rattle.std.proofs.Common.{◌≡◌, ◌≢◌, ◌⊎◌, inl, inr, ℕ, suc, ◌<◌, ◌≤◌, ◌==◌, ◌&&◌, max, Bool, true, false, not, List, [], ◌∷◌, ◌++◌, reverse, refl, sym, ap, subst, ◌∙◌, arith, Option, Some, None}
 use Rattle.std.specs.Prelude.{if◌then◌else◌, is_some, map, nat_le, nat_lt, slice_get}
 use Rattle.std.specs.List.{AllByRecursion}

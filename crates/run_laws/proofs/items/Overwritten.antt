@@ -1,4 +1,4 @@
--- What is seen of items after a commit, where nothing newer is held of what it writes.
+-- What is seen of items after a commit, if nothing newer is held of what it writes.
 use Rattle.std.proofs.Common.{◌≡◌, ℕ, ◌<◌, ◌≤◌, ◌==◌, Bool, true, false, List, [], ◌∷◌, refl, sym, ap, subst, ◌∙◌, arith, Option, Some, None}
 use Rattle.std.specs.Prelude.{if◌then◌else◌, nat_le, nat_lt}
 use Rattle.std.specs.List.{AllByRecursion}

@@ -1,4 +1,4 @@
--- In runs of apt letters, of every script: a node sees of its items what its own acts have made of them.
+-- In runs of enabled messages, of every script: a node sees of its items what its own acts have made of them.
 use Rattle.std.proofs.Common.{◌≡◌, ◌≢◌, ◌⊎◌, inl, inr, ℕ, ◌<◌, ◌≤◌, ◌==◌, ◌&&◌, max, Bool, true, false, not, List, [], ◌∷◌, ◌++◌, refl, sym, ap, subst, ◌∙◌, append_assoc, arith, Option, Some, None}
 use Rattle.std.specs.Prelude.{if◌then◌else◌, fold, map, nat_le, nat_lt, slice_get}
 use Rattle.std.specs.List.{AllByRecursion}

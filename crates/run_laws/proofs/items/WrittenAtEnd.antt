@@ -1,5 +1,5 @@
--- Where every tree is whole, an item is written in a version by its node's acts just where the trees of that version
--- write it.
+-- If every transaction is complete, an item is written in a version by its node's acts exactly if the transactions of
+-- that version write it.
 use Rattle.std.proofs.Common.{◌≡◌, inl, inr, ℕ, zero, suc, ◌+◌, ◌<◌, ◌==◌, ◌&&◌, Bool, true, false, List, [], ◌∷◌, length, reverse, refl, sym, ap, subst, ◌∙◌, arith, Option, Some, None}
 use Rattle.std.specs.Prelude.{slice_get}
 use Rattle.std.proofs.lemmas.Bool.{and_from, and_parts, eqb-true, or_cases, or_left, or_right}

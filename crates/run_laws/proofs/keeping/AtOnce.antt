@@ -1,6 +1,6 @@
--- In every run of every valid script no read or commuting step waits but for a strict tree's lock: the entry that took
--- a subtransaction's letter does it, or parks it where such a lock is in its way. What is in the way is such a lock;
--- without strict trees nothing is, so each entry that took a subtransaction's letter has its Did.
+-- In every run of every valid script no read or commuting step waits but for a strict transaction's lock: the entry
+-- that took a subtransaction's message does it, or defers it if such a lock is in its way. What is in the way is such a
+-- lock; without strict transactions nothing is, so each entry that took a subtransaction's message has its Did.
 use Rattle.std.proofs.Common.{◌≡◌, inl, inr, ℕ, ◌-◌, ◌<◌, ◌≤◌, ◌==◌, ◌&&◌, Bool, true, false, List, ◌∷◌, reverse, refl, sym, ap, subst, ◌∙◌, arith, Some, None, []}
 use Rattle.std.specs.Prelude.{if◌then◌else◌, drop, length, map, take}
 use Rattle.std.proofs.lemmas.Bool.{and_parts, cases_lt}

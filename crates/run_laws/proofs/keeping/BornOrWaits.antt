@@ -1,5 +1,6 @@
--- In every run of every valid script the entry that takes the letter of a strict tree's root bears the tree, or the root
--- waits where its home's update version isn't the one after the read version. No other entry bears it or lets a root wait.
+-- In every run of every valid script the entry that takes the message of a strict transaction's root bears the
+-- transaction, or the root waits if its home's update version isn't the one after the read version. No other entry
+-- bears it or lets a root wait.
 use Rattle.std.proofs.Common.{[], ◌≡◌, ℕ, suc, ◌<◌, ◌≤◌, ◌==◌, ◌&&◌, Bool, true, false, List, ◌∷◌, ◌++◌, map, reverse, refl, sym, ap, subst, ◌∙◌, arith, Option, Some, None}
 use Rattle.std.specs.Prelude.{if◌then◌else◌, IsTrue, is_some, nat_lt, slice_get}
 use Rattle.std.specs.Option.{option_or}

@@ -1,4 +1,4 @@
--- Which acts park a letter or let a root wait: one of each letter that is kept, and none of a row.
+-- Which acts defer a message or let a root wait: one of each message that is deferred, and none of a row.
 use Rattle.std.proofs.Common.{◌≡◌, ℕ, ◌==◌, ◌&&◌, Bool, true, false, List, [], ◌∷◌, ◌++◌, refl, ap, ◌∙◌, arith, Option, Some, None}
 use Rattle.std.specs.Prelude.{nat_lt}
 use Rattle.tv_base.specs.declared.numbers.SubNo.{SubNo}

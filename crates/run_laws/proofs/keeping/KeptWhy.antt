@@ -1,7 +1,7 @@
--- In every run each letter that a node keeps has its reason still: the root of a strict tree waits for a Show, and a
--- subtransaction of an update tree for a holder that its node has.
+-- In every run each message that a node defers has its reason still: the root of a strict transaction waits for a Show,
+-- and a subtransaction of an update transaction for a holder that its node has.
 use Rattle.std.proofs.Common.{◌≡◌, ◌≢◌, ◌⊎◌, inl, inr, ℕ, ◌+◌, ◌<◌, ◌≤◌, ◌==◌, ◌&&◌, Bool, true, false, List, ◌∷◌, refl, sym, ap, subst, ◌∙◌, arith, Option, Some, None, []}
-use Rattle.std.specs.Prelude.{if◌then◌else◌, nat_lt}
+use Rattle.std.specs.Prelude.{if◌then◌else◌}
 use Rattle.std.proofs.lemmas.Bool.{cases_eq}
 use Rattle.std.proofs.lemmas.Bool.Decides.{nat_tests}
 use Rattle.tv_base.specs.declared.numbers.SubNo.{SubNo}

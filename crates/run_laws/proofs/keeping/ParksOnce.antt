@@ -1,6 +1,7 @@
--- In every run no subtransaction is parked twice for one tree. While what was decided of that tree isn't applied at its
--- node, it was parked as often as its letter is kept for that tree; then the letter is woken, and the tree has no lock
--- there any more. Numbers of kept letters while others come and go.
+-- In every run no subtransaction is deferred twice for one transaction. While what was decided of that transaction
+-- isn't applied at its node, it was deferred for that transaction as often as its message still waits for it; then the
+-- message is woken, and the transaction has no lock there any more. Numbers of deferred messages while others come and
+-- go.
 use Rattle.std.proofs.Common.{◌≡◌, ◌≢◌, ◌⊎◌, inl, inr, ℕ, zero, suc, ◌+◌, ◌<◌, ◌≤◌, ◌==◌, ◌&&◌, Bool, true, false, not, List, [], ◌∷◌, map, refl, sym, ap, subst, ◌∙◌, arith}
 use Rattle.std.specs.Prelude.{if◌then◌else◌, nat_lt}
 use Rattle.std.proofs.lemmas.Bool.{cases_eq}

@@ -1,6 +1,6 @@
--- How many letters a tree's home sends to the nodes that the tree visits: of a strict tree each is told once what was decided, and
--- tells once that it applied it; of an update tree each is told once that marks are let go. And a tree visits no more nodes than it
--- has subtransactions.
+-- How many messages a transaction's home sends to the nodes that the transaction visits: of a strict transaction each
+-- is told once what was decided, and tells once that it applied it; of an update transaction each is told once that
+-- marks are let go. And a transaction visits no more nodes than it has subtransactions.
 use Rattle.std.proofs.Common.{◌≡◌, ◌⊎◌, inl, inr, ℕ, zero, suc, ◌+◌, ◌<◌, ◌≤◌, ◌==◌, ◌&&◌, ◌||◌, not, Bool, true, false, List, [], ◌∷◌, ◌++◌, length, refl, sym, ap, subst, ◌∙◌, arith, Option, Some, None, length-append}
 use Rattle.std.specs.Prelude.{if◌then◌else◌, nat_lt}
 use Rattle.std.proofs.lemmas.Bool.Decides.{nat_tests}

@@ -1,5 +1,5 @@
--- In every run the root of a strict tree waits at most once for each version that was shown at its home, and once more while it is
--- kept: a Show wakes it, and raises the version that is read.
+-- In every run the root of a strict transaction waits at most once for each version that was shown at its home, and
+-- once more while it is deferred: a Show wakes it, and raises the version that is read.
 use Rattle.std.proofs.Common.{◌≡◌, ◌≢◌, ◌⊎◌, inl, inr, ℕ, ◌+◌, ◌<◌, ◌≤◌, ◌==◌, ◌&&◌, Bool, true, false, List, ◌∷◌, length, refl, sym, ap, subst, ◌∙◌, arith, []}
 use Rattle.std.proofs.lemmas.Bool.{cases_eq}
 use Rattle.std.proofs.lemmas.Bool.Decides.{nat_tests}

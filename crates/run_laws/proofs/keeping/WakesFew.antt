@@ -1,5 +1,6 @@
--- How many Wakes are sent in a run: of each subtransaction at most as many as its letter was kept. So an update tree's has at most
--- one for each strict tree, and the root of a strict tree at most one for each advancement.
+-- How many Wakes are sent in a run: of each subtransaction at most as many as its message was deferred. So an update
+-- transaction's has at most one for each strict transaction, and the root of a strict transaction at most one for each
+-- advancement.
 use Rattle.std.proofs.Common.{◌≡◌, ◌≢◌, ◌⊎◌, inl, inr, ℕ, ◌+◌, ◌<◌, ◌≤◌, ◌==◌, ◌&&◌, Bool, true, false, List, ◌∷◌, length, refl, sym, ap, subst, ◌∙◌, arith, []}
 use Rattle.std.proofs.lemmas.Bool.{cases_eq}
 use Rattle.std.proofs.lemmas.Bool.Decides.{nat_tests}

@@ -1,4 +1,5 @@
--- What becomes of a held answer where it is acknowledged: with the last acknowledgement it is sent, and its no forgotten.
+-- What becomes of a held answer if it is acknowledged: with the last acknowledgement it is sent, and its negative vote
+-- forgotten.
 use Rattle.std.proofs.Common.{◌≡◌, ◌≢◌, ◌⊎◌, inl, inr, ℕ, ◌-◌, Bool, true, false, List, refl, sym, ap, subst, ◌∙◌, Option, Some, None}
 use Rattle.std.specs.Prelude.{if◌then◌else◌, nat_lt}
 use Rattle.std.proofs.lemmas.Bool.{cases_eq}
@@ -13,10 +14,9 @@ use Rattle.tree_home.specs.declared.homes.Answered.{Answered}
 use Rattle.tree_home.specs.declared.homes.Held.{Held}
 use Rattle.tree_home.specs.declared.homes.OpenTree.{OpenTree}
 use Rattle.tx_trees.specs.ScriptData.{ScriptData}
-use Rattle.tx_trees.specs.declared.parts.TreeKind.TheVariants.{Update, Read, Strict}
 use Rattle.world_model.specs.declared.refusal.NegativeVote.{NegativeVote}
 use Rattle.world_model.specs.Core.{Refusals}
-use Rattle.world_model.specs.Named.{is_strict_at, tree_kind_at}
+use Rattle.world_model.specs.Named.{is_strict_at}
 use Rattle.world_model.specs.Strict.{answer_by, refusals_after}
 use Rattle.run_laws.proofs.strict.StrictKinds.{strict_by_kind}
 use Rattle.run_laws.proofs.replies_told.Homes.{put_cases}

@@ -1,5 +1,5 @@
--- What becomes of a node's homes, held answers and noes: a tree begins, a no is kept in mind, a notice is taken down, an answer
--- is held, and it is acknowledged.
+-- What becomes of a node's homes, held answers and negative votes: a transaction begins, a negative vote is kept in
+-- mind, a notice is taken down, an answer is held, and it is acknowledged.
 use Rattle.std.proofs.Common.{◌≡◌, ◌≢◌, ◌⊎◌, inl, inr, ℕ, zero, suc, ◌+◌, ◌<◌, ◌≤◌, Bool, true, false, List, [], ◌∷◌, ◌++◌, length, set, replicate, refl, sym, ap, subst, ◌∙◌, arith, Option, Some, None}
 use Rattle.std.specs.Prelude.{if◌then◌else◌, nat_lt, slice_get}
 use Rattle.std.proofs.lemmas.Bool.{cases_eq}

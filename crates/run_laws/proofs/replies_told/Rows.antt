@@ -1,4 +1,4 @@
--- What every row of a core makes of what holds of its trees, which it keeps, and what it sends.
+-- What every row of a core makes of what holds of its transactions, which it keeps, and what it sends.
 use Rattle.std.proofs.Common.{◌≡◌, ℕ, ◌<◌, Bool, true, false, not, List, [], ◌∷◌, ◌++◌, length, refl, sym, ap, subst, ◌∙◌, append_assoc, Option, Some, None}
 use Rattle.std.specs.Prelude.{if◌then◌else◌, is_some, nat_lt}
 use Rattle.tv_base.specs.declared.numbers.SubNo.{SubNo}

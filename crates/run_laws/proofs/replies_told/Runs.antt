@@ -1,5 +1,5 @@
--- In runs of apt letters, of every script: homes have what was told, and what each entry sends of replies says it, by
--- all acts of the run.
+-- In runs of enabled messages, of every script: homes have what was told, and what each entry sends of replies says it,
+-- by all acts of the run.
 use Rattle.std.proofs.Common.{◌≡◌, ◌≢◌, ◌⊎◌, inl, inr, ℕ, ◌+◌, ◌<◌, true, List, [], ◌∷◌, ◌++◌, length, refl, sym, ap, subst, ◌∙◌, arith, Option}
 use Rattle.std.specs.Prelude.{is_some}
 use Rattle.std.proofs.lemmas.Bool.{cases_eq}

@@ -1,4 +1,4 @@
--- In every run the reply of a read tree says what its items are worth.
+-- In every run the reply of a read transaction says what its items are worth.
 use Rattle.std.proofs.Common.{◌≡◌, ℕ, suc, ◌+◌, ◌==◌, ◌&&◌, Bool, true, false, List, [], ◌∷◌, ◌++◌, take, reverse, refl, sym, ap, subst, ◌∙◌, arith, Option, Some, None}
 use Rattle.std.specs.Prelude.{if◌then◌else◌, slice_get}
 use Rattle.std.specs.Option.{option_or}
@@ -17,7 +17,7 @@ use Rattle.letter_types.specs.declared.entries.Entry.{Entry}
 use Rattle.letter_types.specs.declared.entries.Outgoing.{Outgoing}
 use Rattle.tree_home.specs.Homes.{Gets}
 use Rattle.tx_trees.specs.Counts.{ops_in}
-use Rattle.tx_trees.specs.ScriptData.{ScriptData, ops_of, reads, sub_at, subs_at}
+use Rattle.tx_trees.specs.ScriptData.{ScriptData, ops_of, reads, subs_at}
 use Rattle.tx_trees.specs.Valid.{IsValid}
 use Rattle.tx_trees.specs.declared.parts.Sub.{Sub}
 use Rattle.tx_trees.specs.declared.parts.SubOp.{SubOp}

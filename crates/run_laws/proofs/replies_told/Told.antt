@@ -1,6 +1,6 @@
--- What holds of a node's homes, held answers and noes, by the acts of a run so far: each notice that was taken down is
--- what its subtransaction told, and the no that is kept in mind is that of the least number. It stays so with more
--- acts.
+-- What holds of a node's homes, held answers and negative votes, by the acts of a run so far: each notice that was
+-- taken down is what its subtransaction told, and the negative vote that is kept in mind is that of the least number.
+-- It stays so with more acts.
 use Rattle.std.proofs.Common.{◌≡◌, ℕ, ◌+◌, ◌<◌, ◌≤◌, true, false, not, List, [], ◌∷◌, ◌++◌, length, arith, Option, Some, None}
 use Rattle.std.specs.Prelude.{is_some, slice_get}
 use Rattle.tv_base.specs.declared.numbers.Version.{Version}

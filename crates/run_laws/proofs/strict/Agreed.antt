@@ -1,5 +1,5 @@
--- In runs of apt letters, of every script: where a commit of a strict tree is told to a node, each subtransaction of the
--- tree there voted yes, and no decision on the tree was applied.
+-- In runs of enabled messages, of every script: if a commit of a strict transaction is told to a node, each
+-- subtransaction of the transaction there voted yes, and no decision on the transaction was applied.
 use Rattle.std.proofs.Common.{◌≡◌, ℕ, ◌+◌, ◌<◌, ◌≤◌, ◌==◌, ◌&&◌, Bool, true, false, List, [], ◌∷◌, length, refl, sym, ap, subst, ◌∙◌, arith, Option, Some, None}
 use Rattle.std.specs.Prelude.{if◌then◌else◌}
 use Rattle.std.proofs.lemmas.Bool.Decides.{nat_tests}

@@ -1,5 +1,5 @@
--- In every run a tree's commit is applied at each node that it visits once, when the tree is whole, and nowhere where it
--- wasn't decided.
+-- In every run a transaction's commit is applied at each node that it visits once, when the transaction is complete,
+-- and nowhere if it wasn't decided.
 use Rattle.std.proofs.Common.{◌≡◌, ◌⊎◌, inl, inr, ℕ, ◌+◌, ◌<◌, ◌≤◌, ◌==◌, ◌&&◌, Bool, true, false, List, length, reverse, refl, ap, ◌∙◌, arith, Some}
 use Rattle.std.specs.Prelude.{slice_get}
 use Rattle.std.proofs.lemmas.Bool.{eqb-true}

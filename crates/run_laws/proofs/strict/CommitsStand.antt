@@ -1,4 +1,4 @@
--- In every run a tree that was decided to commit is born, and stands in the serial order from its version on.
+-- In every run a transaction that was decided to commit is born, and stands in the serial order from its version on.
 use Rattle.std.proofs.Common.{◌≡◌, ℕ, ◌<◌, true, List, length, reverse, take, refl, Option, Some, None}
 use Rattle.tv_base.specs.declared.numbers.Version.{Version}
 use Rattle.letter_types.specs.declared.entries.Entry.{Entry}

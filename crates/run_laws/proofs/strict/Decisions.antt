@@ -1,5 +1,5 @@
--- In every run each decision is of a strict tree at its home, once, when all have voted: it commits where all voted yes. And
--- each is applied at a node that its tree visits, after it was made, once.
+-- In every run each decision is of a strict transaction at its home, once, when all have voted: it commits if all voted
+-- yes. And each is applied at a node that its transaction visits, after it was made, once.
 use Rattle.std.proofs.Common.{◌≡◌, ℕ, suc, ◌+◌, ◌<◌, ◌≤◌, ◌==◌, ◌&&◌, Bool, true, false, not, List, [], ◌∷◌, length, take, refl, sym, ap, ◌∙◌, subst, arith, Option, Some, None}
 use Rattle.std.specs.Prelude.{if◌then◌else◌, slice_get}
 use Rattle.std.proofs.lemmas.Bool.Decides.{nat_tests}

@@ -1,4 +1,4 @@
--- How a hold comes to be among a core's locks by the row of a letter.
+-- How a hold comes to be among a core's locks by the row of a message.
 use Rattle.std.proofs.Common.{◌≡◌, ◌≢◌, ◌⊎◌, inl, inr, ℕ, ◌==◌, Bool, true, false, not, List, [], refl, sym, ap, subst, ◌∙◌, arith, Option, Some, None}
 use Rattle.std.specs.Prelude.{if◌then◌else◌, map, nat_lt}
 use Rattle.std.specs.Option.{option_or}

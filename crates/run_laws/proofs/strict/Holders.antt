@@ -1,4 +1,5 @@
--- In every run a tree that holds an item against marks is strict, had a turn there, and its decision wasn't applied there.
+-- In every run a transaction that holds an item against marks is strict, had a turn there, and its decision wasn't
+-- applied there.
 use Rattle.std.proofs.Common.{◌≡◌, ◌≢◌, ◌⊎◌, inl, inr, ℕ, ◌+◌, ◌<◌, ◌≤◌, ◌==◌, ◌&&◌, Bool, true, false, not, List, [], ◌∷◌, length, refl, sym, ap, subst, ◌∙◌, arith}
 use Rattle.std.specs.Prelude.{if◌then◌else◌}
 use Rattle.std.proofs.lemmas.Bool.{cases_eq}

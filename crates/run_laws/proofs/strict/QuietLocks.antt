@@ -1,4 +1,4 @@
--- What a tree meets by the look back is the same after acts that don't last.
+-- What a transaction meets by the look back is the same after acts that don't last.
 use Rattle.std.proofs.Common.{◌≡◌, ℕ, zero, suc, ◌==◌, ◌&&◌, Bool, true, false, not, List, [], ◌∷◌, ◌++◌, map, refl, ap, ◌∙◌, append-nil, Option, Some}
 use Rattle.std.specs.Prelude.{if◌then◌else◌, fold, length}
 use Rattle.std.specs.List.{list_any}

@@ -1,5 +1,5 @@
--- What rows send and do of the marks of a tree: a row frees what its letter releases, and sends a node at most one Release
--- of a tree, where it answers it.
+-- What rows send and do of the marks of a transaction: a row frees what its message releases, and sends a node at most
+-- one Release of a transaction, if it answers it.
 use Rattle.std.proofs.Common.{◌≡◌, ℕ, zero, suc, ◌+◌, ◌≤◌, ◌==◌, Bool, true, false, List, [], ◌∷◌, ◌++◌, refl, ap, ◌∙◌, arith, Option, Some, None}
 use Rattle.std.specs.Prelude.{if◌then◌else◌, nat_lt}
 use Rattle.std.proofs.lemmas.Bool.Decides.{nat_tests}

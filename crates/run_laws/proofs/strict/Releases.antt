@@ -1,4 +1,4 @@
--- In every run the marks of an update tree go at a node that it visits, once, and where it is whole.
+-- In every run the marks of an update transaction go at a node that it visits, once, and if it is complete.
 use Rattle.std.proofs.Common.{◌≡◌, ℕ, ◌+◌, ◌<◌, ◌≤◌, ◌==◌, ◌&&◌, Bool, true, false, List, [], ◌∷◌, map, length, take, refl, sym, ap, subst, ◌∙◌, arith, Option, Some, None}
 use Rattle.std.specs.Prelude.{if◌then◌else◌, is_some, slice_get}
 use Rattle.std.specs.Option.{option_or}

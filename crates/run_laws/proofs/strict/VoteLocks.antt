@@ -1,5 +1,5 @@
--- In runs of apt letters, of every script: where a subtransaction of a strict tree voted yes, its locks stand until the
--- decision on its tree is applied.
+-- In runs of enabled messages, of every script: if a subtransaction of a strict transaction voted yes, its locks stand
+-- until the decision on its transaction is applied.
 use Rattle.std.proofs.Common.{◌≡◌, ◌≢◌, ◌⊎◌, inl, inr, ℕ, zero, suc, ◌+◌, ◌<◌, ◌≤◌, ◌==◌, ◌&&◌, Bool, true, false, not, List, [], ◌∷◌, refl, sym, ap, subst, ◌∙◌, arith, Option, Some, None}
 use Rattle.std.proofs.Math.Bool.{or-false}
 use Rattle.std.specs.Prelude.{if◌then◌else◌, slice_get}

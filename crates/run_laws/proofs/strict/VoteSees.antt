@@ -1,5 +1,5 @@
--- What a vote finds in every run: a conflict is the one that the look back names; and where there is none, its node sees of
--- its items what they are worth before its entry.
+-- What a vote finds in every run: a conflict is the one that the look back names; and if there is none, its node sees
+-- of its items what they are worth before its entry.
 use Rattle.std.proofs.Common.{◌≡◌, ℕ, true, false, List, length, take, reverse, refl, sym, ap, subst, ◌∙◌, arith, Some, None}
 use Rattle.std.specs.Prelude.{slice_get}
 use Rattle.std.proofs.lemmas.List.{take_all}

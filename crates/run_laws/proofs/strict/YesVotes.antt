@@ -1,5 +1,5 @@
--- In every run each yes is of a born strict tree's subtransaction at its node, once; it meets no lock that conflicts, and
--- what it overwrites is written in no newer version.
+-- In every run each yes is of a born strict transaction's subtransaction at its node, once; it meets no lock that
+-- conflicts, and what it overwrites is written in no newer version.
 use Rattle.std.proofs.Common.{◌≡◌, ◌⊎◌, inl, inr, ℕ, zero, suc, ◌<◌, ◌≤◌, ◌==◌, max, Bool, true, false, List, ◌∷◌, ◌++◌, drop, map, length, take, refl, sym, ap, ◌∙◌, subst, arith, append_assoc, take-append-drop, Option, Some, None, []}
 use Rattle.std.specs.Prelude.{if◌then◌else◌, fold, is_some, nat_lt, slice_get}
 use Rattle.std.specs.Option.{option_or}

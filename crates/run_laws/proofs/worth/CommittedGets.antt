@@ -1,5 +1,5 @@
--- In every run what a strict tree that commits got is what its items are worth after the members of the serial order
--- before it: a yes is right before its entry, and what its entry did before is quiet.
+-- In every run what a strict transaction that commits got is what its items are worth after the members of the serial
+-- order before it: a yes is right before its entry, and what its entry did before is quiet.
 use Rattle.std.proofs.Common.{◌≡◌, ℕ, suc, ◌+◌, ◌≤◌, ◌==◌, Bool, true, false, not, List, [], ◌∷◌, ◌++◌, length, reverse, take, refl, sym, ap, subst, ◌∙◌, append_assoc, arith, cond, Some}
 use Rattle.std.specs.Prelude.{if◌then◌else◌, slice_get}
 use Rattle.std.specs.List.{AllByRecursion, before_first, position_or_len}

@@ -1,5 +1,5 @@
--- What a node sees of its item is what the item is worth, where all that changed the item is closed; and it is closed up to
--- a version where each writer of the versions up to it is whole.
+-- What a node sees of its item is what the item is worth, if all that changed the item is closed; and it is closed up
+-- to a version if each writer of the versions up to it is complete.
 use Rattle.std.proofs.Common.{◌≡◌, ℕ, ◌<◌, ◌≤◌, List, reverse, refl, ap, ◌∙◌, Some}
 use Rattle.std.specs.Prelude.{slice_get}
 use Rattle.commute_ops.specs.declared.value.Value.{Value}

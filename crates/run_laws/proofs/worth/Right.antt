@@ -1,4 +1,4 @@
--- In every run each subtransaction of a read tree gives what its items are worth, and so does each yes.
+-- In every run each subtransaction of a read transaction gives what its items are worth, and so does each yes.
 use Rattle.std.proofs.Common.{◌≡◌, ℕ, Bool, true, false, List, [], ◌∷◌, ◌++◌, reverse, refl, sym, ap, subst, ◌∙◌, Option, Some, None}
 use Rattle.std.specs.Prelude.{slice_get}
 use Rattle.tv_base.specs.declared.numbers.ItemNo.{ItemNo}

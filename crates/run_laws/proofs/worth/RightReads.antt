@@ -1,4 +1,5 @@
--- In every run a subtransaction of a read tree gives what its items are worth at the tree's version, up to its Did.
+-- In every run a subtransaction of a read transaction gives what its items are worth at the transaction's version, up
+-- to its Did.
 use Rattle.std.proofs.Common.{◌≡◌, ℕ, suc, ◌<◌, true, false, List, [], ◌∷◌, ◌++◌, length, take, refl, sym, ap, subst, ◌∙◌, arith, Option, Some}
 use Rattle.std.specs.Prelude.{slice_get}
 use Rattle.std.specs.List.{AllByRecursion}

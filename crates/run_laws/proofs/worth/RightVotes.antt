@@ -1,4 +1,4 @@
--- In every run a yes gives what its gets are worth at its tree's version, in the history before its entry.
+-- In every run a yes gives what its gets are worth at its transaction's version, in the history before its entry.
 use Rattle.std.proofs.Common.{if◌then◌else◌, ◌≡◌, ℕ, List, [], ◌∷◌, ◌++◌, reverse, refl, sym, ap, subst, ◌∙◌, Option, Some, None}
 use Rattle.std.specs.Prelude.{slice_get}
 use Rattle.std.specs.List.{AllByRecursion}

@@ -1,4 +1,5 @@
--- In every run what the steps of read trees gave stays right: it is what the whole history has at their versions.
+-- In every run what the steps of read transactions gave stays right: it is what the whole history has at their
+-- versions.
 use Rattle.std.proofs.Common.{◌≡◌, ℕ, List, [], ◌∷◌, ◌++◌, take, reverse, refl, sym, ap, subst, ◌∙◌, Some}
 use Rattle.std.specs.Prelude.{slice_get}
 use Rattle.commute_ops.specs.declared.value.Value.{Value}

@@ -1,4 +1,4 @@
--- In every run, before each Did of a read tree all writers of its version and older ones are whole.
+-- In every run, before each Did of a read transaction all writers of its version and older ones are complete.
 use Rattle.std.proofs.Common.{◌≡◌, ℕ, suc, List, [], ◌∷◌, ◌++◌, take, reverse, refl, sym, ap, subst, ◌∙◌, Option, Some, None}
 use Rattle.std.specs.Prelude.{slice_get}
 use Rattle.tv_base.specs.declared.numbers.ItemNo.{ItemNo}

@@ -26,7 +26,7 @@ with_items n = record {
   begun = false;
 }
 
--- the script with its first j trees
+-- the script with its first j transactions
 pub record HasTrees (seed j : ℕ) (s : ScriptData) : Type 0 where
   pub form : s.form ≡ forms.One
   pub nodes : s.nodes ≡ 4
@@ -35,7 +35,7 @@ pub record HasTrees (seed j : ℕ) (s : ScriptData) : Type 0 where
   pub rows : s.rows ≡ rows_up_to j
   pub picks : s.picks ≡ []
 
--- the script, which has j trees, has room for one more
+-- the script, which has j transactions, has room for one more
 pub record HasRoomForTree (j : ℕ) (s : ScriptData) : Type 0 where
   pub form : s.form ≡ forms.One
   pub nodes : s.nodes ≡ 4
@@ -53,7 +53,7 @@ pub record HasRoomForTree (j : ℕ) (s : ScriptData) : Type 0 where
 abbrev pub bare_sub : ℕ → ℕ → ℕ → Sub
 bare_sub home n e = record { parent = record { 0 = parent_by n e }; node = record { 0 = node_by home n e }; ops = [] }
 
--- tree j with its first n subtransactions, and the next without its operation
+-- transaction j with its first n subtransactions, and the next without its operation
 abbrev pub bare_tree : ℕ → ℕ → ℕ → Tree
 bare_tree j x n = record {
   name = tree_name j;
@@ -63,7 +63,7 @@ bare_tree j x n = record {
   written = None;
 }
 
--- the script with one more tree, which is tree j and is begun
+-- the script with one more transaction, which is transaction j and is begun
 abbrev pub with_begun : ScriptData → ℕ → Tree → ScriptData
 with_begun s j t = record s {
   trees = s.trees ++ t ∷ [];
@@ -75,7 +75,7 @@ with_begun s j t = record s {
 abbrev pub with_op_by : ScriptData → TreeKind → ℕ → ℕ → ScriptData
 with_op_by s kind node e = with_op s (item_by node e) (deed_by kind (item_by node e) (amount_by e))
 
--- the script with a row more, or none, and with all else but for whether a tree is begun
+-- the script with a row more, or none, and with all else but for whether a transaction is begun
 pub record Follows (s t : ScriptData) (more : List ScriptRow) : Type 0 where
   pub form : t.form ≡ s.form
   pub nodes : t.nodes ≡ s.nodes
@@ -84,6 +84,6 @@ pub record Follows (s t : ScriptData) (more : List ScriptRow) : Type 0 where
   pub rows : t.rows ≡ s.rows ++ more
   pub picks : t.picks ≡ s.picks
 
--- all trees are waited for, and then one more advancement
+-- all transactions are waited for, and then one more advancement
 abbrev pub with_last_rows : ScriptData → ScriptData
 with_last_rows s = with_row (with_row (with_row s rows.Settle) rows.Advance) rows.Settle

@@ -1,4 +1,4 @@
--- Names of items and of trees that are ASCII. Private code alone cites these definitions.
+-- Names of items and of transactions that are ASCII. Private code alone cites these definitions.
 use Rattle.std.specs.Prelude.{List}
 use Rattle.std.specs.List.{AllByRecursion}
 use Rattle.std.specs.Str.{IsAscii}

@@ -35,7 +35,7 @@ pub record MayAddSub (s : ScriptData) (parent : ℕ) (node : NodeNo) : Type 0 wh
   pub earlier : nat_le (last_subs s.trees) parent ≡ false
   pub room : has_no_sub_left s.trees ≡ false
 
--- the last tree may be undone, and no number but its weight is against it
+-- the last transaction may be compensated, and no number but its weight is against it
 pub record MayUndo (s : ScriptData) (k : ℕ) (expanded : List Sub) : Type 0 where
   pub second : s.form ≡ forms.Two
   pub begun : s.begun ≡ true

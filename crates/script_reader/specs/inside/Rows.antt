@@ -17,7 +17,7 @@ Makes made (Ok s) = made ≡ Ok s
 Makes made (Err (refusals.Why w)) = made ≡ Err w
 Makes made (Err refusals.NoMemory) = ⊤
 
--- what the first record made: a script, or, where it names the second form, none yet
+-- what the first record made: a script, or, if it names the second form, none yet
 abbrev pub HasBegunWith : Result (Option ScriptData) Why → Result (Option ScriptData) Refusal → Type 0
 HasBegunWith begun (Ok s) = begun ≡ Ok s
 HasBegunWith begun (Err (refusals.Why w)) = begun ≡ Err w
@@ -29,7 +29,7 @@ Leaves made (Ok done) new = made ≡ Ok new
 Leaves made (Err (refusals.Why w)) new = made ≡ Err w
 Leaves made (Err refusals.NoMemory) new = ⊤
 
--- what a record of so many fields is, by what its word says, if such a row may stand here
+-- what a record of that many fields is, by what its word says, if such a row may stand here
 abbrev pub row_by : (RowWord → Bool) → ℕ → Option RowShape → Result RowWord Why
 row_by may len found =
     option_map_or

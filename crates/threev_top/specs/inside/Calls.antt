@@ -59,7 +59,7 @@ audit_stop audits.Reading = stops.Reading
 audit_stop (audits.Script f) = stops.Script f
 audit_stop (audits.History f) = stops.History f
 
--- what is told of a stop: the stop, or out of memory where the line of a refused script or history finds none
+-- what is told of a stop: the stop, or out of memory if the line of a refused script or history finds none
 abbrev pub MayTell : Stop → Stop → Type 0
 MayTell (stops.History f) told = (told ≡ stops.History f) ⊎ (told ≡ stops.NoMemory)
 MayTell (stops.Script f) told = (told ≡ stops.Script f) ⊎ (told ≡ stops.NoMemory)

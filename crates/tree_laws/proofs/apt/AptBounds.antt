@@ -1,4 +1,4 @@
--- In runs of apt letters, of every script: each node's items keep to what took effect on them.
+-- In runs of enabled messages, of every script: each node's items keep to what took effect on them.
 use Rattle.std.proofs.Common.{◌≡◌, ◌≢◌, ◌⊎◌, inl, inr, ℕ, ◌+◌, ◌<◌, ◌≤◌, ◌==◌, ◌&&◌, Bool, true, false, List, [], ◌∷◌, refl, sym, ap, subst, ◌∙◌, arith, Some}
 use Rattle.std.specs.Prelude.{slice_get}
 use Rattle.std.specs.List.{AllByRecursion}
@@ -35,7 +35,7 @@ use Rattle.world_model.proofs.Scripts.{SubAt}
 use Rattle.tree_laws.specs.Applied.{applies_as}
 use Rattle.tree_laws.specs.Dids.{asks}
 use Rattle.tree_laws.specs.Effects.{effects}
-use Rattle.tree_laws.specs.Turns.{has_turn, turns}
+use Rattle.tree_laws.specs.Turns.{has_turn}
 use Rattle.tree_laws.proofs.apt.AptItems.{Applies, Changes, Collects, Follows, Raises, Rests, Shows, Touches, core_changes}
 use Rattle.tree_laws.proofs.stages.AptStagesOwn.{sub_of_node}
 use Rattle.tree_laws.proofs.apt.AptTurns.{core_turns}

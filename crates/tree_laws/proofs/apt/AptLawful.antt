@@ -1,5 +1,6 @@
--- What the laws of phases need of trees, in runs of apt letters of every script: nudges are at most as many as trees, an
--- answer has the version of the last notice, and nothing is at a home of a tree whose root has still to be done.
+-- What the laws of phases need of transactions, in runs of enabled messages of every script: nudges are at most as many
+-- as transactions, an answer has the version of the last notice, and nothing is at a home of a transaction whose root
+-- has still to be done.
 use Rattle.std.proofs.Common.{◌≡◌, ◌≢◌, ◌⊎◌, inl, inr, ℕ, ◌+◌, ◌<◌, ◌≤◌, ◌==◌, Bool, true, false, List, [], ◌∷◌, ◌++◌, length, get_or, set, refl, sym, ap, ◌∙◌, arith, replicate, zero, suc, Option, Some, None}
 use Rattle.std.specs.Prelude.{if◌then◌else◌, nat_lt}
 use Rattle.std.proofs.lemmas.Bool.{cases_eq}

@@ -1,4 +1,4 @@
--- What an entry of a run of apt letters is to a tree, by cases.
+-- What an entry of a run of enabled messages is to a transaction, by cases.
 use Rattle.std.proofs.Common.{◌≡◌, ◌≢◌, ◌⊎◌, inl, inr, ℕ, ◌+◌, ◌<◌, ◌==◌, not, List, ◌∷◌, length, refl, sym, ap, subst, ◌∙◌, arith, Some}
 use Rattle.std.specs.Prelude.{nat_lt}
 use Rattle.std.proofs.lemmas.Bool.{cases_eq}

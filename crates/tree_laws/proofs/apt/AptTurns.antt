@@ -1,5 +1,5 @@
--- In runs of apt letters, of every script: each subtransaction has at most one turn, and a tree is born where its root
--- has it.
+-- In runs of enabled messages, of every script: each subtransaction has at most one turn, and a transaction is born if
+-- its root has it.
 use Rattle.std.proofs.Common.{◌≡◌, ◌⊎◌, inl, inr, ℕ, zero, suc, ◌+◌, ◌<◌, ◌≤◌, ◌==◌, ◌&&◌, Bool, true, false, List, ◌∷◌, length, refl, sym, ap, subst, ◌∙◌, arith, Option, Some, None, []}
 use Rattle.std.specs.Prelude.{slice_get}
 use Rattle.std.proofs.lemmas.Bool.Decides.{nat_tests}

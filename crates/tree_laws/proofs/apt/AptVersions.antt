@@ -1,4 +1,5 @@
--- In runs of apt letters, of every script: each Sub and each notice carries the version with which its tree was born.
+-- In runs of enabled messages, of every script: each Sub and each notice carries the version with which its transaction
+-- was born.
 use Rattle.std.proofs.Common.{◌≡◌, ℕ, ◌+◌, ◌<◌, ◌≤◌, ◌==◌, ◌&&◌, Bool, true, false, not, List, [], ◌∷◌, ◌++◌, length, reverse, refl, ap, ◌∙◌, arith, Option, Some, None}
 use Rattle.std.specs.Prelude.{if◌then◌else◌, nat_lt, is_some}
 use Rattle.std.specs.Option.{option_or}

@@ -1,5 +1,5 @@
--- In runs of apt letters, of every script: a node's versions lie from its low version to two above it, those of its items
--- ascend there, and so its items have room for each version of that window.
+-- In runs of enabled messages, of every script: a node's versions lie from its low version to two above it, those of
+-- its items ascend there, and so its items have room for each version of that window.
 use Rattle.std.proofs.Common.{◌≡◌, ◌≢◌, ◌⊎◌, inl, inr, ℕ, ◌+◌, ◌<◌, ◌≤◌, ◌==◌, ◌&&◌, Bool, true, false, List, ◌∷◌, refl, sym, ap, subst, ◌∙◌, arith, Option, Some, None, []}
 use Rattle.std.specs.Prelude.{if◌then◌else◌, nat_lt}
 use Rattle.std.proofs.lemmas.Bool.{cases_eq}

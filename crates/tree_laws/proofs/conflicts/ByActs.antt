@@ -1,6 +1,6 @@
 -- A node's locks after a step are what its acts say, kind by kind.
 use Rattle.std.proofs.Common.{◌≡◌, ◌&&◌, ◌||◌, ℕ, Bool, true, false, List, [], ◌∷◌, ◌++◌, refl, sym, ap, ◌∙◌, arith, Option, Some, None}
-use Rattle.std.specs.Prelude.{if◌then◌else◌, not, map, nat_lt, slice_get}
+use Rattle.std.specs.Prelude.{if◌then◌else◌, map, nat_lt, slice_get}
 use Rattle.std.proofs.lemmas.Bool.{and_parts}
 use Rattle.std.proofs.lemmas.List.Sums.{fold-append}
 use Rattle.tv_base.specs.declared.numbers.SubNo.{SubNo}

@@ -1,5 +1,5 @@
--- Which trees hold items against marks: a strict tree does from a vote of yes until its decision is applied. What the
--- row of a core takes and lets go of these, and what is met by one who needs marks.
+-- Which transactions hold items against marks: a strict transaction does from a vote of yes until its decision is
+-- applied. What the row of a core takes and lets go of these, and what is met by one who needs marks.
 use Rattle.std.proofs.Common.{◌≡◌, ◌⊎◌, inl, inr, ℕ, ◌==◌, ◌&&◌, Bool, true, false, not, List, [], ◌∷◌, map, refl, sym, ap, subst, ◌∙◌, arith, Option, Some, None}
 use Rattle.std.specs.Prelude.{if◌then◌else◌, nat_lt}
 use Rattle.std.specs.Option.{option_or}

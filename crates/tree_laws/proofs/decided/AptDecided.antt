@@ -1,5 +1,5 @@
--- In runs of apt letters, of every script: a tree is decided on at most once, and only if it is strict: where its home has
--- all its notices.
+-- In runs of enabled messages, of every script: a transaction is decided on at most once, and only if it is strict: if
+-- its home has all its notices.
 use Rattle.std.proofs.Common.{◌≡◌, ◌≢◌, ℕ, ◌+◌, ◌<◌, ◌≤◌, ◌==◌, ◌&&◌, Bool, true, false, not, List, ◌∷◌, length, refl, sym, ap, subst, ◌∙◌, arith, Option, Some, None, []}
 use Rattle.tv_base.specs.declared.numbers.SubNo.{SubNo}
 use Rattle.tv_base.specs.declared.numbers.TreeNo.{TreeNo}

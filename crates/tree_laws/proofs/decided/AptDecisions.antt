@@ -1,5 +1,5 @@
--- In runs of apt letters, of every script: each open tree, each decision and each acknowledgement of one carries the
--- version with which its tree was born. So does each letter, with the Subs and the notices.
+-- In runs of enabled messages, of every script: each open transaction, each decision and each acknowledgement of one
+-- carries the version with which its transaction was born. So does each message, with the Subs and the notices.
 use Rattle.std.proofs.Common.{◌≡◌, ◌≢◌, ◌⊎◌, inl, inr, ℕ, ◌<◌, ◌≤◌, ◌==◌, Bool, true, false, not, List, [], ◌∷◌, ◌++◌, length, refl, sym, ap, subst, ◌∙◌, arith, Option, Some, None}
 use Rattle.std.specs.Prelude.{if◌then◌else◌, nat_lt}
 use Rattle.std.proofs.lemmas.Bool.{cases_eq}

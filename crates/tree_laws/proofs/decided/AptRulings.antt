@@ -1,4 +1,4 @@
--- What the row of a core decides on strict trees, what it tells of that, and what it applies.
+-- What the row of a core decides on strict transactions, what it tells of that, and what it applies.
 use Rattle.std.proofs.Common.{◌≡◌, ℕ, ◌+◌, ◌<◌, ◌==◌, ◌&&◌, Bool, true, false, List, [], ◌∷◌, ◌++◌, length, refl, sym, ap, subst, ◌∙◌, arith, Option, Some, None}
 use Rattle.std.specs.Prelude.{if◌then◌else◌, nat_lt}
 use Rattle.tv_base.specs.declared.numbers.ItemNo.{ItemNo}

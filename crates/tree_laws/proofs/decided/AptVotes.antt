@@ -1,5 +1,5 @@
--- In runs of apt letters, of every script: a strict tree commits where none of its subtransactions voted no, and aborts
--- where one did. Its home keeps a no in mind exactly where one has come to it.
+-- In runs of enabled messages, of every script: a strict transaction commits if none of its subtransactions voted no,
+-- and aborts if one did. Its home keeps a negative vote in mind exactly if one has come to it.
 use Rattle.std.proofs.Common.{◌≡◌, ◌≢◌, ℕ, ◌+◌, ◌<◌, ◌≤◌, ◌==◌, ◌&&◌, ◌⊎◌, inl, inr, Bool, true, false, not, List, [], ◌∷◌, length, refl, sym, ap, subst, ◌∙◌, arith, Option, Some, None}
 use Rattle.std.specs.Prelude.{if◌then◌else◌, nat_lt}
 use Rattle.std.proofs.lemmas.Bool.{cases_eq}

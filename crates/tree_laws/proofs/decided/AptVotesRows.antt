@@ -1,4 +1,4 @@
--- What the row of a core votes and tells of votes, and which no it keeps in mind of each tree.
+-- What the row of a core votes and tells of votes, and which negative vote it keeps in mind of each transaction.
 use Rattle.std.proofs.Common.{◌≡◌, ℕ, ◌==◌, Bool, true, false, [], ◌∷◌, ◌++◌, refl, sym, ap, arith, Option, Some, None}
 use Rattle.std.specs.Prelude.{if◌then◌else◌, nat_lt}
 use Rattle.tv_base.specs.declared.numbers.SubNo.{SubNo}

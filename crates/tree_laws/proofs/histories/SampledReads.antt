@@ -1,4 +1,5 @@
--- The small run with a read tree: after the update tree is whole, the read tree still shows the initial values.
+-- The small run with a read transaction: after the update transaction is complete, the read transaction still shows the
+-- initial values.
 use Rattle.std.proofs.Common.{◌≡◌, true, [], ◌∷◌, reverse, refl, Some}
 use Rattle.std.specs.Prelude.{pos}
 use Rattle.commute_ops.specs.declared.value.Value.TheVariants.{Sum}

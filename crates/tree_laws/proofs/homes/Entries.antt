@@ -1,4 +1,4 @@
--- What is taken of letters, by trees.
+-- What is taken of messages, by transactions.
 use Rattle.std.proofs.Common.{◌≡◌, ℕ, suc, ◌+◌, ◌<◌, ◌≤◌, ◌==◌, ◌&&◌, List, ◌∷◌, length, refl, sym, subst, ◌∙◌, arith, Some, []}
 use Rattle.std.specs.Prelude.{slice_get}
 use Rattle.std.specs.List.{AllByRecursion}

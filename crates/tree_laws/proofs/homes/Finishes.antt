@@ -1,4 +1,4 @@
--- Rows whose trees are answered, and what is counted where no letter is in flight.
+-- Rows whose transactions are answered, and what is counted if no message is in flight.
 use Rattle.std.proofs.Common.{◌≡◌, inl, inr, ℕ, suc, ◌+◌, ◌<◌, ◌≤◌, ◌==◌, Bool, true, false, List, ◌∷◌, length, take, reverse, refl, sym, ap, ◌∙◌, arith, Option, Some, None, []}
 use Rattle.std.specs.Prelude.{get_or, slice_get}
 use Rattle.std.proofs.lemmas.Bool.Decides.{nat_tests}

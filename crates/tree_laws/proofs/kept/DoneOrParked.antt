@@ -1,5 +1,5 @@
--- A core does each subtransaction of an update or read tree that it is asked for, unless a lock is in the way: then it parks
--- it for that.
+-- A core does each subtransaction of an update or read transaction that it is asked for, unless a lock is in the way:
+-- then it defers it for that.
 use Rattle.std.proofs.Common.{◌≡◌, ℕ, ◌<◌, ◌||◌, Bool, true, false, not, List, [], ◌∷◌, reverse, refl, sym, ap, subst, ◌∙◌, Option, Some, None}
 use Rattle.std.specs.Prelude.{if◌then◌else◌, is_some, map, nat_lt}
 use Rattle.std.specs.List.{list_any}

@@ -1,4 +1,4 @@
--- Trees of which the client has not heard the answer, and the nudges that it sends.
+-- Transactions of which the client has not heard the answer, and the nudges that it sends.
 use Rattle.std.proofs.Common.{◌≡◌, ℕ, zero, suc, ◌+◌, ◌<◌, Bool, true, false, not, List, ◌∷◌, length, get_or, set, replicate, take, drop, refl, arith, []}
 use Rattle.letter_types.specs.declared.bodies.Body.{Body}
 use Rattle.tx_trees.specs.ScriptData.{ScriptData}

@@ -1,4 +1,4 @@
--- Which acts park, by the row of a core, which never does, and by a core that keeps a letter; and whether a
+-- Which acts defer, by the row of a core, which never does, and by a core that defers a message; and whether a
 -- subtransaction is among those done.
 use Rattle.std.proofs.Common.{◌≡◌, ℕ, Bool, true, false, List, [], ◌∷◌, ◌++◌, refl, ap, ◌∙◌, arith, Option, Some, None}
 use Rattle.std.specs.Prelude.{nat_lt, slice_get}

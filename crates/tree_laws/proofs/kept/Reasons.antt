@@ -1,4 +1,4 @@
--- Each letter that a node keeps has its reason.
+-- Each message that a node defers has its reason.
 use Rattle.std.proofs.Common.{◌≡◌, Bool, true, false, refl, subst, Option, Some, None}
 use Rattle.std.specs.Prelude.{if◌then◌else◌, nat_lt}
 use Rattle.tv_base.specs.declared.numbers.SubNo.{SubNo}

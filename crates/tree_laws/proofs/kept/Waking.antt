@@ -1,4 +1,4 @@
--- In every run of apt letters, of each subtransaction as many Wakes are in flight to a node as letters are called
+-- In every run of enabled messages, of each subtransaction as many Wakes are in flight to a node as messages are called
 -- there. So each Wake brings one.
 use Rattle.std.proofs.Common.{◌≡◌, ◌≢◌, ◌⊎◌, inl, inr, ℕ, ◌+◌, ◌<◌, ◌≤◌, ◌==◌, ◌&&◌, Bool, true, false, List, [], ◌∷◌, refl, sym, ap, subst, ◌∙◌, arith, Some}
 use Rattle.std.specs.Prelude.{if◌then◌else◌, IsSome}

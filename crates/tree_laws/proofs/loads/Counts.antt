@@ -1,6 +1,5 @@
 -- What one more subtransaction that is done adds to a load.
 use Rattle.std.proofs.Common.{◌≡◌, ◌⊎◌, ℕ, ◌+◌, ◌<◌, ◌==◌, ◌&&◌, sym, arith}
-use Rattle.std.proofs.lemmas.Bool.Decides.{nat_tests}
 use Rattle.tx_trees.specs.ScriptData.{ScriptData, ops_of}
 use Rattle.tx_trees.specs.Valid.{ops_load}
 use Rattle.world_model.specs.Counts.{one_if}

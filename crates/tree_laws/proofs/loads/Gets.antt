@@ -1,4 +1,4 @@
--- The gets of a read tree find a value, since each item of their node is there.
+-- The gets of a read transaction find a value, since each item of their node is there.
 use Rattle.std.proofs.Common.{◌≡◌, ℕ, ◌&&◌, Bool, true, List, [], ◌∷◌, refl, Option, Some, None}
 use Rattle.std.specs.Prelude.{is_some, slice_get}
 use Rattle.std.specs.List.{AllByRecursion}

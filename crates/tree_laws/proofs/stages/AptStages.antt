@@ -1,4 +1,4 @@
--- How the stage of a tree goes on, in runs of every script.
+-- How the stage of a transaction goes on, in runs of every script.
 use Rattle.std.proofs.Common.{◌≡◌, ◌⊎◌, inl, inr, ℕ, ◌+◌, ◌-◌, ◌<◌, ◌≤◌, Bool, true, false, List, ◌∷◌, length, set, refl, ap, ◌∙◌, arith, Option, Some, None}
 use Rattle.std.specs.Prelude.{nat_lt, slice_get}
 use Rattle.std.proofs.lemmas.Bool.{cases_lt}

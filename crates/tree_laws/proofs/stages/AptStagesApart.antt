@@ -1,5 +1,5 @@
--- In runs of apt letters: notices and the letters of decisions go to nodes. So the coordinator and the client leave the
--- stage of each tree.
+-- In runs of enabled messages: notices and the messages of decisions go to nodes. So the coordinator and the client
+-- leave the stage of each transaction.
 use Rattle.std.proofs.Common.{◌≡◌, ℕ, ◌<◌, ◌≤◌, ◌==◌, ◌&&◌, Bool, true, false, not, List, [], ◌∷◌, ◌++◌, length, refl, ap, ◌∙◌, arith, Option, Some, None}
 use Rattle.std.specs.Prelude.{if◌then◌else◌, nat_lt, slice_get}
 use Rattle.std.proofs.lemmas.Bool.Decides.{nat_tests}

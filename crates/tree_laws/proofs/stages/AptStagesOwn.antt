@@ -1,4 +1,4 @@
--- A node does a letter of a tree of its own: what becomes of that tree's stage.
+-- A node does a message of a transaction of its own: what becomes of that transaction's stage.
 use Rattle.std.proofs.Common.{◌≡◌, ◌≢◌, ◌⊎◌, inl, inr, ℕ, zero, suc, ◌+◌, ◌<◌, ◌≤◌, ◌==◌, ◌&&◌, Bool, true, List, [], ◌∷◌, length, set, refl, sym, ap, subst, ◌∙◌, arith, Option, Some, None}
 use Rattle.std.specs.Prelude.{if◌then◌else◌, nat_lt, slice_get}
 use Rattle.std.proofs.lemmas.Bool.{cases_eq}

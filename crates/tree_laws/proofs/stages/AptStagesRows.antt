@@ -1,4 +1,5 @@
--- What the row of a core makes of the homes and the held answers of trees: of the letter's own tree, and of any other.
+-- What the row of a core makes of the homes and the held answers of transactions: of the message's own transaction, and
+-- of any other.
 use Rattle.std.proofs.Common.{◌≡◌, ◌≢◌, ℕ, ◌<◌, Bool, true, false, List, [], ◌∷◌, ◌++◌, length, refl, sym, ap, ◌∙◌, arith, Option, Some, None}
 use Rattle.std.specs.Prelude.{if◌then◌else◌, nat_lt}
 use Rattle.tv_base.specs.declared.numbers.SubNo.{SubNo}

@@ -1,4 +1,4 @@
--- In runs of apt letters, of every script: each tree is at one of its stages.
+-- In runs of enabled messages, of every script: each transaction is at one of its stages.
 use Rattle.std.proofs.Common.{ℕ, ◌<◌, List, [], ◌∷◌, length, refl, subst}
 use Rattle.letter_types.specs.declared.entries.Entry.{Entry}
 use Rattle.tx_trees.specs.ScriptData.{ScriptData}

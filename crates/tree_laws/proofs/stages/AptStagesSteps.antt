@@ -1,4 +1,4 @@
--- What an entry of a run of apt letters makes of the stage of a tree, by the letter that a node does.
+-- What an entry of a run of enabled messages makes of the stage of a transaction, by the message that a node does.
 use Rattle.std.proofs.Common.{◌≡◌, ◌≢◌, ◌⊎◌, inl, inr, ℕ, zero, suc, ◌+◌, ◌==◌, ◌&&◌, false, List, [], ◌∷◌, map, refl, sym, ap, subst, ◌∙◌, arith}
 use Rattle.std.proofs.lemmas.Bool.{cases_eq}
 use Rattle.tv_base.specs.declared.numbers.SubNo.{SubNo}

@@ -72,8 +72,8 @@ abbrev pub stands_before : ℕ → ℕ → List WorthStep → Bool
 stands_before zero v ss = false
 stands_before (suc p) v ss = elim (slice_get ss p) [ None ↦ false | Some s ↦ s.version.0 == v ]
 
--- steps with these in place of those from a place on, and their values worked out anew; where one begins at the place,
--- and where the one there goes on with a deed
+-- steps with these in place of those from a place on, and their values worked out anew; if one begins at the place,
+-- and if the one there goes on with a deed
 abbrev pub revalued_from : Kind → ℤ → ℕ → List WorthStep → List WorthStep → List WorthStep
 revalued_from k first p above ss = take p ss ++ revalued k (number_below first p ss) above
 

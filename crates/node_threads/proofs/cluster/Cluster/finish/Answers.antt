@@ -1,5 +1,4 @@
-use Rattle.std.proofs.Common.{◌≡◌, ℕ, List, length, ap, arith, sym, ◌∙◌, subst}
-use Rattle.std.specs.Prelude.{sum_by}
+use Rattle.std.proofs.Common.{ap, arith, sym, ◌∙◌, subst}
 use Rattle.history_merge.specs.Merging.{NumberedBy}
 use Rattle.history_merge.specs.OwnLogs.{LogData}
 use Rattle.history_merge.proofs.Parts.{numbered_as}
