@@ -19,6 +19,20 @@ IsNext {T} print May old new None = (x : T) (rest : List (List ℕ)) → old ≡
 abbrev pub IsNextWord : {T : Type 0} → List ℕ → List (List ℕ) → List (List ℕ) → Option T → Type 0
 IsNextWord word old new read = MatchOption read ((rest : List (List ℕ)) → old ≡ word ∷ rest → ⊥) (λ _. old ≡ word ∷ new)
 
+-- one word that is all that is left
+abbrev pub alone : {T : Type 0} → (T → List ℕ) → T → List (List ℕ)
+alone print x = print x ∷ []
+
+-- a number behind a word, and a version behind its word
+abbrev pub behind_word : List ℕ → ℕ → List (List ℕ)
+behind_word word n = word ∷ decimal n ∷ []
+
+abbrev pub version_words : Version → List (List ℕ)
+version_words v = behind_word (codes "version") v.0
+
+abbrev pub IsVersion : Version → Type 0
+IsVersion v = IsWord v.0
+
 -- this number comes behind a word; and no number comes there
 abbrev pub IsBehind : List ℕ → List (List ℕ) → List (List ℕ) → ℕ → Type 0
 IsBehind word old new n = (old ≡ word ∷ decimal n ∷ new) × IsWord n
@@ -56,3 +70,10 @@ IsNextRound old new v k = (old ≡ decimal v.0 ∷ codes "round" ∷ decimal k �
 abbrev pub HasNoRound : List (List ℕ) → Type 0
 HasNoRound old = (v : Version) (k : ℕ) (rest : List (List ℕ))
     → old ≡ decimal v.0 ∷ codes "round" ∷ decimal k ∷ rest → IsWord v.0 → IsWord k → ⊥
+
+-- and they are all that is left; and they aren't
+abbrev pub IsLastRound : List (List ℕ) → Version → ℕ → Type 0
+IsLastRound old v k = (old ≡ decimal v.0 ∷ behind_word (codes "round") k) × IsWord v.0 × IsWord k
+
+abbrev pub IsNoRound : List (List ℕ) → Type 0
+IsNoRound old = (v : Version) (k : ℕ) → old ≡ decimal v.0 ∷ behind_word (codes "round") k → IsWord v.0 → IsWord k → ⊥
