@@ -5,7 +5,7 @@ ghost use Rattle.history_text.specs.Printable.{IsHalfWord, IsWord};
 ghost use Rattle.history_text.specs.Words.{HasItem, HasTree, name_of_item, name_of_tree};
 ghost use Rattle.tx_trees.specs.ScriptData.{sub_at};
 ghost use Rattle.history_text.specs.LineParts.{commit_word, what_word};
-ghost use Rattle.history_reader.specs.inside.Next.{IsNext, HasNoRound, HasNoSub, HasNoVersion, HasNoneBehind, IsBehind, IsLastOrder, IsLastRound, IsNextRound, IsNextSub, IsNextVersion, IsNextWord, IsNoOrder, IsNoRound, IsVersion, alone, behind_word, version_words};
+ghost use Rattle.history_reader.specs.inside.Next.{AreNext, IsNext, HasNoRound, HasNoSub, IsLastOrder, IsLastRound, IsNextRound, IsNextSub, IsNextWord, IsNoOrder, IsNoRound, IsVersion, alone, behind_word, version_words};
 
 use history_text::{Parts, read_half, read_item, read_number, read_tree};
 use letter_types::What;
@@ -63,8 +63,7 @@ pub(crate) fn next_word(words: &mut Parts, word: &[u8]) -> Option<()>
 
 // A number behind this word.
 pub(crate) fn number_behind(words: &mut Parts, word: &[u8]) -> Option<u64>
-    ensures some { IfSome result (IsBehind word.now words.old words.new) }
-    ensures none { IsNone result → HasNoneBehind word.now words.old }
+    ensures { AreNext (behind_word word.now) IsWord words.old words.new result }
 {
     next_word(words, word)?;
     next_number(words)
@@ -97,8 +96,7 @@ fn has_sub(script: &Script, tree: TreeNo, sub: u32) -> bool
 
 // A version behind its word.
 pub(crate) fn next_version(words: &mut Parts) -> Option<Version>
-    ensures some { IfSome result (IsNextVersion words.old words.new) }
-    ensures none { IsNone result → HasNoVersion words.old }
+    ensures { AreNext version_words IsVersion words.old words.new result }
 {
     let version = number_behind(words, b"version")?;
     Some(Version(version))

@@ -1,5 +1,5 @@
 -- The next words of a line.
-use Rattle.std.specs.Prelude.{ℕ, ◌≡◌, List, ◌∷◌, Option, Some, None, [], MatchOption, codes, decimal}
+use Rattle.std.specs.Prelude.{ℕ, ◌≡◌, List, ◌∷◌, ◌++◌, Option, Some, None, [], MatchOption, codes, decimal}
 use Rattle.tv_base.specs.declared.numbers.SubNo.{SubNo}
 use Rattle.tv_base.specs.declared.numbers.TreeNo.{TreeNo}
 use Rattle.tv_base.specs.declared.numbers.Version.{Version}
@@ -33,19 +33,10 @@ version_words v = behind_word (codes "version") v.0
 abbrev pub IsVersion : Version → Type 0
 IsVersion v = IsWord v.0
 
--- this number comes behind a word; and no number comes there
-abbrev pub IsBehind : List ℕ → List (List ℕ) → List (List ℕ) → ℕ → Type 0
-IsBehind word old new n = (old ≡ word ∷ decimal n ∷ new) × IsWord n
-
-abbrev pub HasNoneBehind : List ℕ → List (List ℕ) → Type 0
-HasNoneBehind word old = (n : ℕ) (rest : List (List ℕ)) → old ≡ word ∷ decimal n ∷ rest → IsWord n → ⊥
-
--- a version comes behind its word; and none does
-abbrev pub IsNextVersion : List (List ℕ) → List (List ℕ) → Version → Type 0
-IsNextVersion old new v = (old ≡ codes "version" ∷ decimal v.0 ∷ new) × IsWord v.0
-
-abbrev pub HasNoVersion : List (List ℕ) → Type 0
-HasNoVersion old = (v : Version) (rest : List (List ℕ)) → old ≡ codes "version" ∷ decimal v.0 ∷ rest → IsWord v.0 → ⊥
+-- the same of some words
+abbrev pub AreNext : {T : Type 0} → (T → List (List ℕ)) → (T → Type 0) → List (List ℕ) → List (List ℕ) → Option T → Type 0
+AreNext print May old new (Some x) = (old ≡ print x ++ new) × May x
+AreNext {T} print May old new None = (x : T) (rest : List (List ℕ)) → old ≡ print x ++ rest → May x → ⊥
 
 -- a tree's subtransaction comes first; and none does
 abbrev pub IsNextSub : ScriptData → List (List ℕ) → List (List ℕ) → TreeNo → SubNo → Type 0
