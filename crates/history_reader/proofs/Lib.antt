@@ -1,3 +1,5 @@
+pub mod BehindHeads
+pub mod FirstWords
 pub mod Forms
 pub mod IdsRead
 pub mod LineLists
@@ -7,6 +9,7 @@ pub mod OneBody
 pub mod OneEntry
 pub mod OneWords
 pub mod Printed
+pub mod ReadLines
 pub mod Solid
 pub mod Spelling
 pub mod SubsThere

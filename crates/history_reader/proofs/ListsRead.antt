@@ -29,10 +29,11 @@ other_length s seen row is other x same may =
     let lens : length (map decimal row) ≡ length (map decimal x) = ap length (sym is ∙ same) in
     other (omega (arith, lens, length-map row decimal, length-map x decimal, may.0))
 
-pub kind_there : (s : ScriptData) (t : ℕ) (tree : Tree) (b : Bool) → t < length s.trees → tree ≡ get_or s.trees t tree → is_strict tree.kind ≡ b → HasStrictness b (slice_get s.trees t)
-kind_there s t tree b less at is =
-    let here : slice_get s.trees t ≡ Some tree = slice_get-get_or s.trees t tree less ∙ ap (λ (r : Tree). Some r) (sym at) in
-    subst (λ (o : Option Tree). HasStrictness b o) (sym here) is
+-- whether a tree is strict that is at a place
+pub has_kind : (trees all : List Tree) (t : ℕ) (tree : Tree) (b : Bool) → all ≡ trees → t < length trees → is_strict (get_or all t tree).kind ≡ b → HasStrictness b (slice_get trees t)
+has_kind trees all t tree b same less is =
+    subst (λ (ts : List Tree). HasStrictness b (slice_get ts t)) same
+    (subst (λ (o : Option Tree). HasStrictness b o) (sym (slice_get-get_or all t tree (omega (arith, less, ap length same)))) is)
 
 -- a tree is strict or isn't
 pub strictness_one : (o : Option Tree) (a b : Bool) → HasStrictness a o → HasStrictness b o → a ≡ b

@@ -52,10 +52,10 @@ heads =
     ∷ codes "obeyed" ∷ []
 
 -- a head's place among them
-abbrev place : List (List ℕ) → ℕ
+abbrev pub place : List (List ℕ) → ℕ
 place ws = position_or_len (bytes_eq (word_at 0 ws)) heads
 
-abbrev index : Body → ℕ
+abbrev pub index : Body → ℕ
 index Go = 0
 index (Root t) = 1
 index (Sub t k v) = 2
@@ -86,7 +86,7 @@ index (Wanted e i) = 25
 index (Order e w v) = 26
 index (Obeyed e w v) = 27
 
-index_is : (s : ScriptData) (b : Body) → place (body_words s b) ≡ index b
+pub index_is : (s : ScriptData) (b : Body) → place (body_words s b) ≡ index b
 index_is s Go = refl
 index_is s (Root t) = refl
 index_is s (Sub t k v) = refl
@@ -149,10 +149,10 @@ forms =
     ∷ (λ (b : Body). (e : ℕ) × (w : What) × (v : Version) × (b ≡ Order e w v))
     ∷ (λ (b : Body). (e : ℕ) × (w : What) × (v : Version) × (b ≡ Obeyed e w v)) ∷ []
 
-abbrev IsOf : ℕ → Body → Type 0
+abbrev pub IsOf : ℕ → Body → Type 0
 IsOf i b = get_or forms i (λ (x : Body). ⊥) b
 
-is_of : (b : Body) → IsOf (index b) b
+pub is_of : (b : Body) → IsOf (index b) b
 is_of Go = refl
 is_of (Root t) = (t, refl)
 is_of (Sub t k v) = (t, k, v, refl)

@@ -1,11 +1,12 @@
 // What actors do.
-ghost use Rattle.std.specs.Prelude.{◌≡◌, ◌∷◌, codes, IfOk};
+ghost use Rattle.std.specs.Prelude.{◌∷◌, codes, IfOk};
 ghost use Rattle.history_text.specs.Printable.{IsAct};
 ghost use Rattle.history_text.specs.Exact.{IsReadBack};
-ghost use Rattle.history_reader.specs.inside.BodyWords.{act_words};
+ghost use Rattle.history_reader.specs.inside.BodyWords.{IsActFrom, act_words};
 
 use crate::nexts::{
-    is_word, next_commit, next_item, next_number, next_sub, next_tree, next_version, number_behind,
+    is_word, last_behind, last_commit, last_number, last_tree, last_version, next_item, next_sub,
+    next_tree, number_behind,
 };
 use crate::votes::read_vote;
 use history_text::{Parts, read_values};
@@ -31,7 +32,7 @@ pub(crate) fn read_act(
     if is_word(word, b"voted") {
         return read_voted(alloc, script, words);
     }
-    Ok(plain_act(script, word, words))
+    Ok(tree_act(script, word, words))
 }
 
 fn read_did(alloc: Global, script: &Script, words: &mut Parts) -> Result<Option<Act>, NoMemory>
@@ -59,119 +60,14 @@ fn read_voted(alloc: Global, script: &Script, words: &mut Parts) -> Result<Optio
     Ok(Some(Act::Voted { tree, sub, vote }))
 }
 
-fn read_born(script: &Script, words: &mut Parts) -> Option<Act>
-    ensures { IsReadBack (act_words script.now) (IsAct script.now) (codes "born" ∷ words.old) result }
-{
-    let tree = next_tree(script, words)?;
-    let version = next_version(words)?;
-    words.end()?;
-    Some(Act::Born { tree, version })
-}
-
-fn read_turned(script: &Script, words: &mut Parts) -> Option<Act>
-    ensures { IsReadBack (act_words script.now) (IsAct script.now) (codes "turned" ∷ words.old) result }
-{
-    let version = Version(next_number(words)?);
-    words.end()?;
-    Some(Act::Turned { version })
-}
-
-fn read_showed(script: &Script, words: &mut Parts) -> Option<Act>
-    ensures { IsReadBack (act_words script.now) (IsAct script.now) (codes "showed" ∷ words.old) result }
-{
-    let version = Version(next_number(words)?);
-    words.end()?;
-    Some(Act::Showed { version })
-}
-
-fn read_swept(script: &Script, words: &mut Parts) -> Option<Act>
-    ensures { IsReadBack (act_words script.now) (IsAct script.now) (codes "swept" ∷ words.old) result }
-{
-    let version = Version(next_number(words)?);
-    words.end()?;
-    Some(Act::Swept { version })
-}
-
-fn read_waits(script: &Script, words: &mut Parts) -> Option<Act>
-    ensures { IsReadBack (act_words script.now) (IsAct script.now) (codes "waits" ∷ words.old) result }
-{
-    let tree = next_tree(script, words)?;
-    let update = Version(number_behind(words, b"update")?);
-    let read = Version(number_behind(words, b"read")?);
-    words.end()?;
-    Some(Act::Waits { tree, update, read })
-}
-
-fn read_parked(script: &Script, words: &mut Parts) -> Option<Act>
-    ensures { IsReadBack (act_words script.now) (IsAct script.now) (codes "parked" ∷ words.old) result }
-{
-    let (tree, sub) = next_sub(script, words)?;
-    let item = next_item(script, words)?;
-    let Some(holder) = next_tree(script, words) else {
-        return None;
-    };
-    words.end()?;
-    Some(Act::Parked {
-        tree,
-        sub,
-        item,
-        holder,
-    })
-}
-
-fn read_freed(script: &Script, words: &mut Parts) -> Option<Act>
-    ensures { IsReadBack (act_words script.now) (IsAct script.now) (codes "freed" ∷ words.old) result }
-{
-    let tree = next_tree(script, words)?;
-    words.end()?;
-    Some(Act::Freed { tree })
-}
-
-fn read_decided(script: &Script, words: &mut Parts) -> Option<Act>
-    ensures { IsReadBack (act_words script.now) (IsAct script.now) (codes "decided" ∷ words.old) result }
-{
-    let tree = next_tree(script, words)?;
-    let commit = next_commit(words)?;
-    words.end()?;
-    Some(Act::Decided { tree, commit })
-}
-
-fn read_applied(script: &Script, words: &mut Parts) -> Option<Act>
-    ensures { IsReadBack (act_words script.now) (IsAct script.now) (codes "applied" ∷ words.old) result }
-{
-    let tree = next_tree(script, words)?;
-    let commit = next_commit(words)?;
-    words.end()?;
-    Some(Act::Applied { tree, commit })
-}
-
-fn read_finished(script: &Script, words: &mut Parts) -> Option<Act>
-    ensures { IsReadBack (act_words script.now) (IsAct script.now) (codes "finished" ∷ words.old) result }
-{
-    words.end()?;
-    Some(Act::Finished)
-}
-
-// An act without lists.
-fn plain_act(script: &Script, word: &[u8], words: &mut Parts) -> Option<Act>
-    requires did { word.now ≡ codes "did" → ⊥ }
-    requires voted { word.now ≡ codes "voted" → ⊥ }
-    ensures { IsReadBack (act_words script.now) (IsAct script.now) (word.now ∷ words.old) result }
+// An act of a tree without lists, or a later one.
+fn tree_act(script: &Script, word: &[u8], words: &mut Parts) -> Option<Act>
+    ensures { IsActFrom script.now 1 (word.now ∷ words.old) result }
 {
     if is_word(word, b"born") {
-        return read_born(script, words);
-    }
-    if is_word(word, b"turned") {
-        return read_turned(script, words);
-    }
-    if is_word(word, b"showed") {
-        return read_showed(script, words);
-    }
-    if is_word(word, b"swept") {
-        return read_swept(script, words);
-    }
-    if is_word(word, b"finished") {
-        return read_finished(script, words);
+        let tree = next_tree(script, words)?;
+        let version = last_version(words)?;
+        return Some(Act::Born { tree, version });
     }
     if is_word(word, b"waits") {
         return read_waits(script, words);
@@ -180,13 +76,66 @@ fn plain_act(script: &Script, word: &[u8], words: &mut Parts) -> Option<Act>
         return read_parked(script, words);
     }
     if is_word(word, b"freed") {
-        return read_freed(script, words);
+        let tree = last_tree(script, words)?;
+        return Some(Act::Freed { tree });
     }
     if is_word(word, b"decided") {
-        return read_decided(script, words);
+        let tree = next_tree(script, words)?;
+        let commit = last_commit(words)?;
+        return Some(Act::Decided { tree, commit });
     }
     if is_word(word, b"applied") {
-        return read_applied(script, words);
+        let tree = next_tree(script, words)?;
+        let commit = last_commit(words)?;
+        return Some(Act::Applied { tree, commit });
+    }
+    other_act(script, word, words)
+}
+
+fn read_waits(script: &Script, words: &mut Parts) -> Option<Act>
+    ensures { IsReadBack (act_words script.now) (IsAct script.now) (codes "waits" ∷ words.old) result }
+{
+    let tree = next_tree(script, words)?;
+    let update = Version(number_behind(words, b"update")?);
+    let read = Version(last_behind(words, b"read")?);
+    Some(Act::Waits { tree, update, read })
+}
+
+fn read_parked(script: &Script, words: &mut Parts) -> Option<Act>
+    ensures { IsReadBack (act_words script.now) (IsAct script.now) (codes "parked" ∷ words.old) result }
+{
+    let (tree, sub) = next_sub(script, words)?;
+    let item = next_item(script, words)?;
+    let Some(holder) = last_tree(script, words) else {
+        return None;
+    };
+    Some(Act::Parked {
+        tree,
+        sub,
+        item,
+        holder,
+    })
+}
+
+// An act of no tree.
+fn other_act(_script: &Script, word: &[u8], words: &mut Parts) -> Option<Act>
+    ensures { IsActFrom _script.now 2 (word.now ∷ words.old) result }
+{
+    if is_word(word, b"turned") {
+        let version = Version(last_number(words)?);
+        return Some(Act::Turned { version });
+    }
+    if is_word(word, b"showed") {
+        let version = Version(last_number(words)?);
+        return Some(Act::Showed { version });
+    }
+    if is_word(word, b"swept") {
+        let version = Version(last_number(words)?);
+        return Some(Act::Swept { version });
+    }
+    if is_word(word, b"finished") {
+        words.end()?;
+        return Some(Act::Finished);
     }
     None
 }

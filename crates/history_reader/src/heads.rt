@@ -4,8 +4,8 @@ ghost use Rattle.history_text.specs.Printable.{IsAct, IsSent};
 ghost use Rattle.history_text.specs.Exact.{IsReadBack};
 ghost use Rattle.history_text.specs.Parts.{parts_at};
 ghost use Rattle.history_text.specs.Words.{HasActor, name_of_actor};
-ghost use Rattle.history_reader.specs.inside.Heads.{IsHead, IsId, act_line_words, head_words, id_word, last_id_words, sent_words};
-ghost use Rattle.history_reader.specs.inside.Next.{IsNext};
+ghost use Rattle.history_reader.specs.inside.Heads.{IsHead, IsId, act_line_words, head_words, id_word, sent_words};
+ghost use Rattle.history_reader.specs.inside.Next.{IsNext, alone};
 
 use crate::acts::read_act;
 use crate::bodies::read_body;
@@ -50,7 +50,7 @@ fn next_actor(script: &Script, words: &mut Parts) -> Option<ActorNo>
 
 // The id that is left.
 fn last_id(words: &mut Parts) -> Option<LetterId>
-    ensures { IsReadBack last_id_words IsId words.old result }
+    ensures { IsReadBack (alone id_word) IsId words.old result }
 {
     let word = words.last_one()?;
     read_id(word)
@@ -81,9 +81,9 @@ pub(crate) fn read_sent(
     ensures { IfOk result (IsReadBack (sent_words script.now) (IsSent script.now) (parts_at 32 line.now)) }
 {
     let mut words = Parts::new(line, b' ');
-    if next_word(&mut words, b"sent").is_none() {
+    let Some(_) = next_word(&mut words, b"sent") else {
         return Ok(None);
-    }
+    };
     let Some(to) = next_actor(script, &mut words) else {
         return Ok(None);
     };
@@ -102,8 +102,8 @@ pub(crate) fn read_act_line(
     ensures { IfOk result (IsReadBack (act_line_words script.now) (IsAct script.now) (parts_at 32 line.now)) }
 {
     let mut words = Parts::new(line, b' ');
-    if next_word(&mut words, b"act").is_none() {
+    let Some(_) = next_word(&mut words, b"act") else {
         return Ok(None);
-    }
+    };
     read_act(alloc, script, &mut words)
 }

@@ -1,7 +1,7 @@
 // What is left of a text, line by line.
-ghost use Rattle.std.specs.Prelude.{◌≡◌, ◌++◌, ◌∷◌, true, length, IfSome, IsNone};
+ghost use Rattle.std.specs.Prelude.{◌≡◌, true, length, MatchOption};
 ghost use Rattle.history_text.specs.Parts.{lacks};
-ghost use Rattle.history_reader.specs.inside.Lines.{begins, ends_so};
+ghost use Rattle.history_reader.specs.inside.Lines.{IsLineOf, begins, ends_so};
 
 use history_text::cut;
 use std::marker::Model;
@@ -31,9 +31,7 @@ impl<'a> Lines<'a> {
 
     // The next line, without its end.
     pub(crate) fn next(&mut self) -> Option<&'a [u8]>
-        ensures text { IfSome result (λ line. self.old ≡ line.now ++ 10 ∷ self.new) }
-        ensures one { IfSome result (λ line. lacks 10 line.now ≡ true) }
-        ensures none { IsNone result → lacks 10 self.old ≡ true }
+        ensures { MatchOption result (lacks 10 self.old ≡ true) (λ line. IsLineOf self.old line.now self.new) }
     {
         let (line, rest) = cut(self.text, b'\n')?;
         self.text = rest;

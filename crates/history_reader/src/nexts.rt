@@ -1,10 +1,11 @@
 // The next words of a line.
 ghost use Rattle.std.specs.Prelude.{◌≡◌, decimal, false, true, is_some, IfSome, IsNone};
+ghost use Rattle.history_text.specs.Exact.{IsReadBack};
 ghost use Rattle.history_text.specs.Printable.{IsHalfWord, IsWord};
 ghost use Rattle.history_text.specs.Words.{HasItem, HasTree, name_of_item, name_of_tree};
 ghost use Rattle.tx_trees.specs.ScriptData.{sub_at};
 ghost use Rattle.history_text.specs.LineParts.{commit_word, what_word};
-ghost use Rattle.history_reader.specs.inside.Next.{IsNext, HasNoRound, HasNoSub, HasNoVersion, HasNoneBehind, IsBehind, IsLastOrder, IsNextRound, IsNextSub, IsNextVersion, IsNextWord, IsNoOrder};
+ghost use Rattle.history_reader.specs.inside.Next.{AreNext, IsNext, HasNoRound, HasNoSub, IsLastOrder, IsLastRound, IsNextRound, IsNextSub, IsNextWord, IsNoOrder, IsNoRound, IsVersion, alone, behind_word, version_words};
 
 use history_text::{Parts, read_half, read_item, read_number, read_tree};
 use letter_types::What;
@@ -62,8 +63,7 @@ pub(crate) fn next_word(words: &mut Parts, word: &[u8]) -> Option<()>
 
 // A number behind this word.
 pub(crate) fn number_behind(words: &mut Parts, word: &[u8]) -> Option<u64>
-    ensures some { IfSome result (IsBehind word.now words.old words.new) }
-    ensures none { IsNone result → HasNoneBehind word.now words.old }
+    ensures { AreNext (behind_word word.now) IsWord words.old words.new result }
 {
     next_word(words, word)?;
     next_number(words)
@@ -96,18 +96,57 @@ fn has_sub(script: &Script, tree: TreeNo, sub: u32) -> bool
 
 // A version behind its word.
 pub(crate) fn next_version(words: &mut Parts) -> Option<Version>
-    ensures some { IfSome result (IsNextVersion words.old words.new) }
-    ensures none { IsNone result → HasNoVersion words.old }
+    ensures { AreNext version_words IsVersion words.old words.new result }
 {
     let version = number_behind(words, b"version")?;
     Some(Version(version))
 }
 
-// Whether a strict tree commits.
-pub(crate) fn next_commit(words: &mut Parts) -> Option<bool>
-    ensures { IsNext commit_word (λ commit. Unit {0}) words.old words.new result }
+// The number of 64 bits that is all that is left.
+pub(crate) fn last_number(words: &mut Parts) -> Option<u64>
+    ensures { IsReadBack (alone decimal) IsWord words.old result }
 {
-    let word = words.next()?;
+    let word = words.last_one()?;
+    read_number(word)
+}
+
+// The number of 32 bits that is all that is left.
+pub(crate) fn last_half(words: &mut Parts) -> Option<u32>
+    ensures { IsReadBack (alone decimal) IsHalfWord words.old result }
+{
+    let word = words.last_one()?;
+    read_half(word)
+}
+
+// The tree whose name is all that is left.
+pub(crate) fn last_tree(script: &Script, words: &mut Parts) -> Option<TreeNo>
+    ensures { IsReadBack (alone (name_of_tree script.now)) (HasTree script.now) words.old result }
+{
+    let word = words.last_one()?;
+    read_tree(script, word)
+}
+
+// A number behind this word, and nothing behind it.
+pub(crate) fn last_behind(words: &mut Parts, word: &[u8]) -> Option<u64>
+    ensures { IsReadBack (behind_word word.now) IsWord words.old result }
+{
+    next_word(words, word)?;
+    last_number(words)
+}
+
+// A version behind its word, and nothing behind it.
+pub(crate) fn last_version(words: &mut Parts) -> Option<Version>
+    ensures { IsReadBack version_words IsVersion words.old result }
+{
+    let version = last_behind(words, b"version")?;
+    Some(Version(version))
+}
+
+// Whether a strict tree commits, which is all that is left.
+pub(crate) fn last_commit(words: &mut Parts) -> Option<bool>
+    ensures { IsReadBack (alone commit_word) (λ commit. Unit {0}) words.old result }
+{
+    let word = words.last_one()?;
     if is_word(word, b"commit") {
         return Some(true);
     }
@@ -141,8 +180,7 @@ pub(crate) fn last_order(words: &mut Parts) -> Option<(u64, What, Version)>
 {
     let epoch = next_number(words)?;
     let what = next_what(words)?;
-    let version = next_number(words)?;
-    words.end()?;
+    let version = last_number(words)?;
     Some((epoch, what, Version(version)))
 }
 
@@ -153,5 +191,15 @@ pub(crate) fn next_round(words: &mut Parts) -> Option<(Version, u64)>
 {
     let version = next_number(words)?;
     let round = number_behind(words, b"round")?;
+    Some((Version(version), round))
+}
+
+// A version and a round, which are all that is left.
+pub(crate) fn last_round(words: &mut Parts) -> Option<(Version, u64)>
+    ensures some { IfSome result (λ two. IsLastRound words.old two.0 two.1) }
+    ensures none { IsNone result → IsNoRound words.old }
+{
+    let version = next_number(words)?;
+    let round = last_behind(words, b"round")?;
     Some((Version(version), round))
 }

@@ -85,7 +85,6 @@ fn read_no(alloc: Global, script: &Script, words: &mut Parts) -> Result<Option<V
 }
 
 // Whether a tree is strict.
-#[tactic(auto, using(crate::proofs::ListsRead::kind_there))]
 fn is_strict(script: &Script, tree: TreeNo) -> bool
     requires { HasTree script.now tree }
     ensures { HasStrictness result (slice_get script.now.trees tree.0) }

@@ -3,16 +3,17 @@ use Rattle.std.specs.Prelude.{if◌then◌else◌, ℕ, ◌≡◌, ◌≤◌, Li
 use Rattle.std.specs.List.{AllByRecursion}
 use Rattle.tv_base.specs.declared.numbers.TreeNo.{TreeNo}
 use Rattle.letter_types.specs.declared.acts.Act.{Act}
+use Rattle.letter_types.specs.declared.acts.Act.TheVariants as acts
 use Rattle.letter_types.specs.declared.bodies.Answer.{Answer}
 use Rattle.letter_types.specs.declared.bodies.Body.{Body}
-use Rattle.letter_types.specs.declared.bodies.Body.TheVariants.{Root, Sub, Done, Reply, Turn, Show, Sweep, Turned, Shown, Swept, DoneRow, AskedRow, Advanced, Decide, Decided, Release, Wake, Ask}
+use Rattle.letter_types.specs.declared.bodies.Body.TheVariants.{Root, Sub, Done, Reply, Turn, Show, Sweep, Turned, Shown, Swept, DoneRow, AskedRow, Advanced, Decide, Decided, Release, Wake, Ask, Numbers, Wanted, Order, Obeyed}
 use Rattle.letter_types.specs.declared.bodies.Notice.{Notice}
 use Rattle.letter_types.specs.declared.votes.Vote.{Vote}
 use Rattle.tx_trees.specs.ScriptData.{ScriptData, is_strict}
 use Rattle.tx_trees.specs.declared.parts.Tree.{Tree}
 use Rattle.history_text.specs.TreeNames.{item_text, tree_text}
 use Rattle.history_text.specs.LineParts.{Count, Got, Half, ItemOf, Never, Only, Part, Row, SubOf, TreeOf, Whole, Why, Word, act_parts, answer_parts, body_parts, notice_parts, vote_parts}
-use Rattle.history_text.specs.Printable.{AreParts, IsBody, IsWord}
+use Rattle.history_text.specs.Printable.{AreParts, IsAct, IsBody, IsWord}
 use Rattle.history_text.specs.Words.{cause_words, got_words, name_of_tree}
 
 abbrev pub number_words : List ℕ → List (List ℕ)
@@ -67,8 +68,8 @@ body_words s body = words_of s (body_parts body)
 abbrev pub act_words : ScriptData → Act → List (List ℕ)
 act_words s act = words_of s (act_parts act)
 
--- the order in which heads of letters are tried: those with lists, those of trees, others, and those with one number of
--- 64 bits
+-- the order in which heads of letters are tried: those with lists, those of trees, others, those of epochs, and those
+-- with one number of 64 bits
 abbrev pub turn_of : Body → ℕ
 turn_of (Done t k v notice) = 0
 turn_of (Reply t v answer) = 0
@@ -80,20 +81,38 @@ turn_of (Wake t k) = 1
 turn_of (Release t) = 1
 turn_of (Decide t v commit) = 1
 turn_of (Decided t v) = 1
-turn_of (Turn v) = 3
-turn_of (Show v) = 3
-turn_of (Sweep v) = 3
-turn_of (Turned v) = 3
-turn_of (Shown v) = 3
-turn_of (Swept v) = 3
-turn_of (Advanced v) = 3
-turn_of (Ask e) = 3
+turn_of (Numbers e u r l) = 3
+turn_of (Wanted e i) = 3
+turn_of (Order e what v) = 3
+turn_of (Obeyed e what v) = 3
+turn_of (Turn v) = 4
+turn_of (Show v) = 4
+turn_of (Sweep v) = 4
+turn_of (Turned v) = 4
+turn_of (Shown v) = 4
+turn_of (Swept v) = 4
+turn_of (Advanced v) = 4
+turn_of (Ask e) = 4
 turn_of _ = 2
 
 -- what is read of these words, where heads of earlier turns were tried
 abbrev pub IsReadFrom : ScriptData → ℕ → List (List ℕ) → Option Body → Type 0
 IsReadFrom s turn seen (Some b) = (seen ≡ body_words s b) × IsBody s b
 IsReadFrom s turn seen None = (b : Body) → seen ≡ body_words s b → IsBody s b → turn ≤ turn_of b → ⊥
+
+-- the same of acts: those with lists, those of trees, and others
+abbrev pub act_turn : Act → ℕ
+act_turn (acts.Did t k vs) = 0
+act_turn (acts.Voted t k vote) = 0
+act_turn (acts.Turned v) = 2
+act_turn (acts.Showed v) = 2
+act_turn (acts.Swept v) = 2
+act_turn acts.Finished = 2
+act_turn _ = 1
+
+abbrev pub IsActFrom : ScriptData → ℕ → List (List ℕ) → Option Act → Type 0
+IsActFrom s turn seen (Some a) = (seen ≡ act_words s a) × IsAct s a
+IsActFrom s turn seen None = (a : Act) → seen ≡ act_words s a → IsAct s a → turn ≤ act_turn a → ⊥
 
 abbrev pub AreLineWords : List ℕ → Type 0
 AreLineWords ns = AllByRecursion IsWord ns

@@ -28,7 +28,3 @@ sent_words s o = codes "sent" ∷ actor_text s o.to.0 ∷ body_words s o.body
 
 abbrev pub act_line_words : ScriptData → Act → List (List ℕ)
 act_line_words s a = codes "act" ∷ act_words s a
-
--- an id that stands alone
-abbrev pub last_id_words : LetterId → List (List ℕ)
-last_id_words id = id_word id ∷ []

@@ -1,5 +1,5 @@
 -- The next words of a line.
-use Rattle.std.specs.Prelude.{ℕ, ◌≡◌, List, ◌∷◌, Option, Some, None, [], MatchOption, codes, decimal}
+use Rattle.std.specs.Prelude.{ℕ, ◌≡◌, List, ◌∷◌, ◌++◌, Option, Some, None, [], MatchOption, codes, decimal}
 use Rattle.tv_base.specs.declared.numbers.SubNo.{SubNo}
 use Rattle.tv_base.specs.declared.numbers.TreeNo.{TreeNo}
 use Rattle.tv_base.specs.declared.numbers.Version.{Version}
@@ -19,19 +19,24 @@ IsNext {T} print May old new None = (x : T) (rest : List (List ℕ)) → old ≡
 abbrev pub IsNextWord : {T : Type 0} → List ℕ → List (List ℕ) → List (List ℕ) → Option T → Type 0
 IsNextWord word old new read = MatchOption read ((rest : List (List ℕ)) → old ≡ word ∷ rest → ⊥) (λ _. old ≡ word ∷ new)
 
--- this number comes behind a word; and no number comes there
-abbrev pub IsBehind : List ℕ → List (List ℕ) → List (List ℕ) → ℕ → Type 0
-IsBehind word old new n = (old ≡ word ∷ decimal n ∷ new) × IsWord n
+-- one word that is all that is left
+abbrev pub alone : {T : Type 0} → (T → List ℕ) → T → List (List ℕ)
+alone print x = print x ∷ []
 
-abbrev pub HasNoneBehind : List ℕ → List (List ℕ) → Type 0
-HasNoneBehind word old = (n : ℕ) (rest : List (List ℕ)) → old ≡ word ∷ decimal n ∷ rest → IsWord n → ⊥
+-- a number behind a word, and a version behind its word
+abbrev pub behind_word : List ℕ → ℕ → List (List ℕ)
+behind_word word n = word ∷ decimal n ∷ []
 
--- a version comes behind its word; and none does
-abbrev pub IsNextVersion : List (List ℕ) → List (List ℕ) → Version → Type 0
-IsNextVersion old new v = (old ≡ codes "version" ∷ decimal v.0 ∷ new) × IsWord v.0
+abbrev pub version_words : Version → List (List ℕ)
+version_words v = behind_word (codes "version") v.0
 
-abbrev pub HasNoVersion : List (List ℕ) → Type 0
-HasNoVersion old = (v : Version) (rest : List (List ℕ)) → old ≡ codes "version" ∷ decimal v.0 ∷ rest → IsWord v.0 → ⊥
+abbrev pub IsVersion : Version → Type 0
+IsVersion v = IsWord v.0
+
+-- the same of some words
+abbrev pub AreNext : {T : Type 0} → (T → List (List ℕ)) → (T → Type 0) → List (List ℕ) → List (List ℕ) → Option T → Type 0
+AreNext print May old new (Some x) = (old ≡ print x ++ new) × May x
+AreNext {T} print May old new None = (x : T) (rest : List (List ℕ)) → old ≡ print x ++ rest → May x → ⊥
 
 -- a tree's subtransaction comes first; and none does
 abbrev pub IsNextSub : ScriptData → List (List ℕ) → List (List ℕ) → TreeNo → SubNo → Type 0
@@ -56,3 +61,10 @@ IsNextRound old new v k = (old ≡ decimal v.0 ∷ codes "round" ∷ decimal k �
 abbrev pub HasNoRound : List (List ℕ) → Type 0
 HasNoRound old = (v : Version) (k : ℕ) (rest : List (List ℕ))
     → old ≡ decimal v.0 ∷ codes "round" ∷ decimal k ∷ rest → IsWord v.0 → IsWord k → ⊥
+
+-- and they are all that is left; and they aren't
+abbrev pub IsLastRound : List (List ℕ) → Version → ℕ → Type 0
+IsLastRound old v k = (old ≡ decimal v.0 ∷ behind_word (codes "round") k) × IsWord v.0 × IsWord k
+
+abbrev pub IsNoRound : List (List ℕ) → Type 0
+IsNoRound old = (v : Version) (k : ℕ) → old ≡ decimal v.0 ∷ behind_word (codes "round") k → IsWord v.0 → IsWord k → ⊥

@@ -1,0 +1,10 @@
+use Rattle.std.specs.Prelude.{decimal}
+use Rattle.history_text.specs.Printable.{IsWord}
+use Rattle.history_reader.proofs.FirstWords.{first_read, no_first}
+use Rattle.history_reader.proofs.nexts.next_number.Goals as goal
+
+pub returns-in_err-word : goal.returns-in_err-word
+returns-in_err-word c = no_first decimal IsWord c.args.words.now c.next.new.self c.from_residual.result c.from_residual.ensures c.in_err-word.ensures.0
+
+pub returns : goal.returns
+returns c = first_read decimal IsWord c.args.words.now c.next.new.self c.in_ok-word.word.now c.read_number.result c.in_ok-word.ensures c.read_number.ensures
