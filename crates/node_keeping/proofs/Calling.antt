@@ -1,5 +1,5 @@
 -- Letters that wait for one thing are woken, and are called from then on.
-use Rattle.std.proofs.Common.{◌≡◌, ◌<◌, ℕ, Bool, true, false, ◌&&◌, ◌||◌, List, [], ◌∷◌, ◌++◌, refl, ap, sym, ◌∙◌, arith, cond, Option, Some, None}
+use Rattle.std.proofs.Common.{◌≡◌, ◌<◌, ℕ, Bool, true, false, ◌&&◌, ◌||◌, List, [], ◌∷◌, ◌++◌, refl, ap, sym, ◌∙◌, subst, arith, cond, Option, Some, None}
 use Rattle.std.specs.Prelude.{IsSome}
 use Rattle.std.specs.BTreeSet.{IsKeyRangeOf}
 use Rattle.std.specs.List.{AllByRecursion}
@@ -12,18 +12,19 @@ use Rattle.std.specs.Ordering.{is_eq, is_gt, nat_cmp, ordering_then}
 use Rattle.std.proofs.lemmas.Bool.Decides.{nat_tests}
 use Rattle.tv_base.specs.declared.numbers.SubNo.{SubNo}
 use Rattle.tv_base.specs.declared.numbers.TreeNo.{TreeNo}
-use Rattle.letter_types.specs.declared.bodies.Body.{Body}
-use Rattle.letter_types.specs.declared.bodies.Body.TheVariants.{Wake, Show as Shows, Decide as Decides}
+use Rattle.tv_base.proofs.Orderings.{is_eq-back}
+use Rattle.letter_types.specs.declared.bodies.Body.TheVariants.{Wake}
 use Rattle.letter_types.specs.declared.entries.Outgoing.{Outgoing}
 use Rattle.letter_types.specs.declared.kept.KeptLetter.{KeptLetter}
 use Rattle.letter_types.specs.declared.kept.KeepReason.{KeepReason}
-use Rattle.letter_types.specs.declared.kept.KeepReason.TheVariants.{Called}
-use Rattle.letter_types.specs.Kept.{wakes, wakes_by, with_called}
+use Rattle.letter_types.specs.declared.kept.KeepReason.TheVariants.{ForShow, ForHolder, Called}
+use Rattle.letter_types.specs.Kept.{wakes, with_called}
 use Rattle.node_keeping.specs.declared.places.Key.{Key}
 use Rattle.node_keeping.specs.declared.places.Key.TheVariants.{Sub, Show, Holder}
 use Rattle.node_keeping.specs.declared.places.KeptPlace.{KeptPlace}
 use Rattle.node_keeping.specs.inside.Arrivals.{ArePlaced, Arrived, came, is_found, wake_of, wakes_in}
-use Rattle.node_keeping.specs.inside.Places.{HasNone, has_place, is_reason, is_this, is_why, key_of_why, key_order, place_by, place_order, woken_key}
+use Rattle.node_keeping.specs.inside.Places.{HasNone, has_place, is_reason, is_this, is_why, key_of_why, key_order, place_by, place_order}
+use Rattle.node_keeping.specs.Waits.{waits_alike}
 use Rattle.node_keeping.proofs.Finding.{each_came, part_is, part_of, places_of}
 use Rattle.node_keeping.proofs.Keeping.{Came-set, is_some-as}
 use Rattle.node_keeping.proofs.Orders.{is_eq-place, key_itself, same_key, same_number}
@@ -206,11 +207,39 @@ kept_called q a next x es es' ps ps' kept reason is waits set came' up up' =
 abbrev nothing : Option Key
 nothing = None
 
--- a letter of any other body wakes none
-pub wakes_none : (b : Body) → woken_key b ≡ None → (why : KeepReason) → wakes_by b why ≡ false
-wakes_none (Shows v) is why = let no : Some Show ≡ nothing = is in cc
-wakes_none (Decides t v c) is why = let no : Some (Holder t) ≡ nothing = is in cc
-wakes_none _ is why = refl
+-- the key of what a letter waits for finds those that wait for the same
+shown_alike : (why : KeepReason) → is_why Show why ≡ waits_alike ForShow why
+shown_alike ForShow = refl
+shown_alike (ForHolder h) = refl
+shown_alike Called = refl
+
+held_alike : (t : TreeNo) (why : KeepReason) → is_why (Holder t) why ≡ waits_alike (ForHolder t) why
+held_alike t ForShow = refl
+held_alike t (ForHolder h) = is_eq-back h.0 t.0
+held_alike t Called = refl
+
+alike_by : (r : KeepReason) (q : Key) → key_of_why r ≡ Some q → (why : KeepReason) → is_why q why ≡ waits_alike r why
+alike_by ForShow q is why =
+    let same : Show ≡ q = cc in
+    subst (λ (k : Key). is_why k why ≡ waits_alike ForShow why) same (shown_alike why)
+alike_by (ForHolder t) q is why =
+    let same : Holder t ≡ q = cc in
+    subst (λ (k : Key). is_why k why ≡ waits_alike (ForHolder t) why) same (held_alike t why)
+alike_by Called q is why = let no : nothing ≡ Some q = is in cc
+
+pub key_waits : (r : KeepReason) (q : Key) → key_of_why r ≡ Some q → is_why q ≡ waits_alike r
+key_waits r q is = λ i why. alike_by r q is why i
+
+pub is_reason_of : (r : KeepReason) (q : Key) → key_of_why r ≡ Some q → is_reason q ≡ true
+is_reason_of ForShow q is = let same : Show ≡ q = cc in ap (λ (k : Key). is_reason k) (sym same)
+is_reason_of (ForHolder t) q is = let same : Holder t ≡ q = cc in ap (λ (k : Key). is_reason k) (sym same)
+is_reason_of Called q is = let no : nothing ≡ Some q = is in cc
+
+-- for its own Wake no other letter waits
+pub none_alike : (r : KeepReason) → key_of_why r ≡ None → (why : KeepReason) → waits_alike r why ≡ false
+none_alike ForShow is why = let no : Some Show ≡ nothing = is in cc
+none_alike (ForHolder t) is why = let no : Some (Holder t) ≡ nothing = is in cc
+none_alike Called is why = refl
 
 pub none_called : (test : KeepReason → Bool) (xs : List KeptLetter) → ((why : KeepReason) → test why ≡ false)
     → with_called test xs ≡ xs

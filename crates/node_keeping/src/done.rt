@@ -5,12 +5,12 @@ ghost use Rattle.tree_step.specs.Raising.{raised_by};
 ghost use Rattle.tree_step.specs.CoreChanges.{MayDoCore};
 ghost use Rattle.node_keeping.specs.Changes.{MayDoKeeping, MayBeKept, MayKeepLetter, kept_after, kept_with};
 ghost use Rattle.node_keeping.specs.declared.change.KeepingPrepared.TheVariants.{Does, Keeps};
-ghost use Rattle.node_keeping.specs.Meant.{IsNodeDone, keep_meant, kept_meant, node_meant};
+ghost use Rattle.node_keeping.specs.Meant.{IsNodeDone, keep_meant, node_meant};
 
 use crate::kept::KeptLetters;
 use crate::node_plan::{KeepPlan, KeptPlan, NodePlan};
 use crate::state::KeepingParts;
-use letter_types::{Body, Boxed, KeptLetter, Letter};
+use letter_types::{KeptLetter, Letter};
 use node_versions::Turns;
 use std::alloc::Global;
 use tree_step::{Plan, Scratch, do_plan};
@@ -63,18 +63,14 @@ fn do_keep(node: &mut KeepingParts, keep: KeepPlan, scratch: &mut Scratch) -> Re
     Ok(())
 }
 
-/// Some letters are called, or one goes. Needs no memory.
-fn change_kept(kept: &mut KeptLetters, plan: KeptPlan, calls: &Option<Boxed<Body>>)
-    ensures { kept.new ≡ kept_after (kept_meant plan calls.now) kept.old }
+/// Some deferred messages are called, or one goes. Needs no memory.
+fn change_kept(kept: &mut KeptLetters, plan: KeptPlan)
+    ensures { kept.new ≡ kept_after plan kept.old }
 {
     match plan {
         KeptPlan::Stay => {}
         KeptPlan::LetGo { tree, sub } => kept.let_called_go(tree, sub),
-        KeptPlan::Call => {
-            if let Some(body) = calls {
-                kept.call(body.get());
-            }
-        }
+        KeptPlan::Call(why) => kept.call(why),
     }
 }
 
@@ -93,7 +89,7 @@ fn do_row(
     ensures out { out_in scratch.new ≡ out_in scratch.old }
 {
     do_plan(alloc, &mut node.core, plan, scratch)?;
-    change_kept(&mut node.kept, kept, &scratch.calls);
+    change_kept(&mut node.kept, kept);
     Ok(())
 }
 

@@ -22,8 +22,8 @@ pub enum KeptPlan {
     Stay,
     /// The called letter of this subtransaction goes.
     LetGo { tree: TreeNo, sub: SubNo },
-    /// What the letter in the scratch wakes is called from now on.
-    Call,
+    /// The messages that wait for this are called from now on.
+    Call(KeepReason),
 }
 
 /// What a node is to do with a letter.

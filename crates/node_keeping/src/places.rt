@@ -1,9 +1,9 @@
 // By what kept letters are found, and when they came.
 ghost use Rattle.std.specs.Prelude.{◌≡◌, OnErr, OnOk};
 ghost use Rattle.std.specs.List.Sorted.{IsStrictlySortedBy};
-ghost use Rattle.node_keeping.specs.inside.Places.{ArePlacesAdded, ArePlacesSame, ArePlacesTaken, IsFree, key_of_why, place_order, woken_key};
+ghost use Rattle.node_keeping.specs.inside.Places.{ArePlacesAdded, ArePlacesSame, ArePlacesTaken, IsFree, key_of_why, place_order};
 
-use letter_types::{Body, KeepReason};
+use letter_types::KeepReason;
 use std::collections::BTreeSet;
 use tv_base::{NoMemory, SubNo, TreeNo};
 
@@ -19,25 +19,14 @@ pub(crate) enum Key {
 }
 
 impl Key {
-    /// The key of what a kept letter waits for, but for its Wake.
-    fn of_why(why: KeepReason) -> Option<Key>
+    /// The key of what a deferred message waits for, if that isn't its Wake.
+    pub(crate) fn of_why(why: KeepReason) -> Option<Key>
         ensures { result ≡ key_of_why why }
     {
         match why {
             KeepReason::ForShow => Some(Key::Show),
             KeepReason::ForHolder(tree) => Some(Key::Holder(tree)),
             KeepReason::Called => None,
-        }
-    }
-
-    /// The key of what a letter of this body wakes.
-    pub(crate) fn woken_by(body: &Body) -> Option<Key>
-        ensures { result ≡ woken_key body.now }
-    {
-        match body {
-            Body::Show { .. } => Some(Key::Show),
-            Body::Decide { tree, .. } => Some(Key::Holder(*tree)),
-            _ => None,
         }
     }
 }

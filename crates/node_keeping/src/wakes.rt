@@ -1,5 +1,5 @@
 // Which kept letters are woken, and that they are called from then on.
-ghost use Rattle.std.specs.Prelude.{◌≡◌, ◌<◌, ◌++◌, length, IfOk, IfNone, IfSome, OnOk, true};
+ghost use Rattle.std.specs.Prelude.{◌≡◌, ◌<◌, ◌++◌, length, IfNone, IfSome, OnOk, true};
 ghost use Rattle.std.specs.Map.{values_of};
 ghost use Rattle.letter_types.specs.Kept.{wakes, with_called};
 ghost use Rattle.node_keeping.specs.inside.Arrivals.{ArePlaced, CallSame, came, wake_of};
@@ -7,28 +7,26 @@ ghost use Rattle.node_keeping.specs.inside.Places.{HasNone, has_place, is_reason
 
 use crate::places::{KeptPlace, Key};
 use letter_types::{Body, KeepReason, KeptLetter, Letters, Outgoing};
-use std::alloc::Global;
 use std::collections::{BTreeMap, BTreeSet};
 use tv_base::NoMemory;
 
-/// A Wake for each letter that waits for this, in the order in which they came.
-pub(crate) fn wakes_of(
-    alloc: Global,
+/// Adds a Wake for each message that waits for this behind the messages to be sent, in the order in which they came.
+pub(crate) fn push_wakes(
     letters: &BTreeMap<u64, KeptLetter>,
     places: &BTreeSet<KeptPlace>,
     next: u64,
     key: Key,
-) -> Result<Letters, NoMemory>
+    sent: &mut Letters,
+) -> Result<(), NoMemory>
     requires kept { ArePlaced next letters.now.entries places.now.keys }
     requires reason { is_reason key ≡ true }
-    ensures { IfOk result (λ sent. sent ≡ wakes (is_why key) (values_of letters.now.entries)) }
+    ensures { OnOk result (sent.new ≡ sent.old ++ wakes (is_why key) (values_of letters.now.entries)) }
 {
-    let mut sent = Letters::new(alloc);
     let first = KeptPlace { key, arrival: 0 };
     for place in places.range(first..KeptPlace { key, arrival: next }) {
-        push_wake(letters, place.arrival, &mut sent)?;
+        push_wake(letters, place.arrival, sent)?;
     }
-    Ok(sent)
+    Ok(())
 }
 
 /// Adds the Wake of the letter that came then. Where no memory is found the letters to be sent are as before.

@@ -1,11 +1,11 @@
 -- Letters that a step sends behind its own change nothing of what it counts.
-use Rattle.std.proofs.Common.{◌≡◌, ◌<◌, ◌≤◌, List, ◌++◌, length, take, refl, ap, sym, subst, arith, Some}
+use Rattle.std.proofs.Common.{◌≡◌, ◌<◌, ◌≤◌, List, ◌++◌, length, take, refl, ap, sym, subst, arith}
 use Rattle.std.specs.Prelude.{All, if◌then◌else◌}
 use Rattle.std.proofs.lemmas.List.{length-append, take-append-le}
 use Rattle.item_versions.specs.Table.{pending}
-use Rattle.letter_types.specs.declared.bodies.Body.{Body}
+use Rattle.letter_types.specs.declared.kept.KeepReason.{KeepReason}
 use Rattle.letter_types.specs.declared.entries.Outgoing.{Outgoing}
-use Rattle.letter_types.specs.Kept.{wakes, wakes_by, with_called}
+use Rattle.letter_types.specs.Kept.{wakes, with_called}
 use Rattle.pair_counters.specs.Counts.{Counts}
 use Rattle.pair_counters.specs.Rows.{counts_of}
 use Rattle.world_model.specs.Core.{Core}
@@ -36,6 +36,7 @@ use Rattle.node_keeping.specs.declared.change.KeptChange.TheVariants.{Call}
 use Rattle.node_keeping.specs.declared.state.KeepingParts.{KeepingParts}
 use Rattle.node_keeping.specs.Changes.{IsKeepingStepOf}
 use Rattle.node_keeping.specs.State.{keeping_of}
+use Rattle.node_keeping.specs.Waits.{waits_alike}
 use Rattle.world_core.specs.inside.Bringing.{sent_behind, waking_out}
 
 -- a node after a subtransaction or a notice, by the requests that are counted
@@ -117,52 +118,52 @@ may_more p more n may = record {
   apart = subst (λ (c : Core). IsApart c) (sym (core_more p more n may)) may.apart;
 }
 
--- a plan means that step where they are put behind the letters in the scratch, and what wakes them beside
-abbrev pub with_wakes : List Outgoing → Body → Scratch → Scratch
-with_wakes more b x = record x { sent = x.sent ++ more; calls = Some b }
+-- a plan means that step if they are put behind the messages in the scratch
+abbrev pub with_more : List Outgoing → Scratch → Scratch
+with_more more x = record x { sent = x.sent ++ more }
 
-doing_behind : (d : Doing) (more : List Outgoing) (b : Body) (x : Scratch)
-    → doing_meant d (with_wakes more b x) ≡ doing_meant d x
-doing_behind doings.Still more b x = refl
-doing_behind (doings.Tree p) more b x = refl
-doing_behind (doings.Turn v) more b x = refl
-doing_behind (doings.Show v) more b x = refl
-doing_behind (doings.Sweep v) more b x = refl
+doing_behind : (d : Doing) (more : List Outgoing) (x : Scratch)
+    → doing_meant d (with_more more x) ≡ doing_meant d x
+doing_behind doings.Still more x = refl
+doing_behind (doings.Tree p) more x = refl
+doing_behind (doings.Turn v) more x = refl
+doing_behind (doings.Show v) more x = refl
+doing_behind (doings.Sweep v) more x = refl
 
-votes_behind : (v : VotePlan) (more : List Outgoing) (b : Body) (x : Scratch)
-    → votes_meant v (with_wakes more b x) ≡ votes_meant v x
-votes_behind vote_plans.Stay more b x = refl
-votes_behind (vote_plans.Take t) more b x = refl
-votes_behind (vote_plans.Free t) more b x = refl
-votes_behind (vote_plans.Note t) more b x = refl
-votes_behind (vote_plans.Drop t) more b x = refl
+votes_behind : (v : VotePlan) (more : List Outgoing) (x : Scratch)
+    → votes_meant v (with_more more x) ≡ votes_meant v x
+votes_behind vote_plans.Stay more x = refl
+votes_behind (vote_plans.Take t) more x = refl
+votes_behind (vote_plans.Free t) more x = refl
+votes_behind (vote_plans.Note t) more x = refl
+votes_behind (vote_plans.Drop t) more x = refl
 
-holds_behind : (h : HoldPlan) (more : List Outgoing) (b : Body) (x : Scratch)
-    → holds_meant h (with_wakes more b x) ≡ holds_meant h x
-holds_behind hold_plans.Stay more b x = refl
-holds_behind (hold_plans.Hold t v) more b x = refl
-holds_behind (hold_plans.Ack t) more b x = refl
+holds_behind : (h : HoldPlan) (more : List Outgoing) (x : Scratch)
+    → holds_meant h (with_more more x) ≡ holds_meant h x
+holds_behind hold_plans.Stay more x = refl
+holds_behind (hold_plans.Hold t v) more x = refl
+holds_behind (hold_plans.Ack t) more x = refl
 
-pub meant_behind : (p : Plan) (more : List Outgoing) (b : Body) (x : Scratch)
-    → core_meant p (with_wakes more b x) ≡ sent_behind more (core_meant p x)
-meant_behind p more b x = λ i. record {
+pub meant_behind : (p : Plan) (more : List Outgoing) (x : Scratch)
+    → core_meant p (with_more more x) ≡ sent_behind more (core_meant p x)
+meant_behind p more x = λ i. record {
   prepared = record {
-    change = doing_behind p.doing more b x i;
+    change = doing_behind p.doing more x i;
     out = record { sent = x.sent ++ more; acts = x.acts };
   };
-  votes = votes_behind p.votes more b x i;
-  holds = holds_behind p.holds more b x i;
+  votes = votes_behind p.votes more x i;
+  holds = holds_behind p.holds more x i;
   epoch = p.epoch;
 }
 
--- a letter is done that wakes these: each is called, and its Wake goes behind what the core sends
-pub waking_step : (b : Body) (n : KeepingParts) (p : CorePrepared) (more : List Outgoing) → MayDoCore p n.core
-    → more ≡ wakes (wakes_by b) n.kept
-    → IsKeepingStepOf (waking_out b (keeping_of n) (core_prepared_row p (core_of n.core))) n
-    (Does (sent_behind more p) (Call b))
-waking_step b n p more may is = record {
+-- a message is done that wakes those that wait for this: each is called, and its Wake goes behind what the core sends
+pub waking_step : (r : KeepReason) (n : KeepingParts) (p : CorePrepared) (more : List Outgoing) → MayDoCore p n.core
+    → more ≡ wakes (waits_alike r) n.kept
+    → IsKeepingStepOf (waking_out (waits_alike r) (keeping_of n) (core_prepared_row p (core_of n.core))) n
+    (Does (sent_behind more p) (Call r))
+waking_step r n p more may is = record {
   row = λ i. record {
-    state = record { core = core_more p more n.core may i; kept = with_called (wakes_by b) n.kept };
+    state = record { core = core_more p more n.core may i; kept = with_called (waits_alike r) n.kept };
     sent = p.prepared.out.sent ++ is i;
     acts = p.prepared.out.acts;
   };

@@ -1,5 +1,5 @@
 // What a node does with a letter, planned.
-ghost use Rattle.std.specs.Prelude.{◌≡◌, ◌++◌, [], IfOk, None, OnOk, Some};
+ghost use Rattle.std.specs.Prelude.{◌≡◌, [], IfOk, None, OnOk};
 ghost use Rattle.letter_types.specs.Steps.{still};
 ghost use Rattle.world_model.specs.Keeping.{AsksFor};
 ghost use Rattle.tree_step.specs.CoreChanges.{MayDoCore};
@@ -10,13 +10,12 @@ ghost use Rattle.node_keeping.specs.Choices.{kept_by_plan};
 ghost use Rattle.node_keeping.specs.Meant.{IsPlanned, keep_meant};
 ghost use Rattle.node_keeping.specs.State.{IsKeepingReady, keeping_of};
 ghost use Rattle.tree_step.specs.Meant.{IsEmpty, core_meant};
-ghost use Rattle.world_model.specs.Epochs.{plain_order};
-ghost use Rattle.world_core.specs.inside.Bringing.{IsBroughtBy, IsDonePlan, IsKeptPlan, IsWakingPlan, keep_as, waking_order};
+ghost use Rattle.world_core.specs.inside.Bringing.{IsBroughtBy, IsDonePlan, IsKeptPlan, IsWakingPlan, keep_as, reason_of_order, woken_reason};
 ghost use Rattle.world_core.specs.Prepared.{IsLetterPlan};
 
 use crate::orders::is_obeyed_now;
 use crate::plan::plan_core;
-use letter_types::{Acts, Body, Boxed, Letter, Letters, What};
+use letter_types::{Acts, Body, KeepReason, Letter, What};
 use node_keeping::{CoreChoice, KeepPlan, KeepingParts, KeptPlan, NodePlan};
 use std::alloc::Global;
 use std::mem;
@@ -94,102 +93,72 @@ fn plan_keep(
     Ok(NodePlan::Keeps(keep))
 }
 
-/// Adds these letters behind the others.
-fn push_all(sent: &mut Letters, more: Letters) -> Result<(), NoMemory>
-    ensures { OnOk result (sent.new ≡ sent.old ++ more) }
-{
-    for letter in more.into_vec() {
-        sent.push(letter)?;
-    }
-    Ok(())
-}
-
-/// A copy of a body, behind a pointer.
-fn copy_body(alloc: Global, body: &Body) -> Result<Boxed<Body>, NoMemory>
-    ensures { IfOk result (λ copy. copy ≡ body.now) }
-{
-    let copy = body.copy(alloc)?;
-    Ok(Boxed::new(alloc, copy)?)
-}
-
-/// Puts Wakes behind the letters in the scratch, and a copy of what wakes.
-fn put_wakes(
-    alloc: Global,
-    body: &Body,
-    wakes: Letters,
-    scratch: &mut Scratch,
-) -> Result<(), NoMemory>
-    ensures { OnOk result
-        (scratch.new ≡ record scratch.old { sent = scratch.old.sent ++ wakes; calls = Some body.now }) }
-{
-    let copy = copy_body(alloc, body)?;
-    push_all(&mut scratch.sent, wakes)?;
-    scratch.calls = Some(copy);
-    Ok(())
-}
-
-/// Plans that a letter is done, and that what it wakes is called: behind its other letters the node sends a Wake for
-/// each.
+/// Plans that a message is done, and that the deferred messages that it wakes, if any, are called: behind its other
+/// messages the node sends a Wake for each.
 #[inline(always)]
 fn plan_waking(
-    alloc: Global,
     node: &KeepingParts,
-    body: &Body,
+    woken: Option<KeepReason>,
     plan: Plan,
     scratch: &mut Scratch,
 ) -> Result<NodePlan, NoMemory>
     requires { MayDoCore (core_meant plan scratch.old) node.now.core }
-    ensures { IfOk result (IsWakingPlan body.now (core_meant plan scratch.old) node.now scratch.new) }
+    ensures { IfOk result (IsWakingPlan woken (core_meant plan scratch.old) node.now scratch.new) }
 {
-    if node.kept.count() == 0 {
+    let Some(why) = woken else {
         return Ok(NodePlan::Does {
             plan,
             kept: KeptPlan::Stay,
         });
-    }
-    let wakes = node.kept.wakes(alloc, body)?;
-    if wakes.items().is_empty() {
-        return Ok(NodePlan::Does {
-            plan,
-            kept: KeptPlan::Stay,
-        });
-    }
-    put_wakes(alloc, body, wakes, scratch)?;
+    };
+    node.kept.push_wakes(why, &mut scratch.sent)?;
     Ok(NodePlan::Does {
         plan,
-        kept: KeptPlan::Call,
+        kept: KeptPlan::Call(why),
     })
 }
 
-/// The order of a coordinator that remembers.
-fn plain_order(what: What, version: Version) -> Body
-    ensures { result ≡ plain_order what version }
+/// What the deferred messages wait for that an order of a coordinator that forgets wakes: a version to be shown, if it is
+/// an order to show one, and takes effect. Any other wakes none.
+fn woken_by_order(
+    core: &NodeCore,
+    epoch: u64,
+    what: What,
+    version: Version,
+) -> Option<KeepReason>
+    ensures { result ≡ reason_of_order epoch what version (core_of core.now) }
 {
     match what {
-        What::Turn => Body::Turn { version },
-        What::Show => Body::Show { version },
-        What::Sweep => Body::Sweep { version },
+        What::Show => {
+            if is_obeyed_now(core, epoch, What::Show, version) {
+                Some(KeepReason::ForShow)
+            } else {
+                None
+            }
+        }
+        _ => None,
     }
 }
 
-/// A letter that wakes just what an order of a coordinator that forgets wakes: the order for which it stands, if it takes
-/// effect; else the order itself, which wakes nothing.
-fn waking_order(core: &NodeCore, epoch: u64, what: What, version: Version) -> Body
-    ensures { result ≡ waking_order epoch what version (core_of core.now) }
+/// What the deferred messages wait for that a message of this body wakes: a version to be shown, or a transaction's locks
+/// to be freed. None if it wakes no message.
+fn woken_by(core: &NodeCore, body: &Body) -> Option<KeepReason>
+    ensures { result ≡ woken_reason (core_of core.now) body.now }
 {
-    if is_obeyed_now(core, epoch, what, version) {
-        return plain_order(what, version);
-    }
-    Body::Order {
-        epoch,
-        what,
-        version,
+    match body {
+        Body::Show { .. } => Some(KeepReason::ForShow),
+        Body::Decide { tree, .. } => Some(KeepReason::ForHolder(*tree)),
+        Body::Order {
+            epoch,
+            what,
+            version,
+        } => woken_by_order(core, *epoch, *what, *version),
+        _ => None,
     }
 }
 
 /// Plans that what a letter brought is done.
 fn plan_does(
-    alloc: Global,
     node: &KeepingParts,
     letter: &Letter,
     brought: &Letter,
@@ -211,15 +180,10 @@ fn plan_does(
                 sub: *sub,
             },
         }),
-        Body::Order {
-            epoch,
-            what,
-            version,
-        } => {
-            let body = waking_order(&node.core, *epoch, *what, *version);
-            plan_waking(alloc, node, &body, plan, scratch)
+        _ => {
+            let woken = woken_by(&node.core, &letter.body);
+            plan_waking(node, woken, plan, scratch)
         }
-        _ => plan_waking(alloc, node, &letter.body, plan, scratch),
     }
 }
 
@@ -253,6 +217,6 @@ pub fn plan_letter(
     match plan_core(alloc, &node.core, brought, script, scratch)? {
         CoreChoice::Still => Ok(still(alloc, node, scratch)),
         CoreChoice::Keeps(keep) => plan_keep(alloc, node, letter, brought, keep, scratch),
-        CoreChoice::Does(plan) => plan_does(alloc, node, letter, brought, plan, scratch),
+        CoreChoice::Does(plan) => plan_does(node, letter, brought, plan, scratch),
     }
 }

@@ -5,8 +5,6 @@ use Rattle.std.specs.declared.cmp.Ordering.{Ordering}
 use Rattle.std.specs.Ordering.{nat_cmp, is_eq}
 use Rattle.tv_base.specs.declared.numbers.SubNo.{SubNo}
 use Rattle.tv_base.specs.declared.numbers.TreeNo.{TreeNo}
-use Rattle.letter_types.specs.declared.bodies.Body.{Body}
-use Rattle.letter_types.specs.declared.bodies.Body.TheVariants as body
 use Rattle.letter_types.specs.declared.kept.KeepReason.{KeepReason}
 use Rattle.letter_types.specs.declared.kept.KeepReason.TheVariants.{ForShow, ForHolder, Called}
 use Rattle.node_keeping.specs.declared.places.Key.{Key}
@@ -52,12 +50,6 @@ is_reason _ = true
 -- a letter is found by its subtransaction and by what it waits for
 abbrev pub finds : TreeNo → SubNo → KeepReason → Key → Bool
 finds t k why q = is_eq (key_order (Sub t k) q) || is_why q why
-
--- the key of what a letter of this body wakes
-abbrev pub woken_key : Body → Option Key
-woken_key (body.Show v) = Some Show
-woken_key (body.Decide t v commit) = Some (Holder t)
-woken_key _ = None
 
 -- nothing came then
 abbrev pub IsFree : ℕ → List KeptPlace → Type 0
