@@ -2,7 +2,7 @@
 ghost use Rattle.std.specs.Prelude.{◌≡◌, ◌++◌, [], IfOk, IsTrue, OnErr, OnOk};
 ghost use Rattle.item_versions.specs.Table.{item_in, pending};
 ghost use Rattle.world_model.specs.Named.{is_strict_at};
-ghost use Rattle.script_parts.specs.Deeds.{after_deed, overwrites};
+ghost use Rattle.script_parts.specs.Deeds.{after_deed};
 ghost use Rattle.nc_locks.specs.Locks.{without};
 ghost use Rattle.nc_commit.specs.Decisions.{applied_in, can_apply, can_apply_op, decided_in, may_apply_decision, may_overwrite, ops_at, overwritten_in};
 ghost use Rattle.nc_commit.specs.inside.Writes.{AreOnce};

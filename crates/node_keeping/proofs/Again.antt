@@ -13,9 +13,8 @@ use Rattle.letter_types.specs.declared.entries.Letter.{Letter}
 use Rattle.letter_types.specs.declared.kept.KeptLetter.{KeptLetter}
 use Rattle.letter_types.specs.Kept.{first_called, is_called_for, without_called}
 use Rattle.node_keeping.specs.declared.places.Key.{Key}
-use Rattle.node_keeping.specs.declared.places.KeptPlace.{KeptPlace}
 use Rattle.node_keeping.specs.Again.{kept_again, with_last}
-use Rattle.node_keeping.specs.inside.Arrivals.{ArePlaced, Arrived, FindsSame, came, is_found, with_letter_at, without_first}
+use Rattle.node_keeping.specs.inside.Arrivals.{Arrived, FindsSame, came, is_found, with_letter_at, without_first}
 use Rattle.node_keeping.proofs.Entries.{AllAfter, less-apart, letters_without}
 use Rattle.node_keeping.proofs.Keeping.{Came-set, is_some-as}
 use Rattle.node_keeping.proofs.Orders.{number_itself, same_number}
@@ -73,15 +72,6 @@ finds_same a l x old new is set =
       some = λ b there.
           some-same l x (came b old) (is_eq (nat_cmp a b)) (here b) (is_some-as (came b new) _ (set b) there);
     }
-
-pub kept_found : (next : ℕ) (es es' : Arrived) (ps : List KeptPlace) → ArePlaced next es ps → FindsSame es es'
-    → IsStrictlySortedBy nat_cmp (keys_of es') → ArePlaced next es' ps
-kept_found next es es' ps kept same up = record {
-  ascending = up;
-  in_order = kept.in_order;
-  before = λ a some. kept.before a (same.some a some);
-  found = λ p. kept.found p ∙ sym (same.at p.key p.arrival);
-}
 
 -- one letter more at the end changes nothing where a called one is found before it
 first-by : (t : TreeNo) (k : SubNo) (e : KeptLetter) (xs ys : List KeptLetter) (b : Bool)

@@ -20,18 +20,18 @@ use Rattle.tree_step.specs.Core.{core_of}
 use Rattle.tree_step.specs.declared.node_core.NodeCore.{NodeCore}
 use Rattle.tree_step.specs.declared.plan.Scratch.{Scratch}
 use Rattle.node_keeping.specs.Plans.{IsPlanBy, IsPlanOf, IsPlanWhere}
-use Rattle.node_keeping.specs.declared.plans.CoreChoice.{CoreChoice}
-use Rattle.node_keeping.specs.declared.plans.CorePlan.{CorePlan}
+use Rattle.node_keeping.specs.declared.node_plan.CoreChoice.{CoreChoice}
+use Rattle.node_keeping.specs.steps.ChosenStep.{ChosenStep}
 use Rattle.node_keeping.specs.Choices.{IsChoiceOfKind, IsChoiceOfTree, IsDueChoice, choice_meant}
 use Rattle.node_keeping.specs.Apt.{IsOwnPlan, apt_by, makes_by, tree_apt}
 use Rattle.node_keeping.proofs.Aptness.{own_apt, root_apt, sub_apt}
 
 -- a plan of a letter of this body, that is apt by this test
-abbrev pub IsPlanHere : ScriptData → Letter → NodeCore → Body → Bool → CorePlan → Type 0
+abbrev pub IsPlanHere : ScriptData → Letter → NodeCore → Body → Bool → ChosenStep → Type 0
 IsPlanHere s l n body test plan =
     IsPlanBy test (core_keeping s (core_of n) body) (core_row s l.to.0 (core_of n) l.from.0 body) n plan
 
-pub plan_one : (s : ScriptData) (l : Letter) (n : NodeCore) (body : Body) (test : Bool) (plan : CorePlan) → l.body ≡ body
+pub plan_one : (s : ScriptData) (l : Letter) (n : NodeCore) (body : Body) (test : Bool) (plan : ChosenStep) → l.body ≡ body
     → test ≡ apt_by s l.to.0 l.from.0 (core_of n) body → IsPlanHere s l n body test plan → IsOwnPlan s l n plan
 plan_one s l n body test plan is same planned =
     subst (λ (b : Body). IsPlanHere s l n b (apt_by s l.to.0 l.from.0 (core_of n) b) plan) (sym is)
@@ -74,7 +74,7 @@ is_free true false m is = absurd (cc)
 is_free false b m is = absurd (cc)
 
 -- its plan, by the tree's kind
-abbrev IsTreePlan : ScriptData → Letter → NodeCore → TreeNo → Body → Bool → Option TreeKind → CorePlan → Type 0
+abbrev IsTreePlan : ScriptData → Letter → NodeCore → TreeNo → Body → Bool → Option TreeKind → ChosenStep → Type 0
 IsTreePlan s l n t body test kind plan =
     IsPlanBy test (kept_by_kind s (core_of n) t body kind) (core_by_kind s l.to.0 l.from.0 t body kind (core_of n)) n plan
 

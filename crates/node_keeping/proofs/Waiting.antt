@@ -25,7 +25,7 @@ use Rattle.tree_step.specs.Core.{core_of}
 use Rattle.tree_step.specs.declared.node_core.NodeCore.{NodeCore}
 use Rattle.node_keeping.specs.Plans.{IsKeptBy, kept_core}
 use Rattle.tree_step.specs.Raising.{RaisesNear}
-use Rattle.node_keeping.specs.declared.meeting.CoreKept.{CoreKept}
+use Rattle.node_keeping.specs.steps.CoreKept.{CoreKept}
 use Rattle.node_keeping.specs.Apt.{asks_a_sub}
 use Rattle.node_keeping.specs.Meeting.{asked_sub, op_marks, parked_kept, raises_to, root_kept, waits_for_show}
 

@@ -24,7 +24,7 @@ use Rattle.tree_step.specs.declared.node_core.NodeCore.{NodeCore}
 use Rattle.tree_step.specs.Node.{data_of}
 use Rattle.nc_commit.specs.declared.decisions.Decision.{Decision}
 use Rattle.node_keeping.specs.Plans.{IsPlanBy, IsPlanWhere}
-use Rattle.node_keeping.specs.declared.plans.CorePlan.{CorePlan}
+use Rattle.node_keeping.specs.steps.ChosenStep.{ChosenStep}
 
 -- whether a letter of this sender and body is apt at node p, where the script's kind of coordinator allows it
 abbrev pub apt_by : ScriptData → ℕ → ℕ → Core → Body → Bool
@@ -35,7 +35,7 @@ apt_by s p from c body =
     && (is_core_timely s c body && decides_near s c.node body && can_make_at s p c body)))
 
 -- what a core does with a letter that the script's kind of coordinator allows is planned
-abbrev pub IsOwnPlan : ScriptData → Letter → NodeCore → CorePlan → Type 0
+abbrev pub IsOwnPlan : ScriptData → Letter → NodeCore → ChosenStep → Type 0
 IsOwnPlan s l n plan = IsPlanWhere (apt_by s l.to.0 l.from.0 (core_of n) l.body) s l n plan
 
 -- a letter that asks for a subtransaction
@@ -57,21 +57,21 @@ tree_apt s p from c t body =
     is_due s p c.node from body && (is_unheld body c.holds && makes_by s c.node body (tree_kind_at s t.0))
 
 -- the plan of a subtransaction of tree t, of this kind, that is apt by this test
-abbrev pub IsKindPlan : ScriptData → Letter → TreeNo → Option TreeKind → Bool → NodeCore → CorePlan → Type 0
+abbrev pub IsKindPlan : ScriptData → Letter → TreeNo → Option TreeKind → Bool → NodeCore → ChosenStep → Type 0
 IsKindPlan s l t kind test n plan =
     IsPlanBy test (kept_by_kind s (core_of n) t l.body kind) (core_by_kind s l.to.0 l.from.0 t l.body kind (core_of n)) n plan
 
 -- where it is known to be due: it is apt if it may be made
-abbrev pub IsPlanOfKind : ScriptData → Letter → TreeNo → Option TreeKind → NodeCore → CorePlan → Type 0
+abbrev pub IsPlanOfKind : ScriptData → Letter → TreeNo → Option TreeKind → NodeCore → ChosenStep → Type 0
 IsPlanOfKind s l t kind n plan = IsKindPlan s l t kind (makes_by s (data_of n.parts) l.body kind) n plan
 
 -- a read tree is never kept
-abbrev pub IsReadPlan : ScriptData → Letter → NodeCore → CorePlan → Type 0
+abbrev pub IsReadPlan : ScriptData → Letter → NodeCore → ChosenStep → Type 0
 IsReadPlan s l n plan =
     IsPlanBy (can_read s (data_of n.parts) l.body) None (read_core s l.to.0 l.from.0 l.body (core_of n)) n plan
 
 -- whatever its kind
-abbrev pub IsPlanOfTree : ScriptData → Letter → TreeNo → NodeCore → CorePlan → Type 0
+abbrev pub IsPlanOfTree : ScriptData → Letter → TreeNo → NodeCore → ChosenStep → Type 0
 IsPlanOfTree s l t n plan =
     IsKindPlan s l t (tree_kind_at s t.0) (tree_apt s l.to.0 l.from.0 (core_of n) t l.body) n plan
 

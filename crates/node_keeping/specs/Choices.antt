@@ -10,19 +10,19 @@ use Rattle.tree_step.specs.Meant.{core_meant}
 use Rattle.tree_step.specs.declared.node_core.NodeCore.{NodeCore}
 use Rattle.tree_step.specs.declared.plan.Scratch.{Scratch}
 use Rattle.node_keeping.specs.Apt.{IsPlanOfKind, IsPlanOfTree}
-use Rattle.node_keeping.specs.declared.meeting.CoreKept.{CoreKept}
+use Rattle.node_keeping.specs.steps.CoreKept.{CoreKept}
 use Rattle.node_keeping.specs.declared.node_plan.KeepPlan.{KeepPlan}
-use Rattle.node_keeping.specs.declared.plans.CoreChoice.{CoreChoice}
-use Rattle.node_keeping.specs.declared.plans.CoreChoice.TheVariants as choices
-use Rattle.node_keeping.specs.declared.plans.CorePlan.{CorePlan}
-use Rattle.node_keeping.specs.declared.plans.CorePlan.TheVariants as plans
+use Rattle.node_keeping.specs.declared.node_plan.CoreChoice.{CoreChoice}
+use Rattle.node_keeping.specs.declared.node_plan.CoreChoice.TheVariants as choices
+use Rattle.node_keeping.specs.steps.ChosenStep.{ChosenStep}
+use Rattle.node_keeping.specs.steps.ChosenStep as plans
 
 -- a letter that a core keeps by this plan, with these acts
 abbrev pub kept_by_plan : KeepPlan → List Act → CoreKept
 kept_by_plan k acts = record { tree = k.tree; sub = k.sub; why = k.why; raises = k.raises; acts = acts }
 
 -- what a core does with a letter
-abbrev pub choice_meant : CoreChoice → Scratch → CorePlan
+abbrev pub choice_meant : CoreChoice → Scratch → ChosenStep
 choice_meant choices.Still x = plans.Still
 choice_meant (choices.Keeps k) x = plans.Keeps (kept_by_plan k x.acts)
 choice_meant (choices.Does p) x = plans.Does (core_meant p x)

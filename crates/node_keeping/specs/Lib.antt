@@ -4,6 +4,7 @@ pub mod Meant
 pub mod Again
 pub mod Waits
 pub mod inside
+pub mod steps
 pub mod Plans
 pub mod Apt
 pub mod Meeting

@@ -1,4 +1,4 @@
--- How a letter is kept, prepared.
+-- How a letter is kept.
 use Rattle.std.specs.Prelude.{if◌then◌else◌, Bool, false, not, nat_lt, List, [], ◌∷◌, ◌++◌, map, Option, Some, None}
 use Rattle.tv_base.specs.declared.numbers.SubNo.{SubNo}
 use Rattle.tv_base.specs.declared.numbers.TreeNo.{TreeNo}
@@ -15,7 +15,7 @@ use Rattle.tx_trees.specs.declared.parts.SubOp.{SubOp}
 use Rattle.world_model.specs.Asked.{asked_version}
 use Rattle.world_model.specs.Node.{Node}
 use Rattle.world_model.specs.Strict.{is_born_now}
-use Rattle.node_keeping.specs.declared.meeting.CoreKept.{CoreKept}
+use Rattle.node_keeping.specs.steps.CoreKept.{CoreKept}
 
 -- the subtransaction that a letter asks for, 0 for a root
 abbrev pub asked_sub : Body → SubNo

@@ -1,4 +1,4 @@
--- What a core does with a letter, planned.
+-- What a core does with a letter.
 use Rattle.std.specs.Prelude.{◌≡◌, Bool, true, false, Option, Some, None}
 use Rattle.letter_types.specs.declared.entries.Letter.{Letter}
 use Rattle.letter_types.specs.Steps.{Out}
@@ -8,11 +8,10 @@ use Rattle.world_model.specs.Strict.{CoreKeeping, core_keeping, core_row, is_cor
 use Rattle.tree_step.specs.CoreChanges.{IsCoreStepOf}
 use Rattle.tree_step.specs.Raising.{RaisesNear, raised_by}
 use Rattle.tree_step.specs.Core.{core_of}
-use Rattle.tree_step.specs.declared.core_change.CorePrepared.{CorePrepared}
+use Rattle.tree_step.specs.steps.CoreStep.{CoreStep}
 use Rattle.tree_step.specs.declared.node_core.NodeCore.{NodeCore}
-use Rattle.node_keeping.specs.declared.meeting.CoreKept.{CoreKept}
-use Rattle.node_keeping.specs.declared.plans.CorePlan.{CorePlan}
-use Rattle.node_keeping.specs.declared.plans.CorePlan.TheVariants.{Still, Keeps, Does}
+use Rattle.node_keeping.specs.steps.CoreKept.{CoreKept}
+use Rattle.node_keeping.specs.steps.ChosenStep.{ChosenStep, Still, Keeps, Does}
 
 -- a core that keeps a letter
 abbrev pub kept_core : CoreKept → Core → CoreKeeping
@@ -30,24 +29,24 @@ pub record IsKeptBy (test : Bool) (keeping : Option CoreKeeping) (n : NodeCore) 
   pub kept : keeping ≡ Some (kept_core k (core_of n))
   pub near : RaisesNear k.raises n.parts.turns
 
--- a letter that is apt, by this test, is one that the core doesn't keep, and this row of it is prepared
-pub record IsDoneBy (test : Bool) (keeping : Option CoreKeeping) (o : Out Core) (n : NodeCore) (p : CorePrepared)
+-- a letter that is apt, by this test, is one that the core doesn't keep, and a step is this row of it
+pub record IsDoneBy (test : Bool) (keeping : Option CoreKeeping) (o : Out Core) (n : NodeCore) (p : CoreStep)
     : Type 0 where
   pub apt : test ≡ true
   pub free : keeping ≡ None
   pub step : IsCoreStepOf o n p
 
 -- a plan by these: nothing where the letter isn't apt; else it is kept where it has to be, and its row is done where not
-abbrev pub IsPlanBy : Bool → Option CoreKeeping → Out Core → NodeCore → CorePlan → Type 0
+abbrev pub IsPlanBy : Bool → Option CoreKeeping → Out Core → NodeCore → ChosenStep → Type 0
 IsPlanBy test keeping o n Still = test ≡ false
 IsPlanBy test keeping o n (Keeps k) = IsKeptBy test keeping n k
 IsPlanBy test keeping o n (Does p) = IsDoneBy test keeping o n p
 
 -- what a core does with a letter is planned, where this says whether the letter is apt
-abbrev pub IsPlanWhere : Bool → ScriptData → Letter → NodeCore → CorePlan → Type 0
+abbrev pub IsPlanWhere : Bool → ScriptData → Letter → NodeCore → ChosenStep → Type 0
 IsPlanWhere test s l n plan =
     IsPlanBy test (core_keeping s (core_of n) l.body) (core_row s l.to.0 (core_of n) l.from.0 l.body) n plan
 
 -- what a core does with a letter is planned
-abbrev pub IsPlanOf : ScriptData → Letter → NodeCore → CorePlan → Type 0
+abbrev pub IsPlanOf : ScriptData → Letter → NodeCore → ChosenStep → Type 0
 IsPlanOf s l n plan = IsPlanWhere (is_core_apt s l.to.0 (core_of n) l) s l n plan

@@ -1,10 +1,9 @@
 // How a node changes in a step, once the step is planned.
-ghost use Rattle.std.specs.Prelude.{◌≡◌, Ok, OnErr, OnOk};
+ghost use Rattle.std.specs.Prelude.{◌≡◌, OnErr, OnOk};
 ghost use Rattle.tree_step.specs.Meant.{core_meant, out_in};
 ghost use Rattle.tree_step.specs.Raising.{raised_by};
 ghost use Rattle.tree_step.specs.CoreChanges.{MayDoCore};
 ghost use Rattle.node_keeping.specs.Changes.{MayDoKeeping, MayBeKept, MayKeepLetter, kept_after, kept_with};
-ghost use Rattle.node_keeping.specs.declared.change.KeepingPrepared.TheVariants.{Does, Keeps};
 ghost use Rattle.node_keeping.specs.Meant.{IsNodeDone, keep_meant, node_meant};
 
 use crate::kept::KeptLetters;

@@ -1,14 +1,13 @@
 // Whether a letter is apt, as far as its operations don't decide.
-ghost use Rattle.std.specs.Prelude.{◌≡◌, ◌==◌, ◌&&◌, is_some};
+ghost use Rattle.std.specs.Prelude.{◌≡◌, is_some};
 ghost use Rattle.std.specs.Option.{option_copied};
 ghost use Rattle.tree_home.specs.HeldAnswers.{held_answers, held_in};
 ghost use Rattle.tree_home.specs.Homes.{Gets};
 ghost use Rattle.tx_trees.specs.ScriptData.{node_of, sub_at};
 ghost use Rattle.world_model.specs.Epochs.{suits_coordinator};
 ghost use Rattle.world_model.specs.Strict.{is_unheld};
-ghost use Rattle.tree_step.specs.Due.{is_due};
 ghost use Rattle.tree_step.specs.Core.{core_of};
-ghost use Rattle.node_keeping.specs.Apt.{acked_apt, acks_here, decide_apt, decide_apt_at, decides_here, release_apt, wake_apt};
+ghost use Rattle.node_keeping.specs.Apt.{acked_apt, acks_here, decide_apt_at, decides_here, release_apt, wake_apt};
 ghost use Rattle.tree_step.specs.AtNode.{is_free_at, answers_near};
 
 use letter_types::{Body, Letter};

@@ -5,24 +5,20 @@
 #![tactic(auto)]
 
 mod arrivals;
-mod change;
 mod done;
 mod due;
 mod kept;
 mod meeting;
 mod node_plan;
 mod places;
-mod plans;
 mod state;
 mod wakes;
 
-pub use change::{Keep, KeepingPrepared, KeptChange};
 pub use done::do_node;
 pub use due::{
     acked_apt, decide_apt, decides_near, is_free, release_apt, suits_coordinator, wake_apt,
 };
 pub use kept::KeptLetters;
-pub use meeting::{CoreKept, meets, parked, root_waiting, waits_for_show};
-pub use node_plan::{KeepPlan, KeptPlan, NodePlan};
-pub use plans::{CoreChoice, CorePlan};
+pub use meeting::{meets, parked, root_waiting, waits_for_show};
+pub use node_plan::{CoreChoice, KeepPlan, KeptPlan, NodePlan};
 pub use state::KeepingParts;

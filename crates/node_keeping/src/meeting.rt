@@ -16,17 +16,6 @@ use tree_step::{NodeCore, asked_ops, asked_version};
 use tv_base::{NoMemory, SubNo, TreeNo, Version};
 use tx_trees::{Script, SubOp};
 
-/// What a plan to keep a letter and the acts in a scratch mean: the subtransaction that the letter asks for, why it is
-/// kept, the update version that the node raises before, if it must, and the acts.
-#[derive(Drop)]
-pub struct CoreKept {
-    pub tree: TreeNo,
-    pub sub: SubNo,
-    pub why: KeepReason,
-    pub raises: Option<Version>,
-    pub acts: Acts,
-}
-
 /// The first lock that a tree meets that marks the items of these operations.
 fn met_by_marks(locks: &Locks, tree: TreeNo, ops: &[SubOp]) -> Option<Met>
     ensures { result ≡ met_in tree (op_marks ops.now) locks.now }

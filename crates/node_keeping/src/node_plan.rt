@@ -15,6 +15,17 @@ pub struct KeepPlan {
     pub raises: Option<Version>,
 }
 
+/// What a core is to do with a letter. What takes memory lies in a scratch.
+#[derive(Clone, Copy)]
+pub enum CoreChoice {
+    /// The letter isn't enabled: nothing.
+    Still,
+    /// It is deferred: it can't be done yet. The acts are in the scratch.
+    Keeps(KeepPlan),
+    /// Its row is done.
+    Does(Plan),
+}
+
 /// What becomes of the kept letters where a letter is done.
 #[derive(Clone, Copy)]
 pub enum KeptPlan {

@@ -1,5 +1,5 @@
 // No run makes this call: a run plans a step of a whole node and does it apart.
-ghost use Rattle.std.specs.Prelude.{◌≡◌, [], false, IfOk, IsTrue, OnErr, OnOk};
+ghost use Rattle.std.specs.Prelude.{◌≡◌, [], IfOk, IsTrue, OnErr, OnOk};
 ghost use Rattle.item_versions.specs.Window.{in_window};
 ghost use Rattle.letter_types.specs.declared.bodies.Notice.TheVariants.{Did};
 ghost use Rattle.letter_types.specs.Steps.{made};

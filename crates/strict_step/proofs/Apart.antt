@@ -23,7 +23,7 @@ use Rattle.world_model.specs.Notices.{answer_noted, homes_noted, values_of}
 use Rattle.world_model.specs.Strict.{is_unheld}
 use Rattle.tree_step.specs.Changes.{part_row}
 use Rattle.tree_step.specs.Node.{data_of}
-use Rattle.tree_step.specs.declared.change.TreePrepared.{TreePrepared}
+use Rattle.tree_step.specs.steps.TreeStep.{TreeStep}
 use Rattle.tree_step.specs.Core.{AreApart}
 use Rattle.tree_step.specs.declared.node_core.NodeCore.{NodeCore}
 use Rattle.strict_step.specs.Answering.{IsApartAfter}
@@ -95,8 +95,8 @@ apart_tree s p from v raises e (Root t) st held unheld apart =
 apart_tree s p from v raises e (SubLetter t k w) st held unheld apart = apart
 apart_tree s p from v raises e _ st held unheld apart = apart
 
--- in a step that was prepared
-pub apart_part : (part : TreePrepared) (n : NodeCore) (o : TreeOut) → part_row part (data_of n.parts) ≡ o
+-- in a step
+pub apart_part : (part : TreeStep) (n : NodeCore) (o : TreeOut) → part_row part (data_of n.parts) ≡ o
     → AreApart o.out.state.homes (held_answers n.parts.homes) → IsApartAfter part n
 apart_part part n o row apart =
     subst (λ (x : TreeOut). AreApart x.out.state.homes (held_answers n.parts.homes)) (sym row) apart

@@ -36,7 +36,7 @@ use Rattle.board_rules.specs.Stands.{overwrites}
 use Rattle.tree_step.proofs.Made.{may_count}
 use Rattle.tree_step.specs.Changes.{MayCount}
 use Rattle.tree_step.specs.Node.{IsReady, Node}
-use Rattle.tree_step.specs.CoreChanges.{IsCoreStepOf, MayAsk, MayHold, asked_with, core_prepared_row, holds_with, locks_with, refusals_with}
+use Rattle.tree_step.specs.CoreChanges.{IsCoreStepOf, MayAsk, MayHold, asked_with, core_step_row, holds_with, locks_with, refusals_with}
 use Rattle.tree_step.specs.Core.{AreApart, IsCoreReady, core_of}
 use Rattle.tree_step.specs.Meant.{core_meant, holds_meant, votes_meant}
 use Rattle.tree_step.specs.declared.node_core.NodeCore.{NodeCore}
@@ -86,7 +86,7 @@ decide_ready : (s : ScriptData) (p : ℕ) (from : NodeNo) (t : TreeNo) (v : Vers
     → pending x.staged n.parts.items ≡ decided_items s p t v commit n.parts.items → home ≡ home_of s t.0
     → x.sent ≡ record { to = record { 0 = home }; body = bodies.Decided t v } ∷ []
     → x.acts ≡ Applied t commit ∷ []
-    → core_prepared_row (core_meant (decide_plan t from v) x) (core_of n) ≡ decide_core s p from.0 t v commit (core_of n)
+    → core_step_row (core_meant (decide_plan t from v) x) (core_of n) ≡ decide_core s p from.0 t v commit (core_of n)
 decide_ready s p from t v commit n x home items at letters acts =
     let sent : x.sent ≡ decided_letter s t v ∷ [] =
     letters ∙ ap (λ (h : ℕ). record { to = record { 0 = h }; body = bodies.Decided t v } ∷ []) at in
@@ -168,7 +168,7 @@ acked_ready : (s : ScriptData) (from : NodeNo) (t : TreeNo) (v : Version) (n : N
     (answered : Option Answered)
     → answered ≡ answer_when_acked t (held_answers n.parts.homes)
     → x.sent ≡ answer_letters s (by_tree n.refusals) answered → x.acts ≡ [] → x.staged ≡ []
-    → core_prepared_row
+    → core_step_row
     (core_meant (acked_plan t from v answered (held_in t (held_answers n.parts.homes))) x) (core_of n)
     ≡ acked_core s from.0 t v (core_of n)
 acked_ready s from t v n x answered free letters acts none =

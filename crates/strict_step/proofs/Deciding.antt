@@ -23,13 +23,13 @@ use Rattle.world_model.specs.Strict.{decided, none_refuses, to_each}
 use Rattle.tree_step.proofs.Replied.{after_more, do_more}
 use Rattle.tree_step.specs.Changes.{MayDo, SendsRequests, after_change, part_row}
 use Rattle.tree_step.specs.Node.{Node, data_of}
-use Rattle.tree_step.specs.declared.change.TreePrepared.{TreePrepared}
+use Rattle.tree_step.specs.steps.TreeStep.{TreeStep}
 use Rattle.strict_step.proofs.Apart.{none_some}
-use Rattle.tree_step.specs.CoreChanges.{IsCoreStepOf, core_prepared_row, locks_with, numbers_of_nodes, refusals_with, with_votes}
+use Rattle.tree_step.specs.CoreChanges.{IsCoreStepOf, core_step_row, locks_with, numbers_of_nodes, refusals_with, with_votes}
 use Rattle.tree_step.specs.Core.{AreApart, core_of}
-use Rattle.tree_step.specs.declared.core_change.CorePrepared.{CorePrepared}
-use Rattle.tree_step.specs.declared.core_change.HoldChange.TheVariants.{Hold}
-use Rattle.tree_step.specs.declared.core_change.VoteChange.{VoteChange}
+use Rattle.tree_step.specs.steps.CoreStep.{CoreStep}
+use Rattle.tree_step.specs.steps.HoldChange.{Hold}
+use Rattle.tree_step.specs.steps.VoteChange.{VoteChange}
 use Rattle.tree_step.specs.declared.node_core.NodeCore.{NodeCore}
 use Rattle.strict_step.specs.Answering.{IsApartAfter, IsDecidable, node_after}
 
@@ -80,28 +80,28 @@ pub as_many : (qs : List NodeNo) (rs : List ℕ) → numbers_of_nodes qs ≡ rs 
 as_many qs rs is = omega (arith, length-map qs (λ (q : NodeNo). q.0), ap (λ (ns : List ℕ). length ns) is)
 
 -- the step of the decision
-abbrev pub decided_change : TreePrepared → VoteChange → Answered → List NodeNo → StepOut → CorePrepared
+abbrev pub decided_change : TreeStep → VoteChange → Answered → List NodeNo → StepOut → CoreStep
 decided_change part votes a nodes out = record {
-  prepared = record { change = part.prepared.change; out = out };
+  parts = record { change = part.parts.change; out = out };
   votes = votes;
   holds = Hold a nodes;
   epoch = None;
 }
 
 -- it is the row
-decided_ready : (s : ScriptData) (part : TreePrepared) (votes : VoteChange) (n : NodeCore) (a : Answered)
+decided_ready : (s : ScriptData) (part : TreeStep) (votes : VoteChange) (n : NodeCore) (a : Answered)
     (commit : Bool) (nodes : List NodeNo) (out : StepOut)
-    → SendsRequests part.prepared.change part.prepared.out.sent
+    → SendsRequests part.parts.change part.parts.out.sent
     → commit ≡ none_refuses a.tree (refusals_with votes (by_tree n.refusals))
     → numbers_of_nodes nodes ≡ visited_by s a.tree.0
-    → out.sent ≡ part.prepared.out.sent ++ to_each (Decide a.tree a.version commit) (numbers_of_nodes nodes)
-    → out.acts ≡ part.prepared.out.acts ++ acts.Decided a.tree commit ∷ []
-    → core_prepared_row (decided_change part votes a nodes out) (core_of n)
+    → out.sent ≡ part.parts.out.sent ++ to_each (Decide a.tree a.version commit) (numbers_of_nodes nodes)
+    → out.acts ≡ part.parts.out.acts ++ acts.Decided a.tree commit ∷ []
+    → core_step_row (decided_change part votes a nodes out) (core_of n)
     ≡ decided s (with_votes votes (core_of n)) (part_row part (data_of n.parts)) (Some a)
 decided_ready s part votes n a commit nodes out counted known names letters told =
     let st = data_of n.parts in
-    let change = part.prepared.change in
-    let old = part.prepared.out.sent in
+    let change = part.parts.change in
+    let old = part.parts.out.sent in
     let hs = held_answers n.parts.homes in
     let after = ap (λ (os : List Outgoing). after_change change os st) letters
     ∙ after_more change old (to_each (Decide a.tree a.version commit) (numbers_of_nodes nodes)) st counted in
@@ -111,7 +111,7 @@ decided_ready s part votes n a commit nodes out counted known names letters told
     let sent = letters
     ∙ ap (λ (qs : List ℕ). old ++ to_each (Decide a.tree a.version commit) qs) names
     ∙ ap (λ (b : Bool). old ++ to_each (Decide a.tree a.version b) (visited_by s a.tree.0)) known in
-    let done = told ∙ ap (λ (b : Bool). part.prepared.out.acts ++ acts.Decided a.tree b ∷ []) known in
+    let done = told ∙ ap (λ (b : Bool). part.parts.out.acts ++ acts.Decided a.tree b ∷ []) known in
     λ i. record {
       state = record {
         node = node i;
@@ -134,21 +134,21 @@ apart_holding opened a k hs gone apart = λ u there.
     ]
 
 -- and the node may do it
-pub decided_step : (s : ScriptData) (part : TreePrepared) (votes : VoteChange) (n : NodeCore) (a : Answered)
+pub decided_step : (s : ScriptData) (part : TreeStep) (votes : VoteChange) (n : NodeCore) (a : Answered)
     (commit : Bool) (nodes : List NodeNo) (out : StepOut)
-    → MayDo part.prepared.change part.prepared.out.sent n.parts
-    → SendsRequests part.prepared.change part.prepared.out.sent
+    → MayDo part.parts.change part.parts.out.sent n.parts
+    → SendsRequests part.parts.change part.parts.out.sent
     → IsApartAfter part n → IsDecidable s part n a → length nodes ≤ 64 → 0 < length nodes
     → commit ≡ none_refuses a.tree (refusals_with votes (by_tree n.refusals))
     → numbers_of_nodes nodes ≡ visited_by s a.tree.0
-    → out.sent ≡ part.prepared.out.sent ++ to_each (Decide a.tree a.version commit) (numbers_of_nodes nodes)
-    → out.acts ≡ part.prepared.out.acts ++ acts.Decided a.tree commit ∷ []
+    → out.sent ≡ part.parts.out.sent ++ to_each (Decide a.tree a.version commit) (numbers_of_nodes nodes)
+    → out.acts ≡ part.parts.out.acts ++ acts.Decided a.tree commit ∷ []
     → IsCoreStepOf (decided s (with_votes votes (core_of n)) (part_row part (data_of n.parts)) (Some a)) n
     (decided_change part votes a nodes out)
 decided_step s part votes n a commit nodes out may counted apart can few some known names letters told =
     let st = data_of n.parts in
-    let change = part.prepared.change in
-    let old = part.prepared.out.sent in
+    let change = part.parts.change in
+    let old = part.parts.out.sent in
     let more = to_each (Decide a.tree a.version commit) (numbers_of_nodes nodes) in
     let hs = held_answers n.parts.homes in
     let after : after_change change out.sent st ≡ node_after part n =

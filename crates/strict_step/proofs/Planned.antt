@@ -16,15 +16,14 @@ use Rattle.world_model.specs.declared.refusal.NegativeVote.{NegativeVote}
 use Rattle.tree_step.proofs.Replied.{after_more, do_more}
 use Rattle.tree_step.specs.Changes.{MayDo, SendsRequests, after_change, part_row}
 use Rattle.tree_step.specs.Core.{AreApart, core_of}
-use Rattle.tree_step.specs.CoreChanges.{IsCoreStepOf, numbers_of_nodes, prepared_of, with_votes}
+use Rattle.tree_step.specs.CoreChanges.{IsCoreStepOf, numbers_of_nodes, core_step_of, with_votes}
 use Rattle.tree_step.specs.Meant.{core_meant, doing_meant, home_meant, noted_by, out_in, part_meant, refusals_meant, votes_meant}
 use Rattle.tree_step.specs.Node.{Node, data_of}
-use Rattle.tree_step.specs.declared.change.Change.TheVariants as changes
-use Rattle.tree_step.specs.declared.change.TreePrepared.{TreePrepared}
-use Rattle.tree_step.specs.declared.core_change.CorePrepared.{CorePrepared}
-use Rattle.tree_step.specs.declared.core_change.HoldChange.TheVariants.{Hold, Stay}
-use Rattle.tree_step.specs.declared.core_change.VoteChange.{VoteChange}
-use Rattle.tree_step.specs.declared.core_change.VoteChange.TheVariants.{Take}
+use Rattle.tree_step.specs.steps.Change as changes
+use Rattle.tree_step.specs.steps.TreeStep.{TreeStep}
+use Rattle.tree_step.specs.steps.CoreStep.{CoreStep}
+use Rattle.tree_step.specs.steps.HoldChange.{Hold, Stay}
+use Rattle.tree_step.specs.steps.VoteChange.{VoteChange, Take}
 use Rattle.tree_step.specs.declared.node_core.NodeCore.{NodeCore}
 use Rattle.tree_step.specs.declared.plan.Doing.{Doing}
 use Rattle.tree_step.specs.declared.plan.Doing.TheVariants as doings
@@ -66,21 +65,21 @@ abbrev pub plan_of : Doing → VotePlan → HoldPlan → Plan
 plan_of d v h = record { doing = d; votes = v; holds = h; epoch = None }
 
 -- a step with other letters
-abbrev sending : TreePrepared → VoteChange → List Outgoing → CorePrepared
+abbrev sending : TreeStep → VoteChange → List Outgoing → CoreStep
 sending p votes sent =
-    let out : StepOut = record { sent = sent; acts = p.prepared.out.acts } in
-    prepared_of (record { change = p.prepared.change; out = out }) votes Stay
+    let out : StepOut = record { sent = sent; acts = p.parts.out.acts } in
+    core_step_of (record { change = p.parts.change; out = out }) votes Stay
 
 -- an answer goes behind what is sent
-answered_with : (s : ScriptData) (p : TreePrepared) (votes : VoteChange) (n : NodeCore) (sent : List Outgoing)
-    → MayDo p.prepared.change p.prepared.out.sent n.parts
-    → SendsRequests p.prepared.change p.prepared.out.sent → IsApartAfter p n
-    → sent ≡ p.prepared.out.sent ++ release_letters s p.answered ++ reply_letters (client_of s) p.answered
+answered_with : (s : ScriptData) (p : TreeStep) (votes : VoteChange) (n : NodeCore) (sent : List Outgoing)
+    → MayDo p.parts.change p.parts.out.sent n.parts
+    → SendsRequests p.parts.change p.parts.out.sent → IsApartAfter p n
+    → sent ≡ p.parts.out.sent ++ release_letters s p.answered ++ reply_letters (client_of s) p.answered
     → IsAnsweredStep s votes p n (sending p votes sent)
 answered_with s p votes n sent may counted apart letters =
     let st = data_of n.parts in
-    let change = p.prepared.change in
-    let old = p.prepared.out.sent in
+    let change = p.parts.change in
+    let old = p.parts.out.sent in
     let releases = release_letters s p.answered in
     let reply = reply_letters (client_of s) p.answered in
     let is : sent ≡ old ++ (releases ++ reply) = letters ∙ append_assoc old releases reply in
@@ -90,7 +89,7 @@ answered_with s p votes n sent may counted apart letters =
       row = λ i. record {
         state = record (with_votes votes (core_of n)) { node = after i };
         sent = letters i;
-        acts = p.prepared.out.acts;
+        acts = p.parts.out.acts;
       };
       may = record {
         parts = subst (λ (os : List Outgoing). MayDo change os n.parts) (sym is)
@@ -113,18 +112,18 @@ answered_planned s part v n x sent may counted apart letters =
     let y : Scratch = record x { sent = sent } in
     let change = sym (same_doing part.doing x y refl refl) in
     let noted = sym (same_votes v x y refl refl) in
-    subst (λ (p : CorePrepared). IsAnsweredStep s (votes_meant v x) (part_meant part x) n p)
-    (λ i. prepared_of (record { change = change i; out = out_in y }) (noted i) Stay)
+    subst (λ (p : CoreStep). IsAnsweredStep s (votes_meant v x) (part_meant part x) n p)
+    (λ i. core_step_of (record { change = change i; out = out_in y }) (noted i) Stay)
     (answered_with s (part_meant part x) (votes_meant v x) n sent may counted apart letters)
 
 -- a strict tree that misses a vote isn't decided
-pub undecided : (s : ScriptData) (p : TreePrepared) (votes : VoteChange) (n : NodeCore)
-    → MayDo p.prepared.change p.prepared.out.sent n.parts → IsApartAfter p n → p.answered ≡ None
-    → IsDecidedStep s votes p n (prepared_of p.prepared votes Stay)
+pub undecided : (s : ScriptData) (p : TreeStep) (votes : VoteChange) (n : NodeCore)
+    → MayDo p.parts.change p.parts.out.sent n.parts → IsApartAfter p n → p.answered ≡ None
+    → IsDecidedStep s votes p n (core_step_of p.parts votes Stay)
 undecided s p votes n may apart none =
     let c = with_votes votes (core_of n) in
     let o = part_row p (data_of n.parts) in
-    subst (λ (a : Option Answered). IsCoreStepOf (decided s c o a) n (prepared_of p.prepared votes Stay)) (sym none)
+    subst (λ (a : Option Answered). IsCoreStepOf (decided s c o a) n (core_step_of p.parts votes Stay)) (sym none)
     (record { row = refl; may = record { parts = may; holds = tt; asks = tt; apart = apart } })
 
 -- what the scratch has once it is decided
@@ -151,8 +150,8 @@ decided_planned s part v n a commit x told sent done may counted apart decide is
     let can : IsDecidable s p n a = subst (λ (o : Option Answered). MayDecide s p n o) is decide in
     let change = sym (same_doing part.doing x y refl refl) in
     let noted = sym (same_votes v x y refl refl) in
-    subst (λ (q : CorePrepared). IsDecidedStep s votes p n q)
-    (λ i. prepared_of (record { change = change i; out = out_in y }) (noted i) (Hold a told))
+    subst (λ (q : CoreStep). IsDecidedStep s votes p n q)
+    (λ i. core_step_of (record { change = change i; out = out_in y }) (noted i) (Hold a told))
     (subst (λ (b : Option Answered). IsCoreStepOf (decided s c o b) n (decided_change p votes a told (out_in y))) (sym is)
     (decided_step s p votes n a commit told (out_in y) may counted apart can few (some can.there) known names letters
     acted))

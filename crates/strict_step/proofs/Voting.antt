@@ -35,12 +35,12 @@ use Rattle.tree_step.proofs.Begun.{root_answered}
 use Rattle.tree_step.specs.Changes.{part_row}
 use Rattle.tree_step.specs.Due.{is_due}
 use Rattle.tree_step.specs.Node.{IsOf, data_of}
-use Rattle.tree_step.specs.declared.change.TreePrepared.{TreePrepared}
+use Rattle.tree_step.specs.steps.TreeStep.{TreeStep}
 use Rattle.tree_step.specs.inside.Opening.{root_answer}
 use Rattle.strict_step.proofs.Apart.{answered_gone, root_unheld}
 use Rattle.tree_step.specs.CoreChanges.{locks_with, refusals_with, with_votes}
 use Rattle.tree_step.specs.Core.{AreApart, core_of}
-use Rattle.tree_step.specs.declared.core_change.VoteChange.{VoteChange}
+use Rattle.tree_step.specs.steps.VoteChange.{VoteChange}
 use Rattle.tree_step.specs.declared.node_core.NodeCore.{NodeCore}
 use Rattle.strict_step.specs.Answering.{MayDecide}
 use Rattle.strict_step.specs.inside.Voting.{change_by, refusal_there}
@@ -105,7 +105,7 @@ near_by false near is both = cc
 
 -- a strict tree that is answered at a notice may be decided
 note_by : (s : ScriptData) (from : ℕ) (t : TreeNo) (k : SubNo) (v : Version) (values : Gets) (n : NodeCore)
-    (part : TreePrepared) (o : Option Answered)
+    (part : TreeStep) (o : Option Answered)
     → IsOf s n.parts → 0 < length (subs_at s t.0) → is_strict_at s t.0 ≡ true
     → is_near_answer s (data_of n.parts) (answer_noted t k values (open_trees n.parts.homes)) ≡ true
     → AreApart (open_trees n.parts.homes) (held_answers n.parts.homes)
@@ -130,7 +130,7 @@ note_by s from t k v values n part (Some a) script there kind near apart row is 
     }
 
 pub note_decides : (s : ScriptData) (from : ℕ) (t : TreeNo) (k : SubNo) (v : Version) (values : Gets) (n : NodeCore)
-    (part : TreePrepared)
+    (part : TreeStep)
     → IsOf s n.parts → 0 < length (subs_at s t.0) → is_strict_at s t.0 ≡ true
     → is_near_answer s (data_of n.parts) (answer_noted t k values (open_trees n.parts.homes)) ≡ true
     → AreApart (open_trees n.parts.homes) (held_answers n.parts.homes)
@@ -162,7 +162,7 @@ voted_vote t vote ops body c = λ i. record c {
 }
 
 -- a vote that was planned, by its parts
-pub vote_row : (s : ScriptData) (p from : ℕ) (t : TreeNo) (body : Body) (n : NodeCore) (part : TreePrepared)
+pub vote_row : (s : ScriptData) (p from : ℕ) (t : TreeNo) (body : Body) (n : NodeCore) (part : TreeStep)
     (v : Version) (raises : Bool) (staged : Table) (notice : Notice) (vote : Vote) (ops : List SubOp)
     (change : VoteChange)
     → part_row part (data_of n.parts)
@@ -213,7 +213,7 @@ root_version n t v values a is = version_by (n == 1) t v values a is
 
 -- a strict tree that is answered at its root may be decided
 root_by : (s : ScriptData) (p from : ℕ) (t : TreeNo) (v : Version) (raises : Bool) (e : Effect) (n : NodeCore)
-    (part : TreePrepared) (o : Option Answered)
+    (part : TreeStep) (o : Option Answered)
     → IsOf s n.parts → 0 < length (subs_at s t.0) → is_unheld (Root t) (held_answers n.parts.homes) ≡ true
     → in_window n.parts.turns.low.0 v.0 ≡ true
     → part_row part (data_of n.parts) ≡ tree_part s p from v raises e (Root t) (data_of n.parts)
@@ -237,11 +237,11 @@ root_by s p from t v raises e n part (Some a) script there unheld near row is =
           ∙ ap (λ (w : Version). in_window n.parts.turns.low.0 w.0) version ∙ near;
     }
 
-none_by : (s : ScriptData) (n : NodeCore) (part : TreePrepared) → part.answered ≡ None → MayDecide s part n part.answered
+none_by : (s : ScriptData) (n : NodeCore) (part : TreeStep) → part.answered ≡ None → MayDecide s part n part.answered
 none_by s n part none = subst (λ (o : Option Answered). MayDecide s part n o) (sym none) tt
 
 pub vote_decides : (s : ScriptData) (p from : ℕ) (v : Version) (raises : Bool) (e : Effect) (body : Body) (n : NodeCore)
-    (part : TreePrepared)
+    (part : TreeStep)
     → IsOf s n.parts → p < s.nodes → is_due s p (data_of n.parts) from body ≡ true
     → is_unheld body (held_answers n.parts.homes) ≡ true → in_window n.parts.turns.low.0 v.0 ≡ true
     → part_row part (data_of n.parts) ≡ tree_part s p from v raises e body (data_of n.parts)

@@ -1,7 +1,6 @@
 // A subtransaction of a strict tree votes, and a vote comes to its tree's home.
 ghost use Rattle.std.specs.Prelude.{◌≡◌, ◌<◌, length, [], IfOk, IsTrue, OnOk};
 ghost use Rattle.item_versions.specs.Window.{in_window};
-ghost use Rattle.tree_home.specs.Homes.{misses};
 ghost use Rattle.tree_home.specs.Maps.{by_tree};
 ghost use Rattle.tx_trees.specs.ScriptData.{subs_at};
 ghost use Rattle.world_model.specs.Core.{lesser};

@@ -12,8 +12,7 @@ use Rattle.world_model.proofs.Requests.{asked_all-append, asked_most, one_at}
 use Rattle.world_model.specs.Done.{counted_root, counted_sub}
 use Rattle.tree_step.specs.Changes.{MayChange, MayDo, after_change, requests}
 use Rattle.tree_step.specs.Node.{data_of}
-use Rattle.tree_step.specs.declared.change.Change.{Change}
-use Rattle.tree_step.specs.declared.change.Change.TheVariants.{Still, Tree, Turn, Show, Sweep}
+use Rattle.tree_step.specs.steps.Change.{Change, Still, Tree, Turn, Show, Sweep}
 use Rattle.tree_step.specs.declared.node.NodeParts.{NodeParts}
 use Rattle.tree_step.specs.inside.Sent.{MOST_SENT}
 use Rattle.tree_step.specs.CoreChanges.{numbers_of_nodes}
@@ -50,12 +49,6 @@ pub asked_under : (v q m n : ℕ) (qs : List NodeNo) (first now : Counts) → no
     → first.numbers.asked v q + n ≤ m → length qs < n → now.numbers.asked v q < m
 asked_under v q m n qs first now is most lt =
     subst (λ (k : Counts). k.numbers.asked v q < m) (sym is) (omega (arith, asked_few v qs first.numbers v q))
-
-pub same_low : (v : ℕ) (qs : List NodeNo) (first now : Counts) → now ≡ with_asked v qs first → now.low ≡ first.low
-same_low v qs first now is = ap (λ (k : Counts). k.low) is
-
-pub same_nodes : (v : ℕ) (qs : List NodeNo) (first now : Counts) → now ≡ with_asked v qs first → now.nodes ≡ first.nodes
-same_nodes v qs first now is = ap (λ (k : Counts). k.nodes) is
 
 pub take_node : (i : ℕ) (d : NodeNo) (xs : List NodeNo) → i < length xs
     → take (i + 1) xs ≡ take i xs ++ slice_index_or xs i d ∷ []

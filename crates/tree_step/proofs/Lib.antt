@@ -4,7 +4,6 @@ pub mod Made
 pub mod Rooted
 pub mod Replied
 pub mod Dues
-pub mod KindsAt
 pub mod Ordered
 pub mod Noticed
 pub mod Opened

@@ -1,4 +1,4 @@
--- A step that was prepared, by its parts, is the row before the tree is answered, and it may be counted.
+-- A step, by its parts, is the row before the tree is answered, and it may be counted.
 use Rattle.std.proofs.Common.{◌≡◌, ℕ, ◌+◌, ◌<◌, ◌≤◌, Bool, true, false, List, [], ◌∷◌, ◌++◌, length, take, ap, sym, subst, ◌∙◌, Option}
 use Rattle.std.specs.Prelude.{All}
 use Rattle.std.proofs.Math.Seq.{take-length}
@@ -7,10 +7,9 @@ use Rattle.tv_base.specs.declared.numbers.SubNo.{SubNo}
 use Rattle.tv_base.specs.declared.numbers.Version.{Version}
 use Rattle.item_versions.specs.Window.{in_window}
 use Rattle.item_versions.proofs.Window.{in_window-low, in_window-high}
-use Rattle.tree_step.specs.Changes.{home_after, MayCount, part_row, prepared_row}
-use Rattle.tree_step.specs.declared.change.Change.TheVariants.{Tree}
-use Rattle.tree_step.specs.declared.change.HomeChange.{HomeChange}
-use Rattle.tree_step.specs.declared.change.HomeChange.TheVariants.{Stay}
+use Rattle.tree_step.specs.Changes.{home_after, MayCount, part_row, step_row}
+use Rattle.tree_step.specs.steps.Change.{Tree}
+use Rattle.tree_step.specs.steps.HomeChange.{HomeChange, Stay}
 use Rattle.tree_step.specs.inside.Sent.{MOST_SENT}
 use Rattle.item_versions.specs.Table.{Table, pending}
 use Rattle.node_versions.specs.declared.turns.Turns.{Turns}
@@ -47,7 +46,7 @@ out_of st turns items numbers homes sent acts =
 pub all_requests : (n : ℕ) (os : List Outgoing) → n ≡ length os → take n os ≡ os
 all_requests n os count = rw count (take-length os)
 
--- a root that was prepared, by its parts
+-- the step of a root, by its parts
 pub root_ready : (s : ScriptData) (p : NodeNo) (t : TreeNo) (v : Version) (n : ℕ) (notice : Notice) (staged : Table)
     (home : HomeChange) (answer : Option Answered) (st : NodeParts) (asked : List Outgoing) (acts : List Act)
     (xs : List Sub)
@@ -57,7 +56,7 @@ pub root_ready : (s : ScriptData) (p : NodeNo) (t : TreeNo) (v : Version) (n : �
     → answer ≡ answer_noted t (record { 0 = 0 }) (values_of notice) (begun t (length xs) v (open_trees st.homes))
     → acts ≡ Born t v ∷ act_of t (record { 0 = 0 }) notice ∷ []
     → part_row (record {
-      prepared = record {
+      parts = record {
         change = Tree (record {
           raises = false;
           staged = staged;
@@ -83,13 +82,13 @@ root_ready s p t v n notice staged home answer st asked acts xs is letters count
       answered = a i;
     }
 
--- another subtransaction that was prepared, by its parts
+-- the step of another subtransaction, by its parts
 pub sub_ready : (s : ScriptData) (q : NodeNo) (t : TreeNo) (k : SubNo) (v : Version) (home n : ℕ) (raises : Bool)
     (notice : Notice) (staged : Table) (st : NodeParts) (out : StepOut) (xs : List Sub)
     → xs ≡ subs_at s t.0 → home ≡ home_of s t.0 → n ≡ length out.sent
     → out.sent ≡ sub_letters t.0 v.0 k.0 0 xs ++ done_letter home t.0 k.0 v.0 notice ∷ []
     → out.acts ≡ turned_if raises v.0 ++ act_of t k notice ∷ []
-    → prepared_row (record {
+    → step_row (record {
       change = Tree (record {
         raises = raises;
         staged = staged;
@@ -107,7 +106,7 @@ sub_ready s q t k v home n raises notice staged st out xs is at count sent acts 
     (all_requests n out.sent count ∙ o) in
     λ i. out_of (data_of st) (raised_if raises v.0 st.turns) (pending staged st.items) (numbers i) (open_trees st.homes) (o i) (acts i)
 
--- what was prepared may be counted
+-- what a step counts may be counted
 pub may_count : (s : ScriptData) (n : NodeParts) (v : Version) (root : Bool) (from : NodeNo) (asked : ℕ)
     (sent os : List Outgoing)
     → IsReady s from.0 n → in_window n.turns.low.0 v.0 ≡ true → asked ≤ length sent → take asked sent ≡ os

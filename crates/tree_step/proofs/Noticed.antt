@@ -19,7 +19,7 @@ use Rattle.tree_step.specs.AtNode.{IsNotedPart}
 use Rattle.tree_step.specs.Changes.{MayHome, home_after}
 use Rattle.tree_step.specs.Node.{IsInWindow, data_of}
 use Rattle.tree_step.specs.declared.asked.Request.{Request}
-use Rattle.tree_step.specs.declared.change.HomeChange.{HomeChange}
+use Rattle.tree_step.specs.steps.HomeChange.{HomeChange}
 use Rattle.tree_step.specs.declared.node.NodeParts.{NodeParts}
 use Rattle.tree_step.specs.inside.Noting.{noting}
 
@@ -83,7 +83,7 @@ gone_open t k vs hs a is =
 
 pub ruleset noticed = (left_homes, left_answer, note_homes, note_answer, note_missed, gone_homes, gone_answer, gone_open)
 
--- so a step of a notice that was prepared is its row
+-- so the step of a notice is its row
 pub noted_part : (r : Request) (vs : Gets) (n : NodeParts) (home : HomeChange) (a : Option Answered)
     → r.from.0 < (counts_of n.counters).nodes → AllBelow MOST_COUNT (counts_of n.counters).numbers → IsInWindow n
     → IsTrue (in_window n.turns.low.0 r.version.0)

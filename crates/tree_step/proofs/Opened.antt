@@ -13,35 +13,19 @@ use Rattle.tree_home.specs.declared.homes.OpenTree.{OpenTree}
 use Rattle.tree_step.proofs.Begun.{more_missed, root_missed}
 use Rattle.tree_step.specs.Changes.{MayChange, MayDo, MayHome, OpensNone, OpensNoTree, after_change, home_after}
 use Rattle.tree_step.specs.Node.{Node, data_of}
-use Rattle.tree_step.specs.declared.change.Change.{Change}
-use Rattle.tree_step.specs.declared.change.Change.TheVariants.{Still, Tree, Turn, Show, Sweep}
-use Rattle.tree_step.specs.declared.change.HomeChange.{HomeChange}
-use Rattle.tree_step.specs.declared.change.HomeChange.TheVariants.{Stay, Open, Note, Forget}
+use Rattle.tree_step.specs.steps.Change.{Change, Still, Tree, Turn, Show, Sweep}
+use Rattle.tree_step.specs.steps.HomeChange.{HomeChange, Stay, Open, Note, Forget}
 use Rattle.tree_step.specs.declared.node.NodeParts.{NodeParts}
-use Rattle.tree_step.specs.CoreChanges.{MayAsk, after_parts_change, asked_with, core_prepared_row, epoch_with, holds_with, locks_with, refusals_with}
+use Rattle.tree_step.specs.CoreChanges.{MayAsk, after_parts_change, asked_with, core_step_row, epoch_with, holds_with, locks_with, refusals_with}
 use Rattle.tree_step.specs.Core.{core_of}
-use Rattle.tree_step.specs.declared.core_change.CorePrepared.{CorePrepared}
-use Rattle.tree_step.specs.declared.core_change.HoldChange.{HoldChange}
-use Rattle.tree_step.specs.declared.core_change.HoldChange.TheVariants as holds
-use Rattle.tree_step.specs.declared.core_change.HoldChange.TheVariants.{Hold, Ack}
-use Rattle.tree_step.specs.declared.core_change.Opening.{Opening}
+use Rattle.tree_step.specs.steps.CoreStep.{CoreStep}
+use Rattle.tree_step.specs.steps.HoldChange.{HoldChange}
+use Rattle.tree_step.specs.steps.HoldChange as holds
+use Rattle.tree_step.specs.steps.HoldChange.{Hold, Ack}
+use Rattle.tree_step.specs.declared.doing.Opening.{Opening}
 use Rattle.tree_step.specs.declared.node_core.NodeCore.{NodeCore}
 use Rattle.tree_step.specs.inside.OnceOpen.{changed_once_open, home_once_open, once_open, opening_in, opening_of}
 use Rattle.tree_step.proofs.Stepped.{same_window, with_homes}
-
--- a step without a tree to be opened opens none
-none_of : (home : HomeChange) → opening_of home ≡ None → OpensNoTree home
-none_of (Open t n v values) is = cc
-none_of Stay is = tt
-none_of (Note t k values) is = tt
-none_of (Forget t) is = tt
-
-pub opens_none : (c : Change) → opening_in c ≡ None → OpensNone c
-opens_none (Tree c) is = none_of c.home is
-opens_none Still is = tt
-opens_none (Turn v) is = tt
-opens_none (Show v) is = tt
-opens_none (Sweep v) is = tt
 
 -- once it is open, none is left to be opened
 shut_of : (home : HomeChange) → OpensNoTree (home_once_open home)
@@ -105,12 +89,12 @@ made_by (Sweep v) o n h out is begin = cc
 abbrev pub once_begun : HomesData → NodeCore → NodeCore
 once_begun h n = record n { parts = with_homes h n.parts }
 
-pub core_in_parts : (p : CorePrepared) (o : Opening) (n : NodeCore) (h : HomesData)
-    → opening_in p.prepared.change ≡ Some o
+pub core_in_parts : (p : CoreStep) (o : Opening) (n : NodeCore) (h : HomesData)
+    → opening_in p.parts.change ≡ Some o
     → open_trees h ≡ begun o.tree o.subs o.version (open_trees n.parts.homes) → h.held ≡ n.parts.homes.held
-    → core_prepared_row (once_open p) (core_of (once_begun h n)) ≡ core_prepared_row p (core_of n)
+    → core_step_row (once_open p) (core_of (once_begun h n)) ≡ core_step_row p (core_of n)
 core_in_parts p o n h is begin held =
-    let row = made_by p.prepared.change o n.parts h p.prepared.out is begin in
+    let row = made_by p.parts.change o n.parts h p.parts.out is begin in
     λ i. record {
       state = record {
         node = record (row i).state { counts = asked_with p.holds (row i).state.counts };
@@ -180,9 +164,9 @@ ask_by (Hold a visited) nodes st mid same may =
 ask_by holds.Stay nodes st mid same may = tt
 ask_by (Ack t) nodes st mid same may = tt
 
-pub ask_once_open : (p : CorePrepared) (o : Opening) (nodes : ℕ) (n : NodeParts) (h : HomesData)
-    → opening_in p.prepared.change ≡ Some o → MayAsk p.holds nodes (after_parts_change p (data_of n))
+pub ask_once_open : (p : CoreStep) (o : Opening) (nodes : ℕ) (n : NodeParts) (h : HomesData)
+    → opening_in p.parts.change ≡ Some o → MayAsk p.holds nodes (after_parts_change p (data_of n))
     → MayAsk p.holds nodes (after_parts_change (once_open p) (data_of (with_homes h n)))
 ask_once_open p o nodes n h is may =
     ask_by p.holds nodes (after_parts_change p (data_of n)) (after_parts_change (once_open p) (data_of (with_homes h n)))
-    (low_kept p.prepared.change o p.prepared.out.sent n h is) may
+    (low_kept p.parts.change o p.parts.out.sent n h is) may

@@ -2,13 +2,13 @@
 use Rattle.std.proofs.Common.{◌≡◌, ap, refl, Some, None}
 use Rattle.tree_home.specs.Homes.{Gets}
 use Rattle.tree_step.specs.Changes.{OpensNone, OpensNoTree}
-use Rattle.tree_step.specs.declared.change.Change.{Change}
-use Rattle.tree_step.specs.declared.change.Change.TheVariants as changes
-use Rattle.tree_step.specs.declared.change.HomeChange.{HomeChange}
+use Rattle.tree_step.specs.steps.Change.{Change}
+use Rattle.tree_step.specs.steps.Change as changes
+use Rattle.tree_step.specs.steps.HomeChange.{HomeChange}
 use Rattle.tree_step.specs.inside.OnceOpen.{changed_once_open, home_once_open, once_open, opening_in, opening_of}
 use Rattle.tree_step.specs.declared.plan.Doing.{Doing}
 use Rattle.tree_step.specs.declared.plan.Doing.TheVariants.{Still, Tree, Turn, Show, Sweep}
-use Rattle.tree_step.specs.declared.core_change.Opening.{Opening}
+use Rattle.tree_step.specs.declared.doing.Opening.{Opening}
 use Rattle.tree_step.specs.declared.plan.HomePlan.{HomePlan}
 use Rattle.tree_step.specs.declared.plan.HomePlan.TheVariants.{Stay, Open, Note, Forget}
 use Rattle.tree_step.specs.declared.plan.Plan.{Plan}
@@ -67,7 +67,7 @@ doing_same (Sweep v) x = refl
 
 pub once_same : (p : Plan) (x : Scratch) → core_meant (plan_once_open p) x ≡ once_open (core_meant p x)
 once_same p x = λ i. record {
-  prepared = record { change = doing_same p.doing x i; out = out_in x };
+  parts = record { change = doing_same p.doing x i; out = out_in x };
   votes = votes_meant p.votes x;
   holds = holds_meant p.holds x;
   epoch = p.epoch;

@@ -13,10 +13,9 @@ use Rattle.world_model.specs.Notices.{reply_letters}
 use Rattle.tree_step.specs.Changes.{after_change, home_after, IsReplied, MayChange, MayCount, MayDo, SendsRequests}
 use Rattle.tree_step.specs.Node.{Node}
 use Rattle.tree_step.specs.inside.Sent.{MOST_SENT}
-use Rattle.tree_step.specs.declared.change.Change.{Change}
-use Rattle.tree_step.specs.declared.change.Change.TheVariants.{Still, Tree, Turn, Show, Sweep}
-use Rattle.tree_step.specs.declared.change.TreeChange.{TreeChange}
-use Rattle.tree_step.specs.declared.change.TreePrepared.{TreePrepared}
+use Rattle.tree_step.specs.steps.Change.{Change, Still, Tree, Turn, Show, Sweep}
+use Rattle.tree_step.specs.steps.TreeChange.{TreeChange}
+use Rattle.tree_step.specs.steps.TreeStep.{TreeStep}
 use Rattle.tree_step.specs.declared.counting.Counting.{Counting}
 use Rattle.tree_step.specs.declared.node.NodeParts.{NodeParts}
 
@@ -80,25 +79,25 @@ do_more c sent more n counted may = record {
 }
 
 -- the answer is put after what is sent
-pub is_replied : (s : ScriptData) (part : TreePrepared) (client : ℕ) (sent : List Outgoing) → client ≡ client_of s
-    → sent ≡ part.prepared.out.sent ++ reply_letters client part.answered
-    → SendsRequests part.prepared.change part.prepared.out.sent
+pub is_replied : (s : ScriptData) (part : TreeStep) (client : ℕ) (sent : List Outgoing) → client ≡ client_of s
+    → sent ≡ part.parts.out.sent ++ reply_letters client part.answered
+    → SendsRequests part.parts.change part.parts.out.sent
     → IsReplied s part (record {
-      change = part.prepared.change;
-      out = record { sent = sent; acts = part.prepared.out.acts };
+      change = part.parts.change;
+      out = record { sent = sent; acts = part.parts.out.acts };
     })
 is_replied s part client sent to letters counted =
-    let old = part.prepared.out.sent in
+    let old = part.parts.out.sent in
     let more = reply_letters (client_of s) part.answered in
     let is : sent ≡ old ++ more =
-    letters ∙ ap (λ (c : ℕ). part.prepared.out.sent ++ reply_letters c part.answered) to in
+    letters ∙ ap (λ (c : ℕ). part.parts.out.sent ++ reply_letters c part.answered) to in
     record {
       row = λ st. λ i. record {
-        state = (ap (λ (os : List Outgoing). after_change part.prepared.change os st) is
-            ∙ after_more part.prepared.change old more st counted) i;
+        state = (ap (λ (os : List Outgoing). after_change part.parts.change os st) is
+            ∙ after_more part.parts.change old more st counted) i;
         sent = is i;
-        acts = part.prepared.out.acts;
+        acts = part.parts.out.acts;
       };
-      may = λ n may. subst (λ (os : List Outgoing). MayDo part.prepared.change os n) (sym is)
-          (do_more part.prepared.change old more n counted may);
+      may = λ n may. subst (λ (os : List Outgoing). MayDo part.parts.change os n) (sym is)
+          (do_more part.parts.change old more n counted may);
     }

@@ -1,7 +1,7 @@
 -- What is done goes by what is staged and by the values of a notice, and by nothing else in the scratch.
 use Rattle.std.proofs.Common.{◌≡◌, refl}
 use Rattle.tree_step.specs.Meant.{doing_meant, home_planned_at}
-use Rattle.tree_step.specs.declared.change.Change.TheVariants as changes
+use Rattle.tree_step.specs.steps.Change as changes
 use Rattle.tree_step.specs.declared.plan.Doing.{Doing}
 use Rattle.tree_step.specs.declared.plan.Doing.TheVariants.{Still, Tree, Turn, Show, Sweep}
 use Rattle.tree_step.specs.declared.plan.Scratch.{Scratch}

@@ -16,17 +16,16 @@ use Rattle.tree_home.specs.Maps.{by_tree}
 use Rattle.tree_home.specs.declared.homes.OpenTree.{OpenTree}
 use Rattle.world_model.specs.Core.{Core}
 use Rattle.world_model.specs.declared.refusal.NegativeVote.{NegativeVote}
-use Rattle.tree_step.specs.Changes.{MayChange, MayDo, MayHome, prepared_row}
+use Rattle.tree_step.specs.Changes.{MayChange, MayDo, MayHome, step_row}
 use Rattle.tree_step.specs.Node.{IsInWindow, Node, data_of}
-use Rattle.tree_step.specs.declared.change.Change.{Change}
-use Rattle.tree_step.specs.declared.change.Change.TheVariants.{Still, Tree, Turn, Show, Sweep}
-use Rattle.tree_step.specs.declared.change.Prepared.{Prepared}
+use Rattle.tree_step.specs.steps.Change.{Change, Still, Tree, Turn, Show, Sweep}
+use Rattle.tree_step.specs.steps.PartsStep.{PartsStep}
 use Rattle.letter_types.specs.declared.entries.Outgoing.{Outgoing}
 use Rattle.tree_step.specs.declared.node.NodeParts.{NodeParts}
-use Rattle.tree_step.specs.CoreChanges.{asked_with, core_prepared_row, epoch_with, holds_with, locks_with, numbers_of_nodes, refusals_with}
+use Rattle.tree_step.specs.CoreChanges.{asked_with, core_step_row, epoch_with, holds_with, locks_with, numbers_of_nodes, refusals_with}
 use Rattle.tree_step.proofs.Asking.{with_asked}
 use Rattle.tree_step.specs.Core.{IsApart, core_of, core_with}
-use Rattle.tree_step.specs.declared.core_change.CorePrepared.{CorePrepared}
+use Rattle.tree_step.specs.steps.CoreStep.{CoreStep}
 use Rattle.tree_step.specs.declared.node_core.NodeCore.{NodeCore}
 
 module _ {A E : Type 0} where
@@ -64,14 +63,14 @@ asked_window n k v qs asked w = record {
 }
 
 -- what is made of the parts, the locks, the noes and the held answers is the row
-pub stepped : (p : CorePrepared) (n : NodeCore) (mid parts : NodeParts) (locks : List Lock)
+pub stepped : (p : CoreStep) (n : NodeCore) (mid parts : NodeParts) (locks : List Lock)
     (refusals : List (TreeNo × NegativeVote)) (out : StepOut)
-    → made (data_of mid) out ≡ prepared_row p.prepared (data_of n.parts)
+    → made (data_of mid) out ≡ step_row p.parts (data_of n.parts)
     → data_of parts ≡ record (data_of mid) { counts = asked_with p.holds (data_of mid).counts }
     → locks ≡ locks_with p.votes n.locks
     → by_tree refusals ≡ refusals_with p.votes (by_tree n.refusals)
     → held_answers parts.homes ≡ holds_with p.holds (held_answers n.parts.homes)
-    → made (core_with parts locks refusals (epoch_with p.epoch n.epoch)) out ≡ core_prepared_row p (core_of n)
+    → made (core_with parts locks refusals (epoch_with p.epoch n.epoch)) out ≡ core_step_row p (core_of n)
 stepped p n mid parts locks refusals out row asked locked noes held =
     let node = asked
     ∙ ap (λ (o : Out Node). record o.state { counts = asked_with p.holds o.state.counts }) row in
@@ -86,9 +85,9 @@ pub apart : (now : Core) (out : StepOut) (o : Out Core) → made now out ≡ o �
 apart now out o row is = subst (λ (x : Out Core). IsApart x.state) (sym row) is
 
 -- the table sees of the homes the open trees alone
-pub same_open : (p : Prepared) (n : NodeParts) (h : HomesData) → h.opened ≡ n.homes.opened
-    → prepared_row p (data_of (with_homes h n)) ≡ prepared_row p (data_of n)
-same_open p n h same = ap (λ (es : List (TreeNo × OpenTree)). prepared_row p (record (data_of n) { homes = by_tree es })) same
+pub same_open : (p : PartsStep) (n : NodeParts) (h : HomesData) → h.opened ≡ n.homes.opened
+    → step_row p (data_of (with_homes h n)) ≡ step_row p (data_of n)
+same_open p n h same = ap (λ (es : List (TreeNo × OpenTree)). step_row p (record (data_of n) { homes = by_tree es })) same
 
 -- so what may be done is the same
 pub same_window : (n : NodeParts) (h : HomesData) → IsInWindow n → IsInWindow (with_homes h n)

@@ -19,12 +19,11 @@ use Rattle.tree_step.specs.Changes.{IsTreePartOf}
 use Rattle.tree_step.specs.Core.{core_of}
 use Rattle.tree_step.specs.CoreChanges.{IsCoreStepOf}
 use Rattle.tree_step.specs.Due.{is_due}
-use Rattle.tree_step.specs.Node.{data_of, effect_on}
+use Rattle.tree_step.specs.Node.{Staging, data_of, effect_on}
 use Rattle.tree_step.specs.declared.asked.InVersion.{InVersion}
 use Rattle.tree_step.specs.declared.asked.Request.{Request}
-use Rattle.tree_step.specs.declared.change.TreePrepared.{TreePrepared}
-use Rattle.tree_step.specs.declared.core_change.CorePrepared.{CorePrepared}
-use Rattle.tree_step.specs.declared.node.Effect.{Effect}
+use Rattle.tree_step.specs.steps.TreeStep.{TreeStep}
+use Rattle.tree_step.specs.steps.CoreStep.{CoreStep}
 use Rattle.tree_step.specs.declared.node.NodeParts.{NodeParts}
 use Rattle.tree_step.specs.declared.node_core.NodeCore.{NodeCore}
 
@@ -37,39 +36,39 @@ abbrev pub IsUnheldAt : Letter → NodeParts → Type 0
 IsUnheldAt l n = IsTrue (is_unheld l.body (held_answers n.homes))
 
 -- the subtransaction that a letter asks for, in this version and with this effect, before its tree is answered
-abbrev pub IsTreePartAt : ScriptData → Letter → InVersion → Effect → NodeParts → TreePrepared → Type 0
+abbrev pub IsTreePartAt : ScriptData → Letter → InVersion → Staging → NodeParts → TreeStep → Type 0
 IsTreePartAt s l within e n p = IsTreePartOf
     (tree_part s l.to.0 l.from.0 within.version within.raises (effect_on n.items e) l.body (data_of n)) n p
 
 -- the root of a tree
-abbrev pub IsRootPart : ScriptData → Request → Effect → NodeParts → TreePrepared → Type 0
+abbrev pub IsRootPart : ScriptData → Request → Staging → NodeParts → TreeStep → Type 0
 IsRootPart s r e n p = IsTreePartOf
     (root_part s r.from.0 r.tree.0 r.version.0 (effect_on n.items e)
     (with_open_tree r.tree.0 (length (subs_at s r.tree.0)) r.version.0 (data_of n))) n p
 
 -- another subtransaction
-abbrev pub IsSubPart : ScriptData → Request → Bool → Effect → NodeParts → TreePrepared → Type 0
+abbrev pub IsSubPart : ScriptData → Request → Bool → Staging → NodeParts → TreeStep → Type 0
 IsSubPart s r raises e n p = IsTreePartOf (record {
   out = sub_done s r.from.0 r.tree.0 r.sub.0 r.version.0 raises (effect_on n.items e) (data_of n);
   answered = None;
 }) n p
 
 -- a notice of these values at its tree's home
-abbrev pub IsNotedPart : Request → List (ItemNo × Value) → NodeParts → TreePrepared → Type 0
+abbrev pub IsNotedPart : Request → List (ItemNo × Value) → NodeParts → TreeStep → Type 0
 IsNotedPart r values n p = IsTreePartOf (note_part r.from.0 r.tree.0 r.sub.0 r.version.0 values (data_of n)) n p
 
 -- a subtransaction of a read tree, of an update tree, and of a strict tree, with what becomes of its tree
-abbrev pub IsReadStep : ScriptData → Letter → NodeCore → CorePrepared → Type 0
+abbrev pub IsReadStep : ScriptData → Letter → NodeCore → CoreStep → Type 0
 IsReadStep s l n p = IsCoreStepOf (read_core s l.to.0 l.from.0 l.body (core_of n)) n p
 
-abbrev pub IsUpdateStep : ScriptData → Letter → TreeNo → NodeCore → CorePrepared → Type 0
+abbrev pub IsUpdateStep : ScriptData → Letter → TreeNo → NodeCore → CoreStep → Type 0
 IsUpdateStep s l t n p = IsCoreStepOf (update_core s l.to.0 l.from.0 t l.body (core_of n)) n p
 
-abbrev pub IsVoteStep : ScriptData → Letter → TreeNo → NodeCore → CorePrepared → Type 0
+abbrev pub IsVoteStep : ScriptData → Letter → TreeNo → NodeCore → CoreStep → Type 0
 IsVoteStep s l t n p = IsCoreStepOf (strict_core s l.to.0 l.from.0 t l.body (core_of n)) n p
 
 -- a notice, with what becomes of its tree
-abbrev pub IsNoteStep : ScriptData → Request → Notice → NodeCore → CorePrepared → Type 0
+abbrev pub IsNoteStep : ScriptData → Request → Notice → NodeCore → CoreStep → Type 0
 IsNoteStep s r notice n p = IsCoreStepOf (note_core s r.from.0 r.tree r.sub r.version notice (core_of n)) n p
 
 -- what is counted once requests of version v are to go to these nodes, once the root of a tree is done, and once another

@@ -1,4 +1,4 @@
--- How a node changes in a step that was prepared, and when it may.
+-- How a node's parts change in a step, and when they may.
 use Rattle.std.specs.Prelude.{◌≡◌, ◌<◌, ◌≤◌, ◌+◌, ◌&&◌, ⊤, if◌then◌else◌, List, [], ◌++◌, length, take, nat_le, All, IfOk, IsTrue, IsSome, None, OnErr, OnOk, Result}
 use Rattle.tv_base.specs.declared.numbers.NoMemory.{NoMemory}
 use Rattle.item_versions.specs.Table.{pending}
@@ -18,13 +18,11 @@ use Rattle.world_model.specs.Notices.{reply_letters}
 use Rattle.tree_step.specs.Node.{IsInWindow, Node, data_of}
 use Rattle.tree_step.specs.declared.node.NodeParts.{NodeParts}
 use Rattle.tree_step.specs.declared.counting.Counting.{Counting}
-use Rattle.tree_step.specs.declared.change.HomeChange.{HomeChange}
-use Rattle.tree_step.specs.declared.change.HomeChange.TheVariants.{Stay, Open, Note, Forget}
-use Rattle.tree_step.specs.declared.change.TreeChange.{TreeChange}
-use Rattle.tree_step.specs.declared.change.Change.{Change}
-use Rattle.tree_step.specs.declared.change.Change.TheVariants.{Still, Tree, Turn, Show, Sweep}
-use Rattle.tree_step.specs.declared.change.Prepared.{Prepared}
-use Rattle.tree_step.specs.declared.change.TreePrepared.{TreePrepared}
+use Rattle.tree_step.specs.steps.HomeChange.{HomeChange, Stay, Open, Note, Forget}
+use Rattle.tree_step.specs.steps.TreeChange.{TreeChange}
+use Rattle.tree_step.specs.steps.Change.{Change, Still, Tree, Turn, Show, Sweep}
+use Rattle.tree_step.specs.steps.PartsStep.{PartsStep}
+use Rattle.tree_step.specs.steps.TreeStep.{TreeStep}
 use Rattle.tx_trees.specs.ScriptData.{ScriptData, client_of}
 use Rattle.tree_step.specs.inside.Sent.{MOST_SENT}
 
@@ -114,13 +112,13 @@ pub record MayDo (c : Change) (sent : List Outgoing) (n : NodeParts) : Type 0 wh
   pub small : AllBelow MOST_COUNT (counts_of n.counters).numbers
   pub window : IsInWindow n
 
--- a node, and what goes out, after a step that was prepared, as a table's row
-abbrev pub prepared_row : Prepared → Node → Out Node
-prepared_row p st = made (after_change p.change p.out.sent st) p.out
+-- a node, and what goes out, after a step, as a table's row
+abbrev pub step_row : PartsStep → Node → Out Node
+step_row p st = made (after_change p.change p.out.sent st) p.out
 
--- a step that was prepared is this row of a node, and the node may do it
-pub record IsNodeStepOf (o : Out Node) (n : NodeParts) (p : Prepared) : Type 0 where
-  pub row : prepared_row p (data_of n) ≡ o
+-- a step is this row of a node, and the node may do it
+pub record IsNodeStepOf (o : Out Node) (n : NodeParts) (p : PartsStep) : Type 0 where
+  pub row : step_row p (data_of n) ≡ o
   pub may : MayDo p.change p.out.sent n
 
 -- the letters that are sent are just the requests that are counted
@@ -128,15 +126,15 @@ abbrev pub SendsRequests : Change → List Outgoing → Type 0
 SendsRequests (Tree c) sent = c.counting.asked ≡ length sent
 SendsRequests _ sent = sent ≡ []
 
--- a step of a tree's letter that was prepared, before the tree is answered, as a table's row
-abbrev pub part_row : TreePrepared → Node → TreeOut
-part_row p st = record { out = prepared_row p.prepared st; answered = p.answered }
+-- the step of a tree's letter, before the tree is answered, as a table's row
+abbrev pub part_row : TreeStep → Node → TreeOut
+part_row p st = record { out = step_row p.parts st; answered = p.answered }
 
 -- it is this row of a node, the node may do it, and it sends no more than is counted
-pub record IsTreePartOf (o : TreeOut) (n : NodeParts) (p : TreePrepared) : Type 0 where
+pub record IsTreePartOf (o : TreeOut) (n : NodeParts) (p : TreeStep) : Type 0 where
   pub row : part_row p (data_of n) ≡ o
-  pub may : MayDo p.prepared.change p.prepared.out.sent n
-  pub counted : SendsRequests p.prepared.change p.prepared.out.sent
+  pub may : MayDo p.parts.change p.parts.out.sent n
+  pub counted : SendsRequests p.parts.change p.parts.out.sent
 
 -- a row with the answer to the client of script s behind what it sends
 abbrev pub replied : ScriptData → TreeOut → Out Node
@@ -148,9 +146,9 @@ replied s o = record {
 
 -- the same step with the answer to the client of script s behind what it sends: at any node its row is that of the
 -- step with the answer, and a node that may do the one may do the other
-pub record IsReplied (s : ScriptData) (part : TreePrepared) (p : Prepared) : Type 0 where
-  pub row : (st : Node) → prepared_row p st ≡ replied s (part_row part st)
-  pub may : (n : NodeParts) → MayDo part.prepared.change part.prepared.out.sent n → MayDo p.change p.out.sent n
+pub record IsReplied (s : ScriptData) (part : TreeStep) (p : PartsStep) : Type 0 where
+  pub row : (st : Node) → step_row p st ≡ replied s (part_row part st)
+  pub may : (n : NodeParts) → MayDo part.parts.change part.parts.out.sent n → MayDo p.change p.out.sent n
 
 -- what came of a step of a node: it was done, and the node afterwards and what goes out are this row; or no memory was
 -- found, and the node is as it was. The answers that it holds stay, it counts by as many nodes as before, and its

@@ -1,4 +1,4 @@
--- How a node with strict trees changes in a step that was prepared, and when it may.
+-- How a node's core changes in a step, and when it may.
 use Rattle.std.specs.Prelude.{ℕ, ◌≡◌, ◌<◌, ◌≤◌, ⊤, List, length, map, All, IfOk, IsTrue, IsSome, Option, None, Some, OnErr, OnOk, Result}
 use Rattle.tv_base.specs.declared.numbers.NoMemory.{NoMemory}
 use Rattle.tv_base.specs.declared.numbers.NodeNo.{NodeNo}
@@ -14,12 +14,10 @@ use Rattle.tree_home.specs.Maps.{put_at}
 use Rattle.world_model.specs.Core.{Core, Refusals}
 use Rattle.tree_step.specs.Changes.{MayDo, after_change}
 use Rattle.tree_step.specs.Node.{IsInWindow, Node, data_of}
-use Rattle.tree_step.specs.declared.change.Prepared.{Prepared}
-use Rattle.tree_step.specs.declared.core_change.CorePrepared.{CorePrepared}
-use Rattle.tree_step.specs.declared.core_change.HoldChange.{HoldChange}
-use Rattle.tree_step.specs.declared.core_change.HoldChange.TheVariants.{Hold, Ack}
-use Rattle.tree_step.specs.declared.core_change.VoteChange.{VoteChange}
-use Rattle.tree_step.specs.declared.core_change.VoteChange.TheVariants.{Take, Free, Note, Drop}
+use Rattle.tree_step.specs.steps.PartsStep.{PartsStep}
+use Rattle.tree_step.specs.steps.CoreStep.{CoreStep}
+use Rattle.tree_step.specs.steps.HoldChange.{HoldChange, Hold, Ack}
+use Rattle.tree_step.specs.steps.VoteChange.{VoteChange, Take, Free, Note, Drop}
 use Rattle.tree_step.specs.declared.node_core.NodeCore.{NodeCore}
 use Rattle.tree_step.specs.Core.{IsApart, core_of}
 
@@ -72,11 +70,11 @@ epoch_with (Some e) epoch = e
 epoch_with None epoch = epoch
 
 -- the node that commuting trees see, after a step
-abbrev pub after_parts_change : CorePrepared → Node → Node
-after_parts_change p st = after_change p.prepared.change p.prepared.out.sent st
+abbrev pub after_parts_change : CoreStep → Node → Node
+after_parts_change p st = after_change p.parts.change p.parts.out.sent st
 
 -- a node after a step
-abbrev pub after_core_change : CorePrepared → Core → Core
+abbrev pub after_core_change : CoreStep → Core → Core
 after_core_change p c = record {
   node = record (after_parts_change p c.node) { counts = asked_with p.holds (after_parts_change p c.node).counts };
   locks = locks_with p.votes c.locks;
@@ -85,25 +83,25 @@ after_core_change p c = record {
   epoch = epoch_with p.epoch c.epoch;
 }
 
--- a node, and what goes out, after a step that was prepared, as a table's row
-abbrev pub core_prepared_row : CorePrepared → Core → Out Core
-core_prepared_row p c = made (after_core_change p c) p.prepared.out
+-- a node, and what goes out, after a step, as a table's row
+abbrev pub core_step_row : CoreStep → Core → Out Core
+core_step_row p c = made (after_core_change p c) p.parts.out
 
 -- a step of these parts, of which the node hears no epoch
-abbrev pub prepared_of : Prepared → VoteChange → HoldChange → CorePrepared
-prepared_of p votes holds = record { prepared = p; votes = votes; holds = holds; epoch = None }
+abbrev pub core_step_of : PartsStep → VoteChange → HoldChange → CoreStep
+core_step_of p votes holds = record { parts = p; votes = votes; holds = holds; epoch = None }
 
--- a node may do a step that was prepared: its parts may, what is held and asked for fits, and of no tree that is open
--- then an answer is held
-pub record MayDoCore (p : CorePrepared) (n : NodeCore) : Type 0 where
-  pub parts : MayDo p.prepared.change p.prepared.out.sent n.parts
+-- a node may do a step: its parts may, what is held and asked for fits, and of no tree that is open then an answer is
+-- held
+pub record MayDoCore (p : CoreStep) (n : NodeCore) : Type 0 where
+  pub parts : MayDo p.parts.change p.parts.out.sent n.parts
   pub holds : MayHold p.holds (held_answers n.parts.homes)
   pub asks : MayAsk p.holds (counts_of n.parts.counters).nodes (after_parts_change p (data_of n.parts))
   pub apart : IsApart (after_core_change p (core_of n))
 
--- a step that was prepared is this row of a node, and the node may do it
-pub record IsCoreStepOf (o : Out Core) (n : NodeCore) (p : CorePrepared) : Type 0 where
-  pub row : core_prepared_row p (core_of n) ≡ o
+-- a step is this row of a node, and the node may do it
+pub record IsCoreStepOf (o : Out Core) (n : NodeCore) (p : CoreStep) : Type 0 where
+  pub row : core_step_row p (core_of n) ≡ o
   pub may : MayDoCore p n
 
 -- what came of a step of a node: it was done, and the node afterwards and what goes out are this row; or no memory was

@@ -2,6 +2,7 @@ pub mod Node
 pub mod Changes
 pub mod Due
 pub mod inside
+pub mod steps
 pub mod Core
 pub mod CoreChanges
 pub mod Raising

@@ -1,4 +1,4 @@
--- What a plan and a scratch mean: a step that was prepared.
+-- What a plan and a scratch mean: a step.
 use Rattle.std.specs.Prelude.{◌≡◌, List, [], Ok, Option, Some, None}
 use Rattle.tv_base.specs.declared.numbers.SubNo.{SubNo}
 use Rattle.tv_base.specs.declared.numbers.TreeNo.{TreeNo}
@@ -9,23 +9,23 @@ use Rattle.nc_locks.specs.declared.modes.Lock.{Lock}
 use Rattle.tree_home.specs.Maps.{by_tree}
 use Rattle.world_model.specs.Core.{Refusals}
 use Rattle.world_model.specs.declared.refusal.NegativeVote.{NegativeVote}
-use Rattle.tree_step.specs.Changes.{IsDone, prepared_row}
+use Rattle.tree_step.specs.Changes.{IsDone, step_row}
 use Rattle.tree_step.specs.Core.{core_of}
-use Rattle.tree_step.specs.CoreChanges.{IsCoreDone, core_prepared_row, locks_with, refusals_with}
+use Rattle.tree_step.specs.CoreChanges.{IsCoreDone, core_step_row, locks_with, refusals_with}
 use Rattle.tree_step.specs.Node.{data_of}
 use Rattle.tree_step.specs.declared.node.NodeParts.{NodeParts}
-use Rattle.tree_step.specs.declared.change.HomeChange.{HomeChange}
-use Rattle.tree_step.specs.declared.change.HomeChange.TheVariants as homes
-use Rattle.tree_step.specs.declared.change.TreeChange.{TreeChange}
-use Rattle.tree_step.specs.declared.change.Change.{Change}
-use Rattle.tree_step.specs.declared.change.Change.TheVariants as changes
-use Rattle.tree_step.specs.declared.change.Prepared.{Prepared}
-use Rattle.tree_step.specs.declared.change.TreePrepared.{TreePrepared}
-use Rattle.tree_step.specs.declared.core_change.CorePrepared.{CorePrepared}
-use Rattle.tree_step.specs.declared.core_change.HoldChange.{HoldChange}
-use Rattle.tree_step.specs.declared.core_change.HoldChange.TheVariants as holds
-use Rattle.tree_step.specs.declared.core_change.VoteChange.{VoteChange}
-use Rattle.tree_step.specs.declared.core_change.VoteChange.TheVariants as votes
+use Rattle.tree_step.specs.steps.HomeChange.{HomeChange}
+use Rattle.tree_step.specs.steps.HomeChange as homes
+use Rattle.tree_step.specs.steps.TreeChange.{TreeChange}
+use Rattle.tree_step.specs.steps.Change.{Change}
+use Rattle.tree_step.specs.steps.Change as changes
+use Rattle.tree_step.specs.steps.PartsStep.{PartsStep}
+use Rattle.tree_step.specs.steps.TreeStep.{TreeStep}
+use Rattle.tree_step.specs.steps.CoreStep.{CoreStep}
+use Rattle.tree_step.specs.steps.HoldChange.{HoldChange}
+use Rattle.tree_step.specs.steps.HoldChange as holds
+use Rattle.tree_step.specs.steps.VoteChange.{VoteChange}
+use Rattle.tree_step.specs.steps.VoteChange as votes
 use Rattle.tree_step.specs.declared.node_core.NodeCore.{NodeCore}
 use Rattle.tree_step.specs.declared.plan.HomePlan.{HomePlan}
 use Rattle.tree_step.specs.declared.plan.HomePlan.TheVariants as home_plans
@@ -71,12 +71,12 @@ doing_meant (doings.Sweep v) x = changes.Sweep v
 abbrev pub out_in : Scratch → StepOut
 out_in x = record { sent = x.sent; acts = x.acts }
 
-abbrev pub parts_meant : Doing → Scratch → Prepared
+abbrev pub parts_meant : Doing → Scratch → PartsStep
 parts_meant d x = record { change = doing_meant d x; out = out_in x }
 
 -- before the tree is answered
-abbrev pub part_meant : PartPlan → Scratch → TreePrepared
-part_meant p x = record { prepared = parts_meant p.doing x; answered = p.answered }
+abbrev pub part_meant : PartPlan → Scratch → TreeStep
+part_meant p x = record { parts = parts_meant p.doing x; answered = p.answered }
 
 -- what becomes of locks or noes
 abbrev pub noted_by : TreeNo → Option NegativeVote → VoteChange
@@ -100,16 +100,16 @@ holds_meant (hold_plans.Hold t v) x = held_by t v x
 holds_meant (hold_plans.Ack t) x = holds.Ack t
 
 -- the step, where this becomes of them
-abbrev pub meant_with : Plan → Scratch → HoldChange → CorePrepared
+abbrev pub meant_with : Plan → Scratch → HoldChange → CoreStep
 meant_with p x h = record {
-  prepared = parts_meant p.doing x;
+  parts = parts_meant p.doing x;
   votes = votes_meant p.votes x;
   holds = h;
   epoch = p.epoch;
 }
 
 -- the step
-abbrev pub core_meant : Plan → Scratch → CorePrepared
+abbrev pub core_meant : Plan → Scratch → CoreStep
 core_meant p x = meant_with p x (holds_meant p.holds x)
 
 -- nothing is in the scratch
@@ -128,12 +128,12 @@ IsEmpty x = x ≡ record {
 }
 
 -- a step that a plan and a scratch mean was done: the node before it and after it
-abbrev pub IsStepDone : CorePrepared → Scratch → NodeCore → NodeCore → Type 0
-IsStepDone p x old new = IsCoreDone (core_prepared_row p (core_of old)) old new (Ok (out_in x))
+abbrev pub IsStepDone : CoreStep → Scratch → NodeCore → NodeCore → Type 0
+IsStepDone p x old new = IsCoreDone (core_step_row p (core_of old)) old new (Ok (out_in x))
 
 -- the same of a node's parts
 abbrev pub IsDoingDone : Doing → Scratch → NodeParts → NodeParts → Type 0
-IsDoingDone d x old new = IsDone (prepared_row (parts_meant d x) (data_of old)) old new (Ok (out_in x))
+IsDoingDone d x old new = IsDone (step_row (parts_meant d x) (data_of old)) old new (Ok (out_in x))
 
 -- the locks and the noes that votes leave
 abbrev pub locks_meant : VotePlan → Scratch → List Lock → List Lock

@@ -2,6 +2,7 @@
 use Rattle.std.specs.Prelude.{ℕ, ◌≡◌, ◌+◌, ◌<◌, ◌≤◌}
 use Rattle.item_versions.specs.Table.{Table, pending}
 use Rattle.item_versions.specs.Window.{IsWindowedTable}
+use Rattle.letter_types.specs.declared.bodies.Notice.{Notice}
 use Rattle.node_versions.specs.declared.turns.Turns.{Turns}
 use Rattle.pair_counters.specs.Numbers.{AllBelow, MOST_COUNT}
 use Rattle.pair_counters.specs.Rows.{CounterRows, counts_of}
@@ -9,7 +10,6 @@ use Rattle.tree_home.specs.Homes.{HomesData, open_trees}
 use Rattle.tx_trees.specs.ScriptData.{ScriptData}
 pub use Rattle.world_model.specs.Node.{Effect, Node}
 use Rattle.tree_step.specs.declared.node.NodeParts.{NodeParts}
-use Rattle.tree_step.specs.declared.node.Effect.{Effect as Staging}
 
 -- a node of these parts: its table sees the open trees of its homes, and not the answers that are held there
 abbrev pub node_with : Turns → Table → CounterRows → HomesData → Node
@@ -47,6 +47,11 @@ pub record CanStep (s : ScriptData) (n : NodeParts) : Type 0 where
   pub script : IsOf s n
   pub small : AllBelow MOST_COUNT (counts_of n.counters).numbers
   pub window : IsInWindow n
+
+-- what the operations of a subtransaction make: items that the table has yet to take, and what its tree's home is told
+pub record Staging : Type 0 where
+  pub staged : Table
+  pub notice : Notice
 
 -- what is staged, at these items
 abbrev pub effect_on : Table → Staging → Effect

@@ -1,18 +1,17 @@
 // What is planned is done.
-ghost use Rattle.std.specs.Prelude.{ℕ, ◌≡◌, ◌<◌, ◌≤◌, ◌+◌, ◌^◌, [], length, All, None, Some, Ok, MatchResult, OnErr, OnOk};
+ghost use Rattle.std.specs.Prelude.{ℕ, ◌≡◌, ◌<◌, ◌≤◌, ◌+◌, ◌^◌, [], length, All, Some, MatchResult, OnErr, OnOk};
 ghost use Rattle.pair_counters.specs.Rows.{counts_of};
 ghost use Rattle.tree_home.specs.Homes.{open_trees};
 ghost use Rattle.tree_home.specs.Maps.{by_tree};
 ghost use Rattle.tree_step.specs.Changes.{home_after, MayDo, MayHome, OpensNone, OpensNoTree};
-ghost use Rattle.tree_step.specs.declared.change.Change.TheVariants.{Tree};
-ghost use Rattle.tree_step.specs.declared.core_change.HoldChange.TheVariants.{Stay, Ack};
+ghost use Rattle.tree_step.specs.steps.Change.{Tree};
+ghost use Rattle.tree_step.specs.steps.HoldChange.{Stay, Ack};
 ghost use Rattle.tree_step.specs.CoreChanges.{MayDoCore, epoch_with, numbers_of_nodes};
 ghost use Rattle.tree_step.specs.Meant.{core_meant, doing_meant, held_by, home_meant, IsDoingDone, IsStepDone, locks_meant, meant_with, out_in, refusals_meant, tree_meant};
 ghost use Rattle.tree_step.specs.inside.PlanOpening.{doing_once_open, opening_by, plan_once_open};
 ghost use Rattle.tree_step.specs.AtNode.{asked_counts};
 ghost use Rattle.world_model.specs.Done.{raised_if};
 
-use crate::core_change::Opening;
 use crate::counting::count;
 use crate::node::NodeParts;
 use crate::node_core::NodeCore;
@@ -252,6 +251,14 @@ fn do_holds(
         HoldPlan::Hold { tree, version } => do_hold(alloc, core, plan, tree, version, scratch),
         HoldPlan::Ack(tree) => do_ack(alloc, core, plan, tree, scratch),
     }
+}
+
+/// A tree of so many subtransactions that is to be opened at its home.
+#[derive(Clone, Copy)]
+struct Opening {
+    tree: TreeNo,
+    subs: u32,
+    version: Version,
 }
 
 /// The tree that is to be opened, if one is.

@@ -4,8 +4,6 @@
 #![tactic(auto)]
 
 mod asked;
-mod change;
-mod core_change;
 mod counting;
 mod doing;
 mod due;
@@ -21,18 +19,16 @@ mod replies;
 mod subs;
 
 pub use asked::{InVersion, Request, SubTurn, asked_ops, asked_version, plan_tree};
-pub use change::{Change, HomeChange, Prepared, TreeChange, TreePrepared};
-pub use core_change::{CorePrepared, HoldChange, Visited, VoteChange};
 pub use counting::Counting;
 pub use doing::do_plan;
 pub use due::{can_obey, is_above, is_due, is_near};
 pub use lookups::{is_strict, kind_of};
-pub use node::{Effect, NodeParts};
+pub use node::NodeParts;
 pub use node_core::NodeCore;
 pub use notices::plan_notice;
 pub use plan::{
-    Doing, HoldPlan, HomePlan, PartPlan, Plan, Scratch, TreePlan, VotePlan, new_scratch, take_out,
-    wipe,
+    Doing, HoldPlan, HomePlan, PartPlan, Plan, Scratch, TreePlan, Visited, VotePlan, new_scratch,
+    take_out, wipe,
 };
 pub use public::do_part;
 pub use refusals::Refusals;

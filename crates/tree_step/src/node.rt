@@ -1,6 +1,5 @@
 // What a node keeps.
-use item_versions::{ItemTable, Staged};
-use letter_types::Notice;
+use item_versions::ItemTable;
 use node_versions::Turns;
 use pair_counters::Counters;
 use tree_home::Homes;
@@ -12,12 +11,4 @@ pub struct NodeParts {
     pub items: ItemTable,
     pub counters: Counters,
     pub homes: Homes,
-}
-
-/// What the operations of a subtransaction make: items that the table has yet to take, and what its tree's home is told
-/// of it.
-#[derive(Drop)]
-pub struct Effect {
-    pub staged: Staged,
-    pub notice: Notice,
 }

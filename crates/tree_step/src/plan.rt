@@ -2,7 +2,6 @@
 ghost use Rattle.std.specs.Prelude.{◌≡◌};
 ghost use Rattle.tree_step.specs.Meant.{IsEmpty, out_in};
 
-use crate::core_change::Visited;
 use crate::counting::Counting;
 use commute_ops::Values;
 use item_versions::Staged;
@@ -11,8 +10,11 @@ use nc_locks::WantedLocks;
 use std::alloc::Global;
 use std::mem;
 use tree_home::Answered;
-use tv_base::{SubNo, TreeNo, Version};
+use tv_base::{NodeNo, Seq, SubNo, TreeNo, Version};
 use world_model::NegativeVote;
+
+/// Nodes that a tree visits.
+pub type Visited = Seq<NodeNo, 64>;
 
 /// What the home of a tree does. The values of a notice are in the scratch.
 #[derive(Clone, Copy)]

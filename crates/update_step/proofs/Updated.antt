@@ -1,17 +1,16 @@
 -- The row where the operations may be made.
-use Rattle.std.proofs.Common.{◌≡◌, ℕ, Bool, true, false, List, refl, ap, sym, ◌∙◌, subst}
+use Rattle.std.proofs.Common.{◌≡◌, ℕ, Bool, true, List, ap, sym, ◌∙◌, subst}
 use Rattle.std.specs.Prelude.{nat_lt}
 use Rattle.tv_base.specs.declared.numbers.Version.{Version}
 use Rattle.item_versions.specs.Window.{in_window}
 use Rattle.item_versions.proofs.Window.{in_window-is}
 use Rattle.letter_types.specs.declared.bodies.Body.{Body}
-use Rattle.letter_types.specs.Steps.{still}
 use Rattle.tx_trees.specs.ScriptData.{ScriptData}
 use Rattle.tx_trees.specs.declared.parts.SubOp.{SubOp}
 use Rattle.tree_step.specs.Changes.{IsTreePartOf, part_row, replied}
 use Rattle.tree_step.specs.Due.{is_due}
 use Rattle.tree_step.specs.Node.{Effect, IsReady, Node, data_of}
-use Rattle.tree_step.specs.declared.change.TreePrepared.{TreePrepared}
+use Rattle.tree_step.specs.steps.TreeStep.{TreeStep}
 use Rattle.tree_step.specs.declared.node.NodeParts.{NodeParts}
 use Rattle.tree_step.proofs.Dues.{asked_near}
 use Rattle.world_model.specs.Asked.{asked_ops, asked_version, tree_part}
@@ -52,15 +51,9 @@ updated s p from body st v ops raises e out at asked test made done =
     (touching w (asked_ops s body) st.items) body st) at
 
 -- with the answer it is the row
-pub update_made : (s : ScriptData) (p from : ℕ) (body : Body) (n : NodeParts) (part : TreePrepared)
+pub update_made : (s : ScriptData) (p from : ℕ) (body : Body) (n : NodeParts) (part : TreeStep)
     → true ≡ can_update s (data_of n) body → IsTreePartOf (update_part s p (data_of n) from body) n part
     → replied s (part_row part (data_of n)) ≡ update_if_made s p (data_of n) from body
 update_made s p from body n part can is =
     let may : can_update s (data_of n) body ≡ true = sym can in
     rw may (ap (λ (x : TreeOut). replied s x) is.row)
-
--- where the operations may not be made it is the row 'any other'
-pub update_refused : (s : ScriptData) (p from : ℕ) (body : Body) (n : NodeParts)
-    → false ≡ can_update s (data_of n) body → still (data_of n) ≡ update_if_made s p (data_of n) from body
-update_refused s p from body n can =
-    let may : can_update s (data_of n) body ≡ false = sym can in rw may refl

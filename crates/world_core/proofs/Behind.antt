@@ -13,14 +13,13 @@ use Rattle.world_model.specs.Done.{counted_root, counted_sub, raised_if}
 use Rattle.tree_step.specs.Changes.{after_change, home_after, MayChange, MayCount, MayDo}
 use Rattle.tree_step.specs.Node.{Node, data_of}
 use Rattle.tree_step.specs.inside.Sent.{MOST_SENT}
-use Rattle.tree_step.specs.declared.change.Change.{Change}
-use Rattle.tree_step.specs.declared.change.Change.TheVariants.{Still, Tree, Turn, Show, Sweep}
-use Rattle.tree_step.specs.declared.change.TreeChange.{TreeChange}
+use Rattle.tree_step.specs.steps.Change.{Change, Still, Tree, Turn, Show, Sweep}
+use Rattle.tree_step.specs.steps.TreeChange.{TreeChange}
 use Rattle.tree_step.specs.declared.counting.Counting.{Counting}
 use Rattle.tree_step.specs.declared.node.NodeParts.{NodeParts}
-use Rattle.tree_step.specs.CoreChanges.{MayAsk, MayDoCore, after_core_change, asked_with, core_prepared_row, epoch_with, holds_with, locks_with, refusals_with}
+use Rattle.tree_step.specs.CoreChanges.{MayAsk, MayDoCore, after_core_change, asked_with, core_step_row, epoch_with, holds_with, locks_with, refusals_with}
 use Rattle.tree_step.specs.Core.{IsApart, core_of}
-use Rattle.tree_step.specs.declared.core_change.CorePrepared.{CorePrepared}
+use Rattle.tree_step.specs.steps.CoreStep.{CoreStep}
 use Rattle.tree_step.specs.declared.node_core.NodeCore.{NodeCore}
 use Rattle.tree_step.specs.declared.plan.Doing.{Doing}
 use Rattle.tree_step.specs.declared.plan.Doing.TheVariants as doings
@@ -31,8 +30,8 @@ use Rattle.tree_step.specs.declared.plan.Scratch.{Scratch}
 use Rattle.tree_step.specs.declared.plan.VotePlan.{VotePlan}
 use Rattle.tree_step.specs.declared.plan.VotePlan.TheVariants as vote_plans
 use Rattle.tree_step.specs.Meant.{core_meant, doing_meant, holds_meant, votes_meant}
-use Rattle.node_keeping.specs.declared.change.KeepingPrepared.TheVariants.{Does}
-use Rattle.node_keeping.specs.declared.change.KeptChange.TheVariants.{Call}
+use Rattle.node_keeping.specs.steps.KeepingStep.{Does}
+use Rattle.node_keeping.specs.declared.node_plan.KeptPlan.TheVariants.{Call}
 use Rattle.node_keeping.specs.declared.state.KeepingParts.{KeepingParts}
 use Rattle.node_keeping.specs.Changes.{IsKeepingStepOf}
 use Rattle.node_keeping.specs.State.{keeping_of}
@@ -92,7 +91,7 @@ do_more c sent more n may = record {
 }
 
 -- a core after a step, by the node that commuting trees see then
-abbrev core_by : CorePrepared → Core → Node → Core
+abbrev core_by : CoreStep → Core → Node → Core
 core_by p c st = record {
   node = record st { counts = asked_with p.holds st.counts };
   locks = locks_with p.votes c.locks;
@@ -102,19 +101,19 @@ core_by p c st = record {
 }
 
 -- so the core afterwards is the same
-pub core_more : (p : CorePrepared) (more : List Outgoing) (n : NodeCore) → MayDoCore p n
+pub core_more : (p : CoreStep) (more : List Outgoing) (n : NodeCore) → MayDoCore p n
     → after_core_change (sent_behind more p) (core_of n) ≡ after_core_change p (core_of n)
 core_more p more n may =
     ap (λ (st : Node). core_by p (core_of n) st)
-    (after_more p.prepared.change p.prepared.out.sent more n.parts may.parts.fits)
+    (after_more p.parts.change p.parts.out.sent more n.parts may.parts.fits)
 
 -- and whether a node may do the step
-pub may_more : (p : CorePrepared) (more : List Outgoing) (n : NodeCore) → MayDoCore p n → MayDoCore (sent_behind more p) n
+pub may_more : (p : CoreStep) (more : List Outgoing) (n : NodeCore) → MayDoCore p n → MayDoCore (sent_behind more p) n
 may_more p more n may = record {
-  parts = do_more p.prepared.change p.prepared.out.sent more n.parts may.parts;
+  parts = do_more p.parts.change p.parts.out.sent more n.parts may.parts;
   holds = may.holds;
   asks = subst (λ (st : Node). MayAsk p.holds (counts_of n.parts.counters).nodes st)
-      (sym (after_more p.prepared.change p.prepared.out.sent more n.parts may.parts.fits)) may.asks;
+      (sym (after_more p.parts.change p.parts.out.sent more n.parts may.parts.fits)) may.asks;
   apart = subst (λ (c : Core). IsApart c) (sym (core_more p more n may)) may.apart;
 }
 
@@ -147,7 +146,7 @@ holds_behind (hold_plans.Ack t) more x = refl
 pub meant_behind : (p : Plan) (more : List Outgoing) (x : Scratch)
     → core_meant p (with_more more x) ≡ sent_behind more (core_meant p x)
 meant_behind p more x = λ i. record {
-  prepared = record {
+  parts = record {
     change = doing_behind p.doing more x i;
     out = record { sent = x.sent ++ more; acts = x.acts };
   };
@@ -157,15 +156,15 @@ meant_behind p more x = λ i. record {
 }
 
 -- a message is done that wakes those that wait for this: each is called, and its Wake goes behind what the core sends
-pub waking_step : (r : KeepReason) (n : KeepingParts) (p : CorePrepared) (more : List Outgoing) → MayDoCore p n.core
+pub waking_step : (r : KeepReason) (n : KeepingParts) (p : CoreStep) (more : List Outgoing) → MayDoCore p n.core
     → more ≡ wakes (waits_alike r) n.kept
-    → IsKeepingStepOf (waking_out (waits_alike r) (keeping_of n) (core_prepared_row p (core_of n.core))) n
+    → IsKeepingStepOf (waking_out (waits_alike r) (keeping_of n) (core_step_row p (core_of n.core))) n
     (Does (sent_behind more p) (Call r))
 waking_step r n p more may is = record {
   row = λ i. record {
     state = record { core = core_more p more n.core may i; kept = with_called (waits_alike r) n.kept };
-    sent = p.prepared.out.sent ++ is i;
-    acts = p.prepared.out.acts;
+    sent = p.parts.out.sent ++ is i;
+    acts = p.parts.out.acts;
   };
   may = may_more p more n.core may;
 }

@@ -1,27 +1,19 @@
 -- What the tests of notices, decisions and acknowledgements say.
-use Rattle.std.proofs.Common.{◌≡◌, ℕ, ◌<◌, ◌==◌, ◌&&◌, Bool, true, false, not, List, [], ◌∷◌, length, refl, ap, arith}
+use Rattle.std.proofs.Common.{◌≡◌, ℕ, ◌<◌, ◌==◌, ◌&&◌, Bool, true, false, List, [], ◌∷◌, length, refl, arith}
 use Rattle.std.specs.Prelude.{nat_lt}
 use Rattle.std.proofs.lemmas.Bool.{ltb-true}
-use Rattle.tv_base.specs.declared.numbers.SubNo.{SubNo}
 use Rattle.tv_base.specs.declared.numbers.TreeNo.{TreeNo}
 use Rattle.tv_base.specs.declared.numbers.Version.{Version}
 use Rattle.item_versions.specs.Window.{in_window}
-use Rattle.letter_types.specs.declared.bodies.Body.TheVariants.{Done}
-use Rattle.letter_types.specs.declared.bodies.Notice.{Notice}
 use Rattle.tx_trees.specs.Counts.{has_strict}
 use Rattle.tx_trees.specs.ScriptData.{ScriptData, home_of, subs_at, visits}
 use Rattle.tx_trees.specs.declared.parts.Sub.{Sub}
 use Rattle.world_model.specs.Core.{Core}
 use Rattle.world_model.specs.Decisions.{can_decide}
-use Rattle.world_model.specs.Named.{is_near, is_strict_at, suits}
-use Rattle.world_model.specs.Node.{Node}
-use Rattle.tree_step.specs.Due.{is_due}
+use Rattle.world_model.specs.Named.{is_near, is_strict_at}
 use Rattle.tree_step.specs.Core.{IsCoreReady}
 use Rattle.tree_step.specs.declared.node_core.NodeCore.{NodeCore}
 use Rattle.node_keeping.specs.Apt.{acked_apt, decide_apt}
-
-some_below : (k n : ℕ) → k < n → 0 < n
-some_below k n lt = omega (arith, lt)
 
 -- a node is ready for what another node of the script sent
 pub ready_from : (s : ScriptData) (p from : ℕ) (n : NodeCore) → IsCoreReady s p n → from < s.nodes → IsCoreReady s from n
@@ -34,32 +26,6 @@ ready_from s p from n ready lt = record {
   };
   apart = ready.apart;
 }
-
--- what a notice that is due says
-pub record IsNotice (s : ScriptData) (from : ℕ) (st : Node) (t : TreeNo) (v : Version) : Type 0 where
-  pub there : 0 < length (subs_at s t.0)
-  pub sent : from < s.nodes
-  pub near : in_window st.turns.low.0 v.0 ≡ true
-
-notice_tests : (a b d e f : Bool) → (true && ((a && (b && (d && e))) && (true && f))) ≡ true
-    → (b ≡ true) × (d ≡ true) × (f ≡ true)
-notice_tests true true true true true is = (refl, refl, refl)
-notice_tests true true true true false is = absurd (cc)
-notice_tests true true true false f is = absurd (cc)
-notice_tests true true false e f is = absurd (cc)
-notice_tests true false d e f is = absurd (cc)
-notice_tests false b d e f is = absurd (cc)
-
-pub is_notice : (s : ScriptData) (p from : ℕ) (st : Node) (t : TreeNo) (k : SubNo) (v : Version) (notice : Notice)
-    → is_due s p st from (Done t k v notice) ≡ true → IsNotice s from st t v
-is_notice s p from st t k v notice due =
-    let all = notice_tests (home_of s t.0 == p) (nat_lt k.0 (length (subs_at s t.0))) (nat_lt from s.nodes)
-    (suits (is_strict_at s t.0) notice) (is_near st v) due in
-    record {
-      there = some_below k.0 (length (subs_at s t.0)) (ltb-true k.0 (length (subs_at s t.0)) all.0);
-      sent = ltb-true from s.nodes all.1;
-      near = all.2;
-    }
 
 -- what a decision that is apt says
 pub record IsDecision (s : ScriptData) (p from : ℕ) (c : Core) (t : TreeNo) (v : Version) (commit : Bool) : Type 0 where

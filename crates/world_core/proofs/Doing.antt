@@ -8,7 +8,7 @@ use Rattle.letter_types.specs.declared.entries.Letter.{Letter}
 use Rattle.letter_types.specs.declared.entries.StepOut.{StepOut}
 use Rattle.letter_types.specs.Steps.{made}
 use Rattle.client_rows.specs.Kept.{Kept, IsKeptOf}
-use Rattle.node_keeping.specs.Changes.{keeping_prepared_row}
+use Rattle.node_keeping.specs.Changes.{keeping_step_row}
 use Rattle.node_keeping.specs.Meant.{node_meant}
 use Rattle.node_keeping.specs.State.{keeping_of}
 use Rattle.node_keeping.specs.declared.node_plan.NodePlan.{NodePlan}
@@ -95,7 +95,7 @@ is_row s l (Client k) new (CoordinatorStep p) x out for is done = absurd is
 is_row s l (Client k) new (RestartStep p) x out for is done = absurd is
 
 -- what goes out of a node is what was planned
-out_made : (p : NodePlan) (x : Scratch) (n m : KeepingNode) (out : StepOut) → made m out ≡ keeping_prepared_row (node_meant p x) n
+out_made : (p : NodePlan) (x : Scratch) (n m : KeepingNode) (out : StepOut) → made m out ≡ keeping_step_row (node_meant p x) n
     → out ≡ out_in x
 out_made StillPlan x n m out is = λ i. record { sent = (is i).sent; acts = (is i).acts }
 out_made (KeepsPlan k) x n m out is = λ i. record { sent = (is i).sent; acts = (is i).acts }

@@ -1,5 +1,5 @@
 -- The plan of a notice.
-use Rattle.std.proofs.Common.{◌≡◌, ℕ, true, false, refl, sym, subst, ◌∙◌}
+use Rattle.std.proofs.Common.{◌≡◌, ℕ, true, false, refl, subst, ◌∙◌}
 use Rattle.tv_base.specs.declared.numbers.SubNo.{SubNo}
 use Rattle.tv_base.specs.declared.numbers.TreeNo.{TreeNo}
 use Rattle.tv_base.specs.declared.numbers.Version.{Version}
@@ -14,12 +14,11 @@ use Rattle.tree_step.specs.Due.{is_due}
 use Rattle.tree_step.specs.Node.{data_of}
 use Rattle.tree_step.specs.CoreChanges.{IsCoreStepOf}
 use Rattle.tree_step.specs.Core.{core_of}
-use Rattle.tree_step.specs.declared.core_change.CorePrepared.{CorePrepared}
+use Rattle.tree_step.specs.steps.CoreStep.{CoreStep}
 use Rattle.tree_step.specs.declared.node_core.NodeCore.{NodeCore}
-use Rattle.node_keeping.specs.declared.plans.CorePlan.TheVariants.{Still, Does}
+use Rattle.node_keeping.specs.steps.ChosenStep.{Still, Does}
 use Rattle.node_keeping.specs.Apt.{IsOwnPlan}
 use Rattle.node_keeping.proofs.Aptness.{note_apt}
-use Rattle.world_core.proofs.Decisions.{IsNotice, is_notice}
 use Rattle.node_keeping.proofs.Planned.{due_body, first_fails, first_holds, plan_one, undue_body}
 
 -- one that isn't due
@@ -45,7 +44,7 @@ note_far s l n t k v notice is due far =
 
 -- one that is apt
 pub note_plan : (s : ScriptData) (l : Letter) (n : NodeCore) (t : TreeNo) (k : SubNo) (v : Version) (notice : Notice)
-    (from : ℕ) (q : CorePrepared) → l.body ≡ Done t k v notice
+    (from : ℕ) (q : CoreStep) → l.body ≡ Done t k v notice
     → true ≡ is_due s l.to.0 (data_of n.parts) l.from.0 l.body
     → is_near_answer s (data_of n.parts) (answer_noted t k (values_of notice) (open_trees n.parts.homes)) ≡ true
     → from ≡ l.from.0 → IsCoreStepOf (note_core s from t k v notice (core_of n)) n q → IsOwnPlan s l n (Does q)
@@ -60,11 +59,3 @@ note_plan s l n t k v notice from q is due near sent step =
       free = refl;
       step = subst (λ (f : ℕ). IsCoreStepOf (note_core s f t k v notice (core_of n)) n q) sent step;
     })
-
--- what it says
-pub notice_due : (s : ScriptData) (l : Letter) (n : NodeCore) (t : TreeNo) (k : SubNo) (v : Version) (notice : Notice)
-    (from : ℕ) → l.body ≡ Done t k v notice → true ≡ is_due s l.to.0 (data_of n.parts) l.from.0 l.body
-    → from ≡ l.from.0 → IsNotice s from (data_of n.parts) t v
-notice_due s l n t k v notice from is due sent =
-    subst (λ (f : ℕ). IsNotice s f (data_of n.parts) t v) (sym sent)
-    (is_notice s l.to.0 l.from.0 (data_of n.parts) t k v notice (due_body s l n (Done t k v notice) is due))

@@ -21,8 +21,8 @@ use Rattle.world_model.specs.Strict.{core_keeping, core_row}
 use Rattle.tree_step.specs.Changes.{IsNodeStepOf}
 use Rattle.tree_step.specs.Due.{can_obey}
 use Rattle.tree_step.specs.Node.{data_of}
-use Rattle.tree_step.specs.declared.change.Change.TheVariants as changes
-use Rattle.tree_step.specs.declared.change.Prepared.{Prepared}
+use Rattle.tree_step.specs.steps.Change as changes
+use Rattle.tree_step.specs.steps.PartsStep.{PartsStep}
 use Rattle.tree_step.specs.declared.plan.Doing.{Doing}
 use Rattle.tree_step.specs.declared.plan.Doing.TheVariants as doings
 use Rattle.tree_step.specs.declared.plan.Plan.{Plan}
@@ -31,15 +31,15 @@ use Rattle.tree_step.specs.Meant.{IsEmpty, core_meant, parts_meant}
 use Rattle.node_step.specs.Orders.{obeyed_row, ordered_row, plain_answer, told_row}
 use Rattle.tree_step.specs.CoreChanges.{IsCoreStepOf}
 use Rattle.tree_step.specs.Core.{AreApart, IsCoreReady, core_of}
-use Rattle.tree_step.specs.declared.core_change.CorePrepared.{CorePrepared}
+use Rattle.tree_step.specs.steps.CoreStep.{CoreStep}
 use Rattle.tree_step.specs.declared.node_core.NodeCore.{NodeCore}
-use Rattle.node_keeping.specs.declared.plans.CorePlan.TheVariants.{Still, Does}
+use Rattle.node_keeping.specs.steps.ChosenStep.{Still, Does}
 use Rattle.node_keeping.specs.Apt.{IsOwnPlan, apt_by, is_own}
 use Rattle.world_core.specs.inside.Stays.{hearing, of_parts, plan_of, still_step}
 use Rattle.node_keeping.proofs.Aptness.{ask_apt, order_apt, other_row, plain_apt}
 use Rattle.node_keeping.proofs.Planned.{plan_one}
 
-of_node : (o : Out Node) (n : NodeCore) (p : Prepared) (epoch : Option ℕ) → IsNodeStepOf o n.parts p
+of_node : (o : Out Node) (n : NodeCore) (p : PartsStep) (epoch : Option ℕ) → IsNodeStepOf o n.parts p
     → o.state.homes ≡ (data_of n.parts).homes → AreApart (data_of n.parts).homes (held_answers n.parts.homes)
     → IsCoreStepOf (hearing epoch (core_of n) o) n (of_parts p epoch)
 of_node o n p epoch is same apart = record {
@@ -70,8 +70,8 @@ still_meant q x made empty =
 pub still_done : (s : ScriptData) (p : ℕ) (n : NodeCore) (q : Plan) (x : Scratch) → IsCoreReady s p n
     → q ≡ plan_of doings.Still None → IsEmpty x → IsCoreStepOf (still (core_of n)) n (core_meant q x)
 still_done s p n q x ready made empty =
-    let none : Prepared = record { change = changes.Still; out = record { sent = []; acts = [] } } in
-    subst (λ (y : CorePrepared). IsCoreStepOf (still (core_of n)) n y) (sym (still_meant q x made empty))
+    let none : PartsStep = record { change = changes.Still; out = record { sent = []; acts = [] } } in
+    subst (λ (y : CoreStep). IsCoreStepOf (still (core_of n)) n y) (sym (still_meant q x made empty))
     (of_node (still (data_of n.parts)) n none None
     (record {
       row = refl;
@@ -79,8 +79,8 @@ still_done s p n q x ready made empty =
     })
     refl ready.apart)
 
--- a letter that is apt and isn't kept, and its row is prepared
-pub own_done : (s : ScriptData) (l : Letter) (n : NodeCore) (body : Body) (o : Out Core) (q : CorePrepared)
+-- a letter that is apt and isn't kept, and a step is its row
+pub own_done : (s : ScriptData) (l : Letter) (n : NodeCore) (body : Body) (o : Out Core) (q : CoreStep)
     → l.body ≡ body → true ≡ apt_by s l.to.0 l.from.0 (core_of n) body → core_keeping s (core_of n) body ≡ None
     → o ≡ core_row s l.to.0 (core_of n) l.from.0 body → IsCoreStepOf o n q → IsOwnPlan s l n (Does q)
 own_done s l n body o q is apt free row step =

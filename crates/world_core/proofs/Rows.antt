@@ -132,14 +132,6 @@ apt_by test s p n l r is to apt =
     sym (ap (λ (b : Bool). row_by s p l r n b (core_keeping s n.core r.body)) there)
     ∙ sym (ap (λ (o : Option Letter). brought_row (is_core_apt s p) s p l n o) is)
 
-pub none_row : (s : ScriptData) (p : ℕ) (n : KeepingNode) (l : Letter) → brought n.kept l l.body ≡ None
-    → still n ≡ keeping_row s p n l
-none_row s p n l is = sym (ap (λ (o : Option Letter). brought_row (is_core_apt s p) s p l n o) is)
-
-pub unapt_row : (s : ScriptData) (p : ℕ) (n : KeepingNode) (l r : Letter) → brought n.kept l l.body ≡ Some r
-    → r.to.0 ≡ p → is_core_apt s r.to.0 n.core r ≡ false → still n ≡ keeping_row s p n l
-unapt_row s p n l r is to apt = apt_by false s p n l r is to apt
-
 pub keeps_row : (s : ScriptData) (p : ℕ) (n : KeepingNode) (l r : Letter) (k : CoreKeeping)
     → brought n.kept l l.body ≡ Some r → r.to.0 ≡ p → is_core_apt s r.to.0 n.core r ≡ true
     → core_keeping s n.core r.body ≡ Some k → kept_out l r n k ≡ keeping_row s p n l

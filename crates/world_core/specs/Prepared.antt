@@ -9,7 +9,7 @@ use Rattle.tx_trees.specs.ScriptData.{ScriptData}
 use Rattle.advance_coord.specs.Changes.{MayKeep, IsCoordinatorStepOf as IsCoordinatorStep, after_coordinator_change as coordinator_after}
 use Rattle.coord_restart.specs.RestartChanges.{MayTakeUp, IsRestartStepOf as IsRestartStep, after_restart_change as restarting_after}
 use Rattle.client_rows.specs.Changes.{IsClientStepOf as IsClientStep, after_client_change as client_after}
-use Rattle.node_keeping.specs.Changes.{MayDoKeeping, keeping_prepared_row}
+use Rattle.node_keeping.specs.Changes.{MayDoKeeping, keeping_step_row}
 use Rattle.node_keeping.specs.Meant.{IsPlanned, node_meant}
 use Rattle.node_keeping.specs.State.{keeping_of}
 use Rattle.node_keeping.specs.declared.node_plan.NodePlan.{NodePlan}
@@ -65,7 +65,7 @@ ActorMayDo _ x _ = ⊥
 -- the actor before it was done and after it, and what goes out
 abbrev pub IsActorDone : ActorPlan → Scratch → ActorState → ActorState → StepOut → Type 0
 IsActorDone (NodeStep p) x (Node n) (Node m) out =
-    (made (keeping_of m) out ≡ keeping_prepared_row (node_meant p x) (keeping_of n))
+    (made (keeping_of m) out ≡ keeping_step_row (node_meant p x) (keeping_of n))
     × ((counts_of m.core.parts.counters).nodes ≡ (counts_of n.core.parts.counters).nodes)
 IsActorDone (CoordinatorStep p) x (Coordinator c) (Coordinator d) out = (d ≡ coordinator_after p.change c) × (out ≡ p.out)
 IsActorDone (RestartStep p) x (Restarting c) (Restarting d) out = (d ≡ restarting_after p.change c) × (out ≡ p.out)

@@ -1,5 +1,5 @@
 // The actors as one, and their steps.
-ghost use Rattle.std.specs.Prelude.{◌≡◌, ◌<◌, ◌+◌, [], IfOk, MatchResult, Ok, OnOk, OnErr};
+ghost use Rattle.std.specs.Prelude.{◌≡◌, ◌<◌, ◌+◌, [], IfOk, MatchResult, OnOk, OnErr};
 ghost use Rattle.letter_types.specs.Steps.{made};
 ghost use Rattle.node_keeping.specs.Changes.{MayDoKeeping};
 ghost use Rattle.node_keeping.specs.Meant.{IsNodeDone, node_meant};

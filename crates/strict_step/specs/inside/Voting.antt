@@ -15,8 +15,7 @@ use Rattle.tx_trees.specs.declared.parts.SubOp.{SubOp}
 use Rattle.world_model.specs.Core.{Refusals, lesser}
 use Rattle.script_parts.specs.Wants.{wanted_by}
 use Rattle.tree_step.specs.declared.asked.Request.{Request}
-use Rattle.tree_step.specs.declared.core_change.VoteChange.{VoteChange}
-use Rattle.tree_step.specs.declared.core_change.VoteChange.TheVariants.{Stay, Take, Note}
+use Rattle.tree_step.specs.steps.VoteChange.{VoteChange, Stay, Take, Note}
 use Rattle.tree_step.specs.declared.node_core.NodeCore.{NodeCore}
 
 -- a no of subtransaction k of tree t comes to the tree's home

@@ -1,11 +1,9 @@
 -- A tree that is to be opened is opened before all else. Proofs alone cite these definitions.
 use Rattle.std.specs.Prelude.{Option, Some, None}
-use Rattle.tree_step.specs.declared.change.Change.{Change}
-use Rattle.tree_step.specs.declared.change.Change.TheVariants.{Tree}
-use Rattle.tree_step.specs.declared.change.HomeChange.{HomeChange}
-use Rattle.tree_step.specs.declared.change.HomeChange.TheVariants.{Open, Note}
-use Rattle.tree_step.specs.declared.core_change.CorePrepared.{CorePrepared}
-use Rattle.tree_step.specs.declared.core_change.Opening.{Opening}
+use Rattle.tree_step.specs.steps.Change.{Change, Tree}
+use Rattle.tree_step.specs.steps.HomeChange.{HomeChange, Open, Note}
+use Rattle.tree_step.specs.steps.CoreStep.{CoreStep}
+use Rattle.tree_step.specs.declared.doing.Opening.{Opening}
 
 -- the tree that is to be opened
 abbrev pub opening_of : HomeChange → Option Opening
@@ -25,5 +23,5 @@ abbrev pub changed_once_open : Change → Change
 changed_once_open (Tree c) = Tree (record c { home = home_once_open c.home })
 changed_once_open change = change
 
-abbrev pub once_open : CorePrepared → CorePrepared
-once_open p = record p { prepared = record { change = changed_once_open p.prepared.change; out = p.prepared.out } }
+abbrev pub once_open : CoreStep → CoreStep
+once_open p = record p { parts = record { change = changed_once_open p.parts.change; out = p.parts.out } }

@@ -2,7 +2,7 @@
 use Rattle.std.specs.Prelude.{Option, Some, None}
 use Rattle.tree_step.specs.declared.plan.Doing.{Doing}
 use Rattle.tree_step.specs.declared.plan.Doing.TheVariants.{Tree}
-use Rattle.tree_step.specs.declared.core_change.Opening.{Opening}
+use Rattle.tree_step.specs.declared.doing.Opening.{Opening}
 use Rattle.tree_step.specs.declared.plan.HomePlan.{HomePlan}
 use Rattle.tree_step.specs.declared.plan.HomePlan.TheVariants.{Open, Note}
 use Rattle.tree_step.specs.declared.plan.Plan.{Plan}

@@ -17,11 +17,10 @@ use Rattle.world_model.specs.Core.{Core}
 use Rattle.world_model.specs.Epochs.{is_obeyed_now}
 use Rattle.world_model.specs.Keeping.{AreKeptAt, KeepingNode, woken_by}
 use Rattle.world_model.specs.Strict.{CoreKeeping}
-use Rattle.tree_step.specs.declared.core_change.CorePrepared.{CorePrepared}
+use Rattle.tree_step.specs.steps.CoreStep.{CoreStep}
 use Rattle.tree_step.specs.declared.plan.Scratch.{Scratch}
-use Rattle.node_keeping.specs.declared.change.Keep.{Keep}
-use Rattle.node_keeping.specs.declared.change.Keep.TheVariants.{New, Again}
-use Rattle.node_keeping.specs.declared.meeting.CoreKept.{CoreKept}
+use Rattle.node_keeping.specs.steps.Keep.{Keep, New, Again}
+use Rattle.node_keeping.specs.steps.CoreKept.{CoreKept}
 use Rattle.node_keeping.specs.declared.node_plan.KeepPlan.{KeepPlan}
 use Rattle.node_keeping.specs.declared.node_plan.NodePlan.{NodePlan}
 use Rattle.node_keeping.specs.declared.state.KeepingParts.{KeepingParts}
@@ -30,7 +29,7 @@ use Rattle.node_keeping.specs.Plans.{kept_core}
 use Rattle.node_keeping.specs.State.{keeping_of}
 use Rattle.node_keeping.specs.Waits.{waits_alike}
 use Rattle.tree_step.specs.Core.{core_of}
-use Rattle.tree_step.specs.CoreChanges.{core_prepared_row}
+use Rattle.tree_step.specs.CoreChanges.{core_step_row}
 
 -- letter l brings letter r to a node, and what the node keeps was addressed to it
 pub record IsBroughtBy (l r : Letter) (n : KeepingParts) : Type 0 where
@@ -91,9 +90,9 @@ woken_reason c (Order e what v) = reason_of_order e what v c
 woken_reason c _ = None
 
 -- the same step, which sends these letters behind its own
-abbrev pub sent_behind : List Outgoing → CorePrepared → CorePrepared
+abbrev pub sent_behind : List Outgoing → CoreStep → CoreStep
 sent_behind more p = record p {
-  prepared = record p.prepared { out = record p.prepared.out { sent = p.prepared.out.sent ++ more } };
+  parts = record p.parts { out = record p.parts.out { sent = p.parts.out.sent ++ more } };
 }
 
 -- a plan and a scratch keep what letter l brought
@@ -101,11 +100,11 @@ abbrev pub IsKeptPlan : Letter → Letter → CoreKept → KeepingParts → Scra
 IsKeptPlan l r k n x plan = IsPlanned (kept_out l r (keeping_of n) (kept_core k (core_of n.core))) n plan x
 
 -- a plan and a scratch do what letter l brought, where the core does this
-abbrev pub IsDonePlan : Letter → Letter → CorePrepared → KeepingParts → Scratch → NodePlan → Type 0
+abbrev pub IsDonePlan : Letter → Letter → CoreStep → KeepingParts → Scratch → NodePlan → Type 0
 IsDonePlan l r done n x plan =
-    IsPlanned (done_out l r (keeping_of n) (core_prepared_row done (core_of n.core))) n plan x
+    IsPlanned (done_out l r (keeping_of n) (core_step_row done (core_of n.core))) n plan x
 
 -- and where it brought itself, and those are woken that wait for this
-abbrev pub IsWakingPlan : Option KeepReason → CorePrepared → KeepingParts → Scratch → NodePlan → Type 0
+abbrev pub IsWakingPlan : Option KeepReason → CoreStep → KeepingParts → Scratch → NodePlan → Type 0
 IsWakingPlan woken done n x plan =
-    IsPlanned (waking_out (woken_for woken) (keeping_of n) (core_prepared_row done (core_of n.core))) n plan x
+    IsPlanned (waking_out (woken_for woken) (keeping_of n) (core_step_row done (core_of n.core))) n plan x

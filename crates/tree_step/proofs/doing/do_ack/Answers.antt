@@ -6,9 +6,9 @@ use Rattle.tree_home.specs.Maps.{by_tree}
 use Rattle.tree_home.specs.declared.homes.Held.{Held}
 use Rattle.tree_home.specs.declared.homes.OpenTree.{OpenTree}
 use Rattle.tree_step.specs.Node.{data_of}
-use Rattle.tree_step.specs.CoreChanges.{core_prepared_row}
+use Rattle.tree_step.specs.CoreChanges.{core_step_row}
 use Rattle.tree_step.specs.Core.{core_of, core_with}
-use Rattle.tree_step.specs.declared.core_change.HoldChange.TheVariants.{Ack}
+use Rattle.tree_step.specs.steps.HoldChange.{Ack}
 use Rattle.tree_step.proofs.Stepped.{apart, same_window, stepped, with_homes}
 use Rattle.tree_step.specs.Meant.{meant_with, out_in}
 use Rattle.tree_step.proofs.doing.do_ack.Goals as goal
@@ -31,6 +31,6 @@ returns-clause-done c =
       nodes = done.nodes;
       window = same_window parts c.acked.new.self done.window;
       apart = apart (core_with last c.change_votes.new.locks c.change_votes.new.refusals c.hear_of.new.epoch) out
-          (core_prepared_row p (core_of old)) row c.requires.may.apart;
+          (core_step_row p (core_of old)) row c.requires.may.apart;
       err = tt;
     }

@@ -8,12 +8,12 @@ use Rattle.tree_home.specs.Maps.{by_tree}
 use Rattle.tree_home.specs.declared.homes.Answered.{Answered}
 use Rattle.tree_home.specs.declared.homes.Held.{Held}
 use Rattle.tv_base.specs.declared.numbers.TreeNo.{TreeNo}
-use Rattle.tree_step.specs.Changes.{prepared_row}
-use Rattle.tree_step.specs.CoreChanges.{core_prepared_row, locks_with, refusals_with}
+use Rattle.tree_step.specs.Changes.{step_row}
+use Rattle.tree_step.specs.CoreChanges.{core_step_row, locks_with, refusals_with}
 use Rattle.tree_step.specs.Core.{core_of, core_with}
 use Rattle.tree_step.specs.Node.{Node, data_of}
-use Rattle.tree_step.specs.declared.change.Change.{Change}
-use Rattle.tree_step.specs.declared.core_change.VoteChange.{VoteChange}
+use Rattle.tree_step.specs.steps.Change.{Change}
+use Rattle.tree_step.specs.steps.VoteChange.{VoteChange}
 use Rattle.tree_step.proofs.Asking.{room_after}
 use Rattle.tree_step.proofs.Stepped.{apart, asked_node, asked_window, may_same, same_open, stepped, with_counters, with_homes}
 use Rattle.tree_step.proofs.Undone.{unheld}
@@ -50,7 +50,7 @@ ask_each-requires-clause-below c =
     c.args.version.0 (length c.items-2.result.now)
     (may_same (doing_meant d x) x.sent old c.hold.new.self c.hold.ensures.opened c.requires.may.parts)
     (ap (λ (o : Out Node). o.state.counts) (c.do_parts.ensures.done.row
-    ∙ ap (λ (ch : Change). prepared_row (record { change = ch; out = out_in x }) (data_of (with_homes c.hold.new.self old)))
+    ∙ ap (λ (ch : Change). step_row (record { change = ch; out = out_in x }) (data_of (with_homes c.hold.new.self old)))
     (same_doing d _ x))) few
 
 pub returns-clause-done : goal.returns-clause-done
@@ -67,7 +67,7 @@ returns-clause-done c =
     let row = ap (λ (e : ℕ). made (core_with parts c.change_votes.new.locks c.change_votes.new.refusals e) out) c.hear_of.ensures
     ∙ stepped p n mid parts c.change_votes.new.locks c.change_votes.new.refusals out
     (done.row
-    ∙ ap (λ (ch : Change). prepared_row (record { change = ch; out = out }) (data_of (with_homes c.hold.new.self n.parts)))
+    ∙ ap (λ (ch : Change). step_row (record { change = ch; out = out }) (data_of (with_homes c.hold.new.self n.parts)))
     (same_doing d _ x)
     ∙ same_open (parts_meant d x) n.parts c.hold.new.self c.hold.ensures.opened)
     (asked_node mid c.ask_each.new.counters c.args.version.0 c.items-2.result.now x.told c.ask_each.ensures told)
@@ -82,6 +82,6 @@ returns-clause-done c =
       nodes = ap (λ (k : Counts). k.nodes) c.ask_each.ensures ∙ done.nodes;
       window = asked_window mid c.ask_each.new.counters c.args.version.0 c.items-2.result.now c.ask_each.ensures done.window;
       apart = apart (core_with parts c.change_votes.new.locks c.change_votes.new.refusals c.hear_of.new.epoch) out
-          (core_prepared_row p (core_of n)) row c.requires.may.apart;
+          (core_step_row p (core_of n)) row c.requires.may.apart;
       err = tt;
     }

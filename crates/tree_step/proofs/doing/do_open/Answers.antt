@@ -8,9 +8,9 @@ use Rattle.tree_home.specs.Maps.{by_tree}
 use Rattle.tree_home.specs.declared.homes.Held.{Held}
 use Rattle.world_model.specs.Core.{Core}
 use Rattle.tree_step.specs.Changes.{OpensNone}
-use Rattle.tree_step.specs.CoreChanges.{MayDoCore, MayHold, core_prepared_row}
+use Rattle.tree_step.specs.CoreChanges.{MayDoCore, MayHold, core_step_row}
 use Rattle.tree_step.specs.Core.{IsApart, core_of}
-use Rattle.tree_step.specs.declared.core_change.CorePrepared.{CorePrepared}
+use Rattle.tree_step.specs.steps.CoreStep.{CoreStep}
 use Rattle.tree_step.specs.declared.node_core.NodeCore.{NodeCore}
 use Rattle.tree_step.proofs.Opened.{ask_once_open, begun_there, core_in_parts, is_shut, may_once_open, once_begun, shut}
 use Rattle.tree_step.proofs.Undone.{unopened}
@@ -35,9 +35,9 @@ do_holds-requires-clause-may c =
     let o = c.args.opening in
     let opens = opening_same c.args.plan.doing x c.args.opening c.requires.opens in
     let same = ap (λ (q : Plan). core_meant q x) c.once_open.ensures ∙ once_same c.args.plan x in
-    subst (λ (q : CorePrepared). MayDoCore q (once_begun c.begin.new.self n)) (sym same)
+    subst (λ (q : CoreStep). MayDoCore q (once_begun c.begin.new.self n)) (sym same)
     (record {
-      parts = may_once_open p.prepared.change o x.sent n.parts c.begin.new.self opens c.in_ok-begin.ensures.ok
+      parts = may_once_open p.parts.change o x.sent n.parts c.begin.new.self opens c.in_ok-begin.ensures.ok
           c.requires.may.parts;
       holds = subst (λ (es : List (TreeNo × Held)). MayHold p.holds (by_tree es)) (sym c.begin.ensures.held)
           c.requires.may.holds;
@@ -51,7 +51,7 @@ pub do_holds-requires-clause-none : goal.do_holds-requires-clause-none
 do_holds-requires-clause-none c =
     let x = c.args.scratch.now in
     let same = ap (λ (q : Plan). core_meant q x) c.once_open.ensures ∙ once_same c.args.plan x in
-    subst (λ (q : CorePrepared). OpensNone q.prepared.change) (sym same) (shut (doing_meant c.args.plan.doing x))
+    subst (λ (q : CoreStep). OpensNone q.parts.change) (sym same) (shut (doing_meant c.args.plan.doing x))
 
 pub returns-in-Ok-clause-done : goal.returns-in-Ok-clause-done
 returns-in-Ok-clause-done c =
@@ -63,7 +63,7 @@ returns-in-Ok-clause-done c =
     let same = ap (λ (q : Plan). core_meant q x) c.once_open.ensures ∙ once_same c.args.plan x in
     record {
       row = c.in-Ok.ensures.done.row
-          ∙ ap (λ (q : CorePrepared). core_prepared_row q (core_of (once_begun c.begin.new.self n))) same
+          ∙ ap (λ (q : CoreStep). core_step_row q (core_of (once_begun c.begin.new.self n))) same
           ∙ core_in_parts p o n c.begin.new.self opens c.in_ok-begin.ensures.ok c.begin.ensures.held;
       nodes = c.in-Ok.ensures.done.nodes;
       window = c.in-Ok.ensures.done.window;

@@ -3,7 +3,7 @@ use Rattle.letter_types.specs.Steps.{made}
 use Rattle.tree_step.specs.Changes.{MayDo, OpensNone, after_change}
 use Rattle.tree_step.specs.Meant.{doing_meant, out_in}
 use Rattle.tree_step.specs.Node.{data_of}
-use Rattle.tree_step.specs.declared.change.Change.{Change}
+use Rattle.tree_step.specs.steps.Change.{Change}
 use Rattle.tree_step.specs.declared.plan.Doing.{Doing}
 use Rattle.tree_step.proofs.Opened.{is_shut, made_by, may_once_open, shut}
 use Rattle.tree_step.proofs.PlanOpened.{doing_same, opening_same, opens_none}

@@ -1,8 +1,8 @@
 use Rattle.std.proofs.Common.{false, sym, subst}
 use Rattle.tree_step.specs.AtNode.{IsNotedPart}
 use Rattle.tree_step.specs.Meant.{home_planned_at}
-use Rattle.tree_step.specs.declared.change.Change.TheVariants.{Tree}
-use Rattle.tree_step.specs.declared.change.TreePrepared.{TreePrepared}
+use Rattle.tree_step.specs.steps.Change.{Tree}
+use Rattle.tree_step.specs.steps.TreeStep.{TreeStep}
 use Rattle.tree_step.proofs.Noticed.{noted_part}
 use Rattle.tree_step.proofs.notices.plan_notice.Goals as goal
 
@@ -11,9 +11,9 @@ returns-clause-part c =
     let q = c.args.request in
     let home = c.in_ok-home in
     let does = home_planned_at q.tree q.sub c.notice_home.new.noted home.home in
-    subst (λ (p : TreePrepared). IsNotedPart q c.args.values.now c.args.node.now p)
+    subst (λ (p : TreeStep). IsNotedPart q c.args.values.now c.args.node.now p)
     (λ i. record {
-      prepared = record {
+      parts = record {
         change = Tree (record {
           raises = false;
           staged = sym c.requires.none_staged i;

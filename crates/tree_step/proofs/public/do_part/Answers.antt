@@ -4,7 +4,7 @@ use Rattle.letter_types.specs.Steps.{made}
 use Rattle.tree_step.specs.Changes.{MayDo, after_change}
 use Rattle.tree_step.specs.Meant.{out_in, part_meant}
 use Rattle.tree_step.specs.Node.{data_of}
-use Rattle.tree_step.specs.declared.change.Change.{Change}
+use Rattle.tree_step.specs.steps.Change.{Change}
 use Rattle.tree_step.specs.declared.plan.Scratch.{Scratch}
 use Rattle.tree_step.proofs.Replied.{is_replied}
 use Rattle.tree_step.proofs.SameDoing.{doing_by}

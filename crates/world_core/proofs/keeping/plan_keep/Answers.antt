@@ -2,7 +2,7 @@ use Rattle.std.proofs.Common.{◌≡◌, [], ap, sym, subst, ◌∙◌}
 use Rattle.tree_step.specs.Core.{core_of}
 use Rattle.tree_step.specs.declared.plan.Scratch.{Scratch}
 use Rattle.node_keeping.specs.Changes.{MayBeKept, kept_with, raised_core}
-use Rattle.node_keeping.specs.declared.change.Keep.{Keep}
+use Rattle.node_keeping.specs.steps.Keep.{Keep}
 use Rattle.world_core.proofs.Rows.{brought_kept, may_keep}
 use Rattle.world_core.proofs.keeping.plan_keep.Goals as goal
 

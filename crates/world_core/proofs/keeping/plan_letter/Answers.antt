@@ -4,7 +4,7 @@ use Rattle.letter_types.specs.Steps.{Out}
 use Rattle.world_model.specs.Keeping.{KeepingNode}
 use Rattle.node_keeping.specs.Choices.{kept_by_plan}
 use Rattle.node_keeping.specs.Plans.{kept_core}
-use Rattle.tree_step.specs.CoreChanges.{core_prepared_row}
+use Rattle.tree_step.specs.CoreChanges.{core_step_row}
 use Rattle.tree_step.specs.Core.{IsCoreReady, core_of}
 use Rattle.tree_step.specs.Meant.{core_meant}
 use Rattle.node_keeping.specs.Meant.{IsPlanned}
@@ -51,5 +51,5 @@ returns-in-Does c =
     let to = brought_to n.kept l r c.requires.ready.kept (sym c.in-Some.ensures) in
     let plan = rw c.in-Does.is at c.in_ok-plan_core.ensures in
     subst (λ (o : Out KeepingNode). IfOk c.plan_does.result (λ (p : NodePlan). IsPlanned o n p c.plan_does.new.scratch))
-    (does_row s l.to.0 (keeping_of n) l r (core_prepared_row done (core_of n.core)) (sym c.in-Some.ensures)
+    (does_row s l.to.0 (keeping_of n) l r (core_step_row done (core_of n.core)) (sym c.in-Some.ensures)
     to plan.apt plan.free plan.step.row) c.plan_does.ensures

@@ -1,7 +1,7 @@
 use Rattle.std.proofs.Common.{◌≡◌, List, ◌++◌, subst, sym, refl}
 use Rattle.letter_types.specs.declared.entries.Outgoing.{Outgoing}
 use Rattle.letter_types.specs.Kept.{wakes}
-use Rattle.tree_step.specs.CoreChanges.{core_prepared_row}
+use Rattle.tree_step.specs.CoreChanges.{core_step_row}
 use Rattle.tree_step.specs.Core.{core_of}
 use Rattle.tree_step.specs.Meant.{core_meant}
 use Rattle.node_keeping.specs.Meant.{IsPlanned}
@@ -18,7 +18,7 @@ pub returns-in_default : goal.returns-in_default
 returns-in_default c =
     let n = c.args.node.now in
     record {
-      row = silent (keeping_of n) (core_prepared_row (core_meant c.args.plan c.args.scratch.now) (core_of n.core));
+      row = silent (keeping_of n) (core_step_row (core_meant c.args.plan c.args.scratch.now) (core_of n.core));
       may = c.requires;
     }
 
@@ -28,7 +28,7 @@ returns c =
     let x = c.args.scratch.now in
     let r = c.in-Some.why in
     let done = core_meant c.args.plan x in
-    let out = waking_out (waits_alike r) (keeping_of n) (core_prepared_row done (core_of n.core)) in
+    let out = waking_out (waits_alike r) (keeping_of n) (core_step_row done (core_of n.core)) in
     subst (λ (ls : List Outgoing). IsPlanned out n (Does c.args.plan (Call r)) (record x { sent = ls }))
     (sym c.in_ok-push_wakes.ensures)
     (waking_step r n done (wakes (waits_alike r) n.kept) c.requires refl)

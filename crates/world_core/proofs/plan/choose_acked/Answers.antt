@@ -4,7 +4,7 @@ use Rattle.world_model.specs.Strict.{acked_core}
 use Rattle.tree_step.specs.Core.{IsCoreReady, core_of}
 use Rattle.tree_step.specs.CoreChanges.{IsCoreStepOf}
 use Rattle.tree_step.specs.Meant.{core_meant}
-use Rattle.node_keeping.specs.declared.plans.CorePlan.TheVariants.{Still, Does}
+use Rattle.node_keeping.specs.steps.ChosenStep.{Still, Does}
 use Rattle.node_keeping.proofs.Aptness.{ack_apt}
 use Rattle.world_core.proofs.Decisions.{is_ack, ready_from}
 use Rattle.node_keeping.proofs.Planned.{plan_one}

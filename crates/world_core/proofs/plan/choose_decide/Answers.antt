@@ -2,7 +2,7 @@ use Rattle.std.proofs.Common.{refl, sym}
 use Rattle.letter_types.specs.declared.bodies.Body.TheVariants.{Decide}
 use Rattle.tree_step.specs.Core.{core_of}
 use Rattle.tree_step.specs.Meant.{core_meant}
-use Rattle.node_keeping.specs.declared.plans.CorePlan.TheVariants.{Still, Does}
+use Rattle.node_keeping.specs.steps.ChosenStep.{Still, Does}
 use Rattle.node_keeping.proofs.Aptness.{decision_apt}
 use Rattle.world_core.proofs.Decisions.{is_decision, ready_from}
 use Rattle.node_keeping.proofs.Planned.{plan_one}

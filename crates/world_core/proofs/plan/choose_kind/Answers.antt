@@ -9,7 +9,7 @@ use Rattle.world_model.specs.Strict.{CoreKeeping, read_core}
 use Rattle.node_keeping.specs.Apt.{makes_by}
 use Rattle.node_keeping.specs.Choices.{choice_meant}
 use Rattle.node_keeping.specs.Plans.{IsPlanBy}
-use Rattle.node_keeping.specs.declared.plans.CoreChoice.{CoreChoice}
+use Rattle.node_keeping.specs.declared.node_plan.CoreChoice.{CoreChoice}
 use Rattle.node_keeping.proofs.Planned.{kind_plan}
 use Rattle.node_keeping.proofs.Waiting.{reads_free}
 use Rattle.world_core.proofs.plan.choose_kind.Goals as goal

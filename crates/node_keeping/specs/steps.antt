@@ -1,0 +1,4 @@
+pub mod Keep
+pub mod KeepingStep
+pub mod CoreKept
+pub mod ChosenStep
