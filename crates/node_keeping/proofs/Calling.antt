@@ -1,4 +1,4 @@
--- Letters that wait for one thing are woken, and are called from then on.
+-- Messages that wait for one thing are woken, and are called from then on.
 use Rattle.std.proofs.Common.{◌≡◌, ◌<◌, ℕ, Bool, true, false, ◌&&◌, ◌||◌, List, [], ◌∷◌, ◌++◌, refl, ap, sym, ◌∙◌, subst, arith, cond, Option, Some, None}
 use Rattle.std.specs.Prelude.{IsSome}
 use Rattle.std.specs.BTreeSet.{IsKeyRangeOf}
@@ -29,7 +29,7 @@ use Rattle.node_keeping.proofs.Finding.{each_came, part_is, part_of, places_of}
 use Rattle.node_keeping.proofs.Keeping.{Came-set, is_some-as}
 use Rattle.node_keeping.proofs.Orders.{is_eq-place, key_itself, same_key, same_number}
 
--- what letters wait for is no subtransaction
+-- what messages wait for is no subtransaction
 apart-sub : (t : TreeNo) (k : SubNo) (q : Key) → is_reason q ≡ true → is_eq (key_order (Sub t k) q) ≡ false
 apart-sub t k (Sub u l) reason = let no : false ≡ true = reason in cc
 apart-sub t k Show reason = refl
@@ -81,7 +81,7 @@ pub has_none : (q : Key) (next : ℕ) (ps part : List KeptPlace)
     → part ≡ [] → HasNone q next ps
 has_none q next ps part is empty a less = is.5 empty (place_by q a) (from-start q a, to-end q a next less)
 
--- where none waits, all stay as they are
+-- if none waits, all stay as they are
 unless-found : (q : Key) (next a : ℕ) (ps : List KeptPlace) (o : Option KeptLetter) → HasNone q next ps
     → has_place (place_by q a) ps ≡ is_found q o → (IsSome o → a < next) → is_found q o ≡ false
 unless-found q next a ps None none found before = refl
@@ -107,7 +107,7 @@ pub all_called : (q : Key) (next : ℕ) (es : Arrived) (ps : List KeptPlace) →
 all_called q next es ps kept reason none =
     stay-walk q es es reason (each_came es es kept.ascending (λ a there. refl)) (none-found q next es ps kept none)
 
--- a letter that waits is called
+-- a message that waits is called
 called-by : (q : Key) (a : ℕ) (x : KeptLetter) (e : ℕ × KeptLetter) (es : Arrived) (b : Bool)
     → cond b (Some e.1) (came a es) ≡ Some x → is_why q x.why ≡ true
     → (came a es ≡ Some x
@@ -207,7 +207,7 @@ kept_called q a next x es es' ps ps' kept reason is waits set came' up up' =
 abbrev nothing : Option Key
 nothing = None
 
--- the key of what a letter waits for finds those that wait for the same
+-- the key of what a message waits for finds those that wait for the same
 shown_alike : (why : KeepReason) → is_why Show why ≡ waits_alike ForShow why
 shown_alike ForShow = refl
 shown_alike (ForHolder h) = refl
@@ -235,7 +235,7 @@ is_reason_of ForShow q is = let same : Show ≡ q = cc in ap (λ (k : Key). is_r
 is_reason_of (ForHolder t) q is = let same : Holder t ≡ q = cc in ap (λ (k : Key). is_reason k) (sym same)
 is_reason_of Called q is = let no : nothing ≡ Some q = is in cc
 
--- for its own Wake no other letter waits
+-- for its own Wake no other message waits
 pub none_alike : (r : KeepReason) → key_of_why r ≡ None → (why : KeepReason) → waits_alike r why ≡ false
 none_alike ForShow is why = let no : Some Show ≡ nothing = is in cc
 none_alike (ForHolder t) is why = let no : Some (Holder t) ≡ nothing = is in cc

@@ -45,7 +45,7 @@ keeping_step_row (Keeps keep raises out) n =
 keeping_step_row (Does step change) n =
     made (record { core = after_core_change step n.core; kept = kept_after change n.kept }) step.parts.out
 
--- what is kept again is there
+-- what is deferred again is there
 abbrev pub MayBeKept : Keep → List KeptLetter → Type 0
 MayBeKept (New x) kept = ⊤
 MayBeKept (Again t k why) kept = IsSome (first_called t k kept)
@@ -55,7 +55,7 @@ pub record IsSettled (n : KeepingParts) : Type 0 where
   pub window : IsInWindow n.core.parts
   pub apart : IsApart (core_of n.core)
 
--- a node may keep a letter: what is raised is near, and what is kept again is there
+-- a node may defer a message: what is raised is near, and what is deferred again is there
 pub record MayKeepLetter (keep : Keep) (raises : Option Version) (n : KeepingParts) : Type 0 where
   pub settled : IsSettled n
   pub near : RaisesNear raises n.core.parts.turns

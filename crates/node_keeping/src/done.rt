@@ -15,7 +15,7 @@ use std::alloc::Global;
 use tree_step::{Plan, Scratch, do_plan};
 use tv_base::{NoMemory, Version};
 
-/// Keeps a letter: the one that came, or the called one once more. Where no memory is found what is kept is as it was.
+/// Defers a message: the one that came, or the called one once more. If memory runs out, what is deferred is as it was.
 fn keep_letter(
     kept: &mut KeptLetters,
     keep: KeepPlan,
@@ -49,7 +49,7 @@ fn raise_by(turns: &mut Turns, raises: Option<Version>)
     }
 }
 
-/// A letter is kept, and then the update version raised. Where no memory is found the node is as it was.
+/// A message is deferred, and then the update version raised. If memory runs out, the node is as it was.
 fn do_keep(node: &mut KeepingParts, keep: KeepPlan, scratch: &mut Scratch) -> Result<(), NoMemory>
     requires { MayKeepLetter (keep_meant keep scratch.old.letter) keep.raises node.old }
     ensures done { OnOk result (IsNodeDone (NodePlan.Keeps keep) scratch.old node.old node.new) }
@@ -73,7 +73,7 @@ fn change_kept(kept: &mut KeptLetters, plan: KeptPlan)
     }
 }
 
-/// The core does its step, and then the kept letters change. Where no memory is found the node is as it was.
+/// The core does its step, and then the deferred messages change. If memory runs out, the node is as it was.
 #[inline(always)]
 fn do_row(
     alloc: Global,
@@ -92,7 +92,7 @@ fn do_row(
     Ok(())
 }
 
-/// Does what is planned; what goes out stays in the scratch. Where no memory is found the node is as it was.
+/// Does what is planned; what goes out stays in the scratch. If memory runs out, the node is as it was.
 #[inline(always)]
 pub fn do_node(
     alloc: Global,

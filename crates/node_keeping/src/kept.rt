@@ -1,4 +1,4 @@
-// The letters that a node keeps.
+// The messages that a node defers.
 ghost use Rattle.std.specs.Prelude.{◌≡◌, [], ◌∷◌, ◌++◌, IfErr, IsSome, OnErr, OnOk};
 ghost use Rattle.std.specs.Option.{option_copied};
 ghost use Rattle.letter_types.specs.Kept.{brought, first_called, wakes, with_called, without_called};
@@ -41,7 +41,7 @@ impl Model for KeptLetters {
 }
 
 impl KeptLetters {
-    /// No letter.
+    /// No message.
     pub fn new(alloc: Global) -> KeptLetters
         ensures { result ≡ [] }
     {
@@ -52,8 +52,8 @@ impl KeptLetters {
         }
     }
 
-    /// The letter that this one brings to its node: of a Wake the first kept letter of its subtransaction that is
-    /// called; any other letter brings itself. None exactly for a Wake that calls none.
+    /// The message that this one brings to its node: of a Wake the first deferred message of its subtransaction that is
+    /// called; any other message brings itself. None exactly for a Wake that calls none.
     pub fn brought<'a>(&'a self, letter: &'a Letter) -> Option<&'a Letter>
         ensures { option_copied result ≡ brought self.now letter.now letter.now.body }
     {
@@ -65,15 +65,15 @@ impl KeptLetters {
         }
     }
 
-    /// Lets the first called letter of this subtransaction go, if there is one. Needs no memory.
+    /// Lets the first called message of this subtransaction go, if there is one. Needs no memory.
     pub fn let_called_go(&mut self, tree: TreeNo, sub: SubNo)
         ensures { self.new ≡ without_called tree sub self.old }
     {
         let_called_go(&mut self.letters, &mut self.places, self.next, tree, sub);
     }
 
-    /// Keeps one letter more, last. It comes back if memory runs out, and then what is kept is as it was. After 2^64
-    /// letters it finds no memory either.
+    /// Defers one message more, last. It comes back if memory runs out, and then what is deferred is as it was. After
+    /// 2^64 messages it finds no memory either.
     pub fn keep(&mut self, kept: KeptLetter) -> Result<(), (NoMemory, KeptLetter)>
         ensures ok { OnOk result (self.new ≡ self.old ++ kept ∷ []) }
         ensures refused { IfErr result (λ e. e.1 ≡ kept) }
@@ -87,8 +87,8 @@ impl KeptLetters {
         Ok(())
     }
 
-    /// The called letter of this subtransaction is kept again, last, for this reason. If memory runs out what is kept
-    /// is as it was.
+    /// The called message of this subtransaction is deferred again, last, for this reason. If memory runs out what is
+    /// deferred is as it was.
     pub fn keep_again(&mut self, tree: TreeNo, sub: SubNo, why: KeepReason) -> Result<(), NoMemory>
         requires { IsSome (first_called tree sub self.old) }
         ensures ok { OnOk result (self.new ≡ kept_again tree sub why self.old) }

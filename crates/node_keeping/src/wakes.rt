@@ -1,4 +1,4 @@
-// Which kept letters are woken, and that they are called from then on.
+// Which deferred messages are woken, and that they are called from then on.
 ghost use Rattle.std.specs.Prelude.{◌≡◌, ◌<◌, ◌++◌, length, IfNone, IfSome, OnOk, true};
 ghost use Rattle.std.specs.Map.{values_of};
 ghost use Rattle.letter_types.specs.Kept.{wakes, with_called};
@@ -29,7 +29,7 @@ pub(crate) fn push_wakes(
     Ok(())
 }
 
-/// Adds the Wake of the letter that came then. Where no memory is found the letters to be sent are as before.
+/// Adds the Wake of the message that came then. If memory runs out, the messages to be sent are as before.
 fn push_wake(
     letters: &BTreeMap<u64, KeptLetter>,
     arrival: u64,
@@ -49,7 +49,7 @@ fn push_wake(
     Ok(())
 }
 
-/// Each letter that waits for this is called from now on.
+/// Each message that waits for this is called from now on.
 pub(crate) fn call_all(
     letters: &mut BTreeMap<u64, KeptLetter>,
     places: &mut BTreeSet<KeptPlace>,
@@ -66,7 +66,7 @@ pub(crate) fn call_all(
     }
 }
 
-/// When the first letter with this key came, of those that came before the next.
+/// When the first message with this key came, of those that came before the next.
 fn first_arrival(places: &BTreeSet<KeptPlace>, key: Key, next: u64) -> Option<u64>
     ensures none { IfNone result (HasNone key next places.now.keys) }
     ensures some { IfSome result (λ arrival. has_place (place_by key arrival) places.now.keys ≡ true) }
@@ -78,7 +78,7 @@ fn first_arrival(places: &BTreeSet<KeptPlace>, key: Key, next: u64) -> Option<u6
     Some(place.arrival)
 }
 
-/// The letter that came then, and waits for this, is called from now on.
+/// The message that came then, and waits for this, is called from now on.
 fn call_one(
     letters: &mut BTreeMap<u64, KeptLetter>,
     places: &mut BTreeSet<KeptPlace>,

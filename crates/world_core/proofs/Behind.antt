@@ -1,4 +1,4 @@
--- Letters that a step sends behind its own change nothing of what it counts.
+-- Messages that a step sends behind its own change nothing of what it counts.
 use Rattle.std.proofs.Common.{◌≡◌, ◌<◌, ◌≤◌, List, ◌++◌, length, take, refl, ap, sym, subst, arith}
 use Rattle.std.specs.Prelude.{All, if◌then◌else◌}
 use Rattle.std.proofs.lemmas.List.{length-append, take-append-le}

@@ -36,14 +36,14 @@ silent n o =
     ∙ append-nil o.sent in
     λ i. record { state = record { core = o.state; kept = sym kept i }; sent = sym sent i; acts = o.acts }
 
--- a letter that may be kept wakes none
+-- a message that may be deferred wakes none
 asking_wakes_none : (c : Core) (t : TreeNo) (k : SubNo) (b : Body) → AsksFor t k b → (why : KeepReason)
     → woken_by c b why ≡ false
 asking_wakes_none c t k (Root u) asks why = refl
 asking_wakes_none c t k (SubLetter u j v) asks why = refl
 asking_wakes_none c t k _ asks why = absurd asks
 
--- so where a Wake brought it, it only goes
+-- so if a Wake brought it, it only goes
 pub wake_done : (p : ℕ) (t : TreeNo) (k : SubNo) (l r : Letter) (n : KeepingNode) (o : Out Core) → l.body ≡ Wake t k
     → AreKeptAt p n.kept → brought n.kept l l.body ≡ Some r
     → record { state = record { core = o.state; kept = without_called t k n.kept }; sent = o.sent; acts = o.acts }
@@ -60,7 +60,7 @@ wake_done p t k l r n o wake at is =
     ∙ append-nil o.sent in
     λ i. record { state = record { core = o.state; kept = sym kept i }; sent = sym sent i; acts = o.acts }
 
--- a letter that is no Wake brings itself
+-- a message that is no Wake brings itself
 abbrev pub is_wake : Body → Bool
 is_wake (Wake t k) = true
 is_wake (Root t) = false

@@ -1,4 +1,4 @@
-// What a node does with a letter, planned.
+// What a node does with a message, planned.
 ghost use Rattle.std.specs.Prelude.{◌≡◌, [], IfOk, None, OnOk};
 ghost use Rattle.letter_types.specs.Steps.{still};
 ghost use Rattle.world_model.specs.Keeping.{AsksFor};
@@ -14,7 +14,7 @@ ghost use Rattle.world_core.specs.inside.Bringing.{IsBroughtBy, IsDonePlan, IsKe
 ghost use Rattle.world_core.specs.Prepared.{IsLetterPlan};
 
 use crate::orders::is_obeyed_now;
-use crate::plan::plan_core;
+use crate::plan::choose_core;
 use letter_types::{Acts, Body, KeepReason, Letter, What};
 use node_keeping::{CoreChoice, KeepPlan, KeepingParts, KeptPlan, NodePlan};
 use std::alloc::Global;
@@ -23,7 +23,7 @@ use tree_step::{NodeCore, Plan, Scratch, wipe};
 use tv_base::{NoMemory, Version};
 use tx_trees::Script;
 
-/// A copy of a letter.
+/// A copy of a message.
 fn copy_letter(alloc: Global, letter: &Letter) -> Result<Letter, NoMemory>
     ensures { IfOk result (λ copy. copy ≡ letter.now) }
 {
@@ -47,7 +47,8 @@ fn leave_acts(alloc: Global, scratch: &mut Scratch)
     scratch.acts = acts;
 }
 
-/// Puts a copy of a letter that is kept into the scratch, unless it is a Wake: then what it called is kept again.
+/// Puts a copy of a message that is deferred into the scratch, unless it is a Wake: then what it called is deferred
+/// again.
 fn put_kept(
     alloc: Global,
     letter: &Letter,
@@ -69,7 +70,7 @@ fn put_kept(
     }
 }
 
-/// Plans that what a letter brought is kept, with the acts in the scratch.
+/// Plans that what a message brought is deferred, with the acts in the scratch.
 fn plan_keep(
     alloc: Global,
     node: &KeepingParts,
@@ -118,8 +119,8 @@ fn plan_waking(
     })
 }
 
-/// What the deferred messages wait for that an order of a coordinator that forgets wakes: a version to be shown, if it is
-/// an order to show one, and takes effect. Any other wakes none.
+/// What the deferred messages wait for that an order of a coordinator that forgets wakes: a version to be shown, if it
+/// is an order to show one, and takes effect. Any other wakes none.
 fn woken_by_order(
     core: &NodeCore,
     epoch: u64,
@@ -140,8 +141,8 @@ fn woken_by_order(
     }
 }
 
-/// What the deferred messages wait for that a message of this body wakes: a version to be shown, or a transaction's locks
-/// to be freed. None if it wakes no message.
+/// What the deferred messages wait for that a message of this body wakes: a version to be shown, or a transaction's
+/// locks to be freed. None if it wakes no message.
 fn woken_by(core: &NodeCore, body: &Body) -> Option<KeepReason>
     ensures { result ≡ woken_reason (core_of core.now) body.now }
 {
@@ -157,7 +158,7 @@ fn woken_by(core: &NodeCore, body: &Body) -> Option<KeepReason>
     }
 }
 
-/// Plans that what a letter brought is done.
+/// Plans that what a message brought is done.
 fn plan_does(
     node: &KeepingParts,
     letter: &Letter,
@@ -197,10 +198,12 @@ fn still(alloc: Global, node: &KeepingParts, scratch: &mut Scratch) -> NodePlan
     NodePlan::Still
 }
 
-/// Plans what a node does with a letter, its row of the node's table (docs/ALGORITHM.md, "Nodes with strict trees"):
-/// nothing where what it brings isn't apt, or where it is a Wake that calls none; else what it brought is kept, or is done.
-/// It changes nothing but the scratch, which gets all that takes memory.
-pub fn plan_letter(
+/// Plans what a node does with a message, its row of the node's table (docs/ALGORITHM.md, "Nodes with strict trees"):
+/// nothing if what it brings isn't enabled, or if it is a Wake that calls none; else what it brought is deferred, or is
+/// done. It changes nothing but the scratch, which gets what the step stages and sends. Memory to open a transaction,
+/// for locks, a held answer, a negative vote or a deferred message is taken at the head of `do_node`: if there is none,
+/// nothing has changed, or what has is taken back.
+pub(crate) fn plan_letter(
     alloc: Global,
     node: &KeepingParts,
     letter: &Letter,
@@ -214,7 +217,7 @@ pub fn plan_letter(
     let Some(brought) = node.kept.brought(letter) else {
         return Ok(still(alloc, node, scratch));
     };
-    match plan_core(alloc, &node.core, brought, script, scratch)? {
+    match choose_core(alloc, &node.core, brought, script, scratch)? {
         CoreChoice::Still => Ok(still(alloc, node, scratch)),
         CoreChoice::Keeps(keep) => plan_keep(alloc, node, letter, brought, keep, scratch),
         CoreChoice::Does(plan) => plan_does(node, letter, brought, plan, scratch),
