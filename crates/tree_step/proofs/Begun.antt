@@ -1,4 +1,4 @@
--- A tree that begins at its home, where its root is done already.
+-- A tree that begins at its home, once its root was done.
 use Rattle.std.proofs.Common.{◌≡◌, ℕ, ◌<◌, ◌==◌, true, false, zero, suc, set, replicate, refl, ap, sym, ◌∙◌, arith}
 use Rattle.std.specs.Prelude.{nat_lt, IsTrue, Option, Some, None}
 use Rattle.std.proofs.lemmas.Bool.Decides.{nat_tests}
@@ -28,7 +28,7 @@ pub root_missed : (t : TreeNo) (n : ℕ) (v : Version) (hs new : OpenTrees) → 
 root_missed t n v hs new is some =
     ap (λ (h : OpenTrees). misses t root_no h) is ∙ misses-begun t root_no n v hs ∙ some_below n some
 
--- so many are missing
+-- all its notices are missing
 pub more_missed : (t : TreeNo) (n : ℕ) (v : Version) (hs new : OpenTrees) → new ≡ begun t n v hs → 1 < n
     → 1 < missing_in t new
 more_missed t n v hs new is more =
@@ -53,7 +53,7 @@ root_answered t n v values hs some =
     let missed = root_missed t n v hs (begun t n v hs) refl some in
     rw missed (sym (answer_begun t n v values hs some))
 
--- the open trees once its root's notice is taken down, by its answer
+-- the open trees once its root's notice is noted, by its answer
 noted_root : (t : TreeNo) (n : ℕ) (v : Version) (values : Gets) (hs : OpenTrees) (o : Option Answered) → 0 < n
     → root_answer n t v values ≡ o
     → homes_noted t root_no values (begun t n v hs)

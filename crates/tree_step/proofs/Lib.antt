@@ -10,6 +10,4 @@ pub mod Opened
 pub mod Asking
 pub mod Stepped
 pub mod Undone
-pub mod HeldAside
 pub mod PlanOpened
-pub mod SameDoing

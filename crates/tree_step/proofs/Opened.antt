@@ -1,5 +1,5 @@
 -- A step whose tree is opened before all else.
-use Rattle.std.proofs.Common.{◌≡◌, ℕ, ◌<◌, ap, sym, subst, ◌∙◌, List, refl, Option, Some, None, arith}
+use Rattle.std.proofs.Common.{◌≡◌, ℕ, ◌<◌, ◌≤◌, ap, sym, subst, ◌∙◌, List, refl, Option, Some, None, arith}
 use Rattle.std.specs.Prelude.{IsSome}
 use Rattle.letter_types.specs.declared.entries.Outgoing.{Outgoing}
 use Rattle.letter_types.specs.declared.entries.StepOut.{StepOut}
@@ -41,9 +41,9 @@ shut (Turn v) = tt
 shut (Show v) = tt
 shut (Sweep v) = tt
 
--- a tree that is to be opened has more than one subtransaction and isn't open
+-- a tree that is to be opened has more than one subtransaction and at most 64, and isn't open
 abbrev pub IsShut : Opening → OpenTrees → Type 0
-IsShut o hs = (1 < o.subs) × (home_in o.tree hs ≡ None)
+IsShut o hs = (1 < o.subs) × (home_in o.tree hs ≡ None) × (o.subs ≤ 64)
 
 shut_by : (home : HomeChange) (o : Opening) (hs : OpenTrees) → opening_of home ≡ Some o → MayHome home hs → IsShut o hs
 shut_by (Open t n v values) o hs is may =

@@ -12,10 +12,11 @@ use Rattle.pair_counters.specs.Rows.{CounterRows, counts_of}
 use Rattle.item_versions.specs.Collecting.{collected_all, may_collect_all}
 use Rattle.item_versions.proofs.Window.{may_collect_all-windowed}
 use Rattle.version_collect.proofs.Collected.{IsWindowedTable-collected_all}
+use Rattle.tree_step.specs.Due.{is_left_behind}
 use Rattle.tree_step.specs.Node.{IsInWindow, state_of}
 use Rattle.tree_step.specs.declared.node.NodeParts.{NodeParts}
 
--- a number is at most another, or less, where the test says so
+-- a number is at most another if the test says so
 at_most : (m n : ℕ) → nat_le m n ≡ true → m ≤ n
 at_most m n is = grind (arith, nat_tests)
 
@@ -25,9 +26,7 @@ pub record IsLeftBehind (n : NodeParts) (v : Version) : Type 0 where
   pub read : v.0 ≤ n.turns.read.0
   pub update : v.0 ≤ n.turns.update.0
 
-pub left_behind : (n : NodeParts) (v : Version)
-    → (nat_le n.turns.low.0 v.0 && (nat_le v.0 n.turns.read.0 && nat_le v.0 n.turns.update.0)) ≡ true
-    → IsLeftBehind n v
+pub left_behind : (n : NodeParts) (v : Version) → is_left_behind v n.turns ≡ true → IsLeftBehind n v
 left_behind n v is =
     let rest = right_true (nat_le n.turns.low.0 v.0) (nat_le v.0 n.turns.read.0 && nat_le v.0 n.turns.update.0) is in
     record {
@@ -40,8 +39,7 @@ left_behind n v is =
     }
 
 -- its items may be collected to it
-pub left_may_collect : (n : NodeParts) (v : Version) → IsInWindow n
-    → (nat_le n.turns.low.0 v.0 && (nat_le v.0 n.turns.read.0 && nat_le v.0 n.turns.update.0)) ≡ true
+pub left_may_collect : (n : NodeParts) (v : Version) → IsInWindow n → is_left_behind v n.turns ≡ true
     → may_collect_all v n.items ≡ true
 left_may_collect n v win is = may_collect_all-windowed n.turns.low.0 v n.items (left_behind n v is).low win.items
 
@@ -50,8 +48,7 @@ later_low a low v is le = omega arith
 
 -- and the window begins with it then
 pub swept_window : (n : NodeParts) (v : Version) (turns : Turns) (items : Table) (next : CounterRows)
-    → IsInWindow n
-    → (nat_le n.turns.low.0 v.0 && (nat_le v.0 n.turns.read.0 && nat_le v.0 n.turns.update.0)) ≡ true → turns ≡ record n.turns { low = v }
+    → IsInWindow n → is_left_behind v n.turns ≡ true → turns ≡ record n.turns { low = v }
     → items ≡ collected_all v n.items → counts_of next ≡ dropped_below v.0 (counts_of n.counters)
     → IsInWindow (state_of turns items next n.homes)
 swept_window n v turns items next win timely turned is dropped =

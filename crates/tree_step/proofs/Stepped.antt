@@ -1,7 +1,5 @@
 -- A step of a node by its parts.
 use Rattle.std.proofs.Common.{◌≡◌, ℕ, ap, sym, subst, ◌∙◌, List}
-use Rattle.std.specs.Prelude.{MatchResult, OnErr, OnOk, Result}
-use Rattle.std.proofs.Common.{Ok, Err}
 use Rattle.tv_base.specs.declared.numbers.NodeNo.{NodeNo}
 use Rattle.tv_base.specs.declared.numbers.TreeNo.{TreeNo}
 use Rattle.letter_types.specs.declared.entries.StepOut.{StepOut}
@@ -28,12 +26,6 @@ use Rattle.tree_step.specs.Core.{IsApart, core_of, core_with}
 use Rattle.tree_step.specs.steps.CoreStep.{CoreStep}
 use Rattle.tree_step.specs.declared.node_core.NodeCore.{NodeCore}
 
-module _ {A E : Type 0} where
-  -- what is so after an answer, and after a failure
-  pub either_way : (P Q : Type 0) (r : Result A E) → OnOk r P → OnErr r Q → MatchResult r (λ _. P) (λ _. Q)
-  either_way P Q (Ok a) ok err = ok
-  either_way P Q (Err e) ok err = err
-
 -- a node with these homes
 abbrev pub with_homes : HomesData → NodeParts → NodeParts
 with_homes h n = record n { homes = h }
@@ -42,7 +34,7 @@ with_homes h n = record n { homes = h }
 abbrev pub with_counters : CounterRows → NodeParts → NodeParts
 with_counters k n = record n { counters = k }
 
--- where requests to these nodes are counted, and nothing else
+-- if requests to these nodes are counted, and nothing else
 pub asked_node : (n : NodeParts) (k : CounterRows) (v : ℕ) (qs rs : List NodeNo)
     → counts_of k ≡ with_asked v qs (counts_of n.counters) → qs ≡ rs
     → data_of (with_counters k n)
@@ -62,7 +54,7 @@ asked_window n k v qs asked w = record {
   counters = ap (λ (c : Counts). c.low) asked ∙ w.counters;
 }
 
--- what is made of the parts, the locks, the noes and the held answers is the row
+-- what is made of the parts, the locks, the negative votes and the held answers is the row
 pub stepped : (p : CoreStep) (n : NodeCore) (mid parts : NodeParts) (locks : List Lock)
     (refusals : List (TreeNo × NegativeVote)) (out : StepOut)
     → made (data_of mid) out ≡ step_row p.parts (data_of n.parts)

@@ -19,13 +19,17 @@ use Rattle.tree_step.specs.Changes.{IsTreePartOf}
 use Rattle.tree_step.specs.Core.{core_of}
 use Rattle.tree_step.specs.CoreChanges.{IsCoreStepOf}
 use Rattle.tree_step.specs.Due.{is_due}
+use Rattle.tree_step.specs.Meant.{part_meant}
 use Rattle.tree_step.specs.Node.{Staging, data_of, effect_on}
 use Rattle.tree_step.specs.declared.asked.InVersion.{InVersion}
 use Rattle.tree_step.specs.declared.asked.Request.{Request}
+use Rattle.tree_step.specs.declared.asked.SubTurn.{SubTurn}
 use Rattle.tree_step.specs.steps.TreeStep.{TreeStep}
 use Rattle.tree_step.specs.steps.CoreStep.{CoreStep}
 use Rattle.tree_step.specs.declared.node.NodeParts.{NodeParts}
 use Rattle.tree_step.specs.declared.node_core.NodeCore.{NodeCore}
+use Rattle.tree_step.specs.declared.plan.PartPlan.{PartPlan}
+use Rattle.tree_step.specs.declared.plan.Scratch.{Scratch}
 
 -- a letter is named, new and timely at a node
 abbrev pub IsDueAt : ScriptData → Letter → NodeParts → Type 0
@@ -40,11 +44,21 @@ abbrev pub IsTreePartAt : ScriptData → Letter → InVersion → Staging → No
 IsTreePartAt s l within e n p = IsTreePartOf
     (tree_part s l.to.0 l.from.0 within.version within.raises (effect_on n.items e) l.body (data_of n)) n p
 
+-- the same, planned: of a turn, before a scratch x and with a scratch y
+abbrev pub IsTreePlanAt : ScriptData → Letter → SubTurn → NodeParts → Scratch → Scratch → PartPlan → Type 0
+IsTreePlanAt s l turn n x y part =
+    IsTreePartAt s l turn.within (record { staged = x.staged; notice = turn.notice }) n (part_meant part y)
+
 -- the root of a tree
 abbrev pub IsRootPart : ScriptData → Request → Staging → NodeParts → TreeStep → Type 0
 IsRootPart s r e n p = IsTreePartOf
     (root_part s r.from.0 r.tree.0 r.version.0 (effect_on n.items e)
     (with_open_tree r.tree.0 (length (subs_at s r.tree.0)) r.version.0 (data_of n))) n p
+
+-- the same, planned
+abbrev pub IsRootPlan : ScriptData → Request → Notice → NodeParts → Scratch → Scratch → PartPlan → Type 0
+IsRootPlan s r notice n x y part =
+    IsRootPart s r (record { staged = x.staged; notice = notice }) n (part_meant part y)
 
 -- another subtransaction
 abbrev pub IsSubPart : ScriptData → Request → Bool → Staging → NodeParts → TreeStep → Type 0
@@ -52,6 +66,11 @@ IsSubPart s r raises e n p = IsTreePartOf (record {
   out = sub_done s r.from.0 r.tree.0 r.sub.0 r.version.0 raises (effect_on n.items e) (data_of n);
   answered = None;
 }) n p
+
+-- the same, planned
+abbrev pub IsSubPlan : ScriptData → Request → SubTurn → NodeParts → Scratch → Scratch → PartPlan → Type 0
+IsSubPlan s r turn n x y part =
+    IsSubPart s r turn.within.raises (record { staged = x.staged; notice = turn.notice }) n (part_meant part y)
 
 -- a notice of these values at its tree's home
 abbrev pub IsNotedPart : Request → List (ItemNo × Value) → NodeParts → TreeStep → Type 0
@@ -71,8 +90,8 @@ IsVoteStep s l t n p = IsCoreStepOf (strict_core s l.to.0 l.from.0 t l.body (cor
 abbrev pub IsNoteStep : ScriptData → Request → Notice → NodeCore → CoreStep → Type 0
 IsNoteStep s r notice n p = IsCoreStepOf (note_core s r.from.0 r.tree r.sub r.version notice (core_of n)) n p
 
--- what is counted once requests of version v are to go to these nodes, once the root of a tree is done, and once another
--- subtransaction is
+-- what is counted once requests of version v are to go to these nodes, once the root of a tree is done, and once
+-- another subtransaction is
 abbrev pub asked_counts : ℕ → List ℕ → Counts → Counts
 asked_counts v qs k = record k { numbers = asked_all v qs k.numbers }
 

@@ -1,5 +1,5 @@
 -- How a node's parts change in a step, and when they may.
-use Rattle.std.specs.Prelude.{◌≡◌, ◌<◌, ◌≤◌, ◌+◌, ◌&&◌, ⊤, if◌then◌else◌, List, [], ◌++◌, length, take, nat_le, All, IfOk, IsTrue, IsSome, None, OnErr, OnOk, Result}
+use Rattle.std.specs.Prelude.{◌≡◌, ◌<◌, ◌≤◌, ◌+◌, ⊤, if◌then◌else◌, List, [], ◌++◌, length, take, nat_le, All, IfOk, IsTrue, IsSome, None, OnErr, OnOk, Result}
 use Rattle.tv_base.specs.declared.numbers.NoMemory.{NoMemory}
 use Rattle.item_versions.specs.Table.{pending}
 use Rattle.item_versions.specs.Window.{in_window, IsWindowedTable}
@@ -15,6 +15,7 @@ use Rattle.tree_home.specs.Homes.{OpenTrees, begun, forgotten, home_in, misses, 
 use Rattle.item_versions.specs.Collecting.{collected_all}
 use Rattle.world_model.specs.Done.{TreeOut, counted_root, counted_sub, raised_if}
 use Rattle.world_model.specs.Notices.{reply_letters}
+use Rattle.tree_step.specs.Due.{is_left_behind}
 use Rattle.tree_step.specs.Node.{IsInWindow, Node, data_of}
 use Rattle.tree_step.specs.declared.node.NodeParts.{NodeParts}
 use Rattle.tree_step.specs.declared.counting.Counting.{Counting}
@@ -33,11 +34,11 @@ home_after (Open t n v values) hs = noted t (record { 0 = 0 }) values (begun t n
 home_after (Note t k values) hs = noted t k values hs
 home_after (Forget t) hs = forgotten t hs
 
--- what is opened isn't open yet and has more than one subtransaction, what is noted is missing beside another, and
--- what is forgotten is open
+-- what is opened isn't open yet and has more than one subtransaction and at most 64, what is noted is missing beside
+-- another, and what is forgotten is open
 abbrev pub MayHome : HomeChange → OpenTrees → Type 0
 MayHome Stay hs = ⊤
-MayHome (Open t n v values) hs = (1 < n) × (home_in t hs ≡ None)
+MayHome (Open t n v values) hs = (1 < n) × (home_in t hs ≡ None) × (n ≤ 64)
 MayHome (Note t k values) hs = IsTrue (misses t k hs) × (1 < missing_in t hs)
 MayHome (Forget t) hs = IsSome (home_in t hs)
 
@@ -103,8 +104,7 @@ MayChange Still sent n = ⊤
 MayChange (Tree c) sent n = MayChangeTree c sent n
 MayChange (Turn v) sent n = IsTrue (nat_le v.0 (n.turns.low.0 + 2))
 MayChange (Show v) sent n = IsTrue (in_window n.turns.low.0 v.0)
-MayChange (Sweep v) sent n =
-    IsTrue (nat_le n.turns.low.0 v.0 && (nat_le v.0 n.turns.read.0 && nat_le v.0 n.turns.update.0))
+MayChange (Sweep v) sent n = IsTrue (is_left_behind v n.turns)
 
 -- a node may make a change beside which these letters go out
 pub record MayDo (c : Change) (sent : List Outgoing) (n : NodeParts) : Type 0 where
@@ -151,7 +151,7 @@ pub record IsReplied (s : ScriptData) (part : TreeStep) (p : PartsStep) : Type 0
   pub may : (n : NodeParts) → MayDo part.parts.change part.parts.out.sent n → MayDo p.change p.out.sent n
 
 -- what came of a step of a node: it was done, and the node afterwards and what goes out are this row; or no memory was
--- found, and the node is as it was. The answers that it holds stay, it counts by as many nodes as before, and its
+-- found, and the node is unchanged. The answers that it holds stay, it counts by as many nodes as before, and its
 -- versions are in their window
 pub record IsDone (o : Out Node) (old new : NodeParts) (r : Result StepOut NoMemory) : Type 0 where
   pub row : IfOk r (λ out. made (data_of new) out ≡ o)
@@ -160,7 +160,7 @@ pub record IsDone (o : Out Node) (old new : NodeParts) (r : Result StepOut NoMem
   pub window : OnOk r (IsInWindow new)
   pub err : OnErr r (new ≡ old)
 
--- the same, where an equal copy of what goes out is kept
+-- the same, with an equal copy of what goes out
 pub record IsDoneTwice (o : Out Node) (old new : NodeParts) (r : Result Step NoMemory) : Type 0 where
   pub row : IfOk r (λ step. made (data_of new) step.given ≡ o)
   pub kept : IfOk r (λ step. step.kept ≡ step.given)

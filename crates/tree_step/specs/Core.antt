@@ -1,4 +1,4 @@
--- A node where there are strict trees, and what its table sees of it.
+-- A node's core, and what its table sees of it.
 use Rattle.std.specs.Prelude.{ℕ, ◌≡◌, List, IsSome, None}
 use Rattle.tv_base.specs.declared.numbers.TreeNo.{TreeNo}
 use Rattle.tree_home.specs.HeldAnswers.{HeldAnswers, held_answers, held_in}
@@ -14,7 +14,7 @@ use Rattle.tree_step.specs.Node.{IsInWindow, IsReady, data_of}
 use Rattle.tree_step.specs.declared.node.NodeParts.{NodeParts}
 use Rattle.tree_step.specs.declared.node_core.NodeCore.{NodeCore}
 
--- what the table sees of these parts, locks, noes and epoch
+-- what the table sees of these parts, locks, negative votes and epoch
 abbrev pub core_with : NodeParts → List Lock → List (TreeNo × NegativeVote) → ℕ → Core
 core_with parts locks refusals epoch = record {
   node = data_of parts;

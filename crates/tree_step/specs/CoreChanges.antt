@@ -27,7 +27,7 @@ locks_with (Take t wanted) ls = with_locks t wanted ls
 locks_with (Free t) ls = without t ls
 locks_with _ ls = ls
 
--- the noes afterwards
+-- the negative votes afterwards
 abbrev pub refusals_with : VoteChange → Refusals → Refusals
 refusals_with (Note t refusal) rs = put_at t.0 (Some refusal) rs
 refusals_with (Drop t) rs = put_at t.0 None rs
@@ -52,13 +52,13 @@ abbrev pub asked_with : HoldChange → Numbers → Numbers
 asked_with (Hold a visited) n = asked_all a.version.0 (numbers_of_nodes visited) n
 asked_with _ n = n
 
--- what is held isn't held yet and waits for one acknowledgement at least, and what is acknowledged is held
+-- what is held isn't held yet and waits for at least one acknowledgement, and what is acknowledged is held
 abbrev pub MayHold : HoldChange → HeldAnswers → Type 0
 MayHold (Hold a visited) hs = (0 < length visited) × (held_in a.tree hs ≡ None)
 MayHold (Ack t) hs = IsSome (held_in t hs)
 MayHold _ hs = ⊤
 
--- it waits for at most 64 of so many nodes, and its version is one that this node counts in
+-- it waits for at most 64 of these nodes, and its version is one that this node counts in
 abbrev pub MayAsk : HoldChange → ℕ → Node → Type 0
 MayAsk (Hold a visited) nodes st =
     IsTrue (in_window st.turns.low.0 a.version.0) × All (λ (q : NodeNo). q.0 < nodes) visited × (length visited ≤ 64)
@@ -105,7 +105,7 @@ pub record IsCoreStepOf (o : Out Core) (n : NodeCore) (p : CoreStep) : Type 0 wh
   pub may : MayDoCore p n
 
 -- what came of a step of a node: it was done, and the node afterwards and what goes out are this row; or no memory was
--- found, and the node is as it was. It counts by as many nodes as before, its versions are in their window, and of no
+-- found, and the node is unchanged. It counts by as many nodes as before, its versions are in their window, and of no
 -- tree that is open an answer is held
 pub record IsCoreDone (o : Out Core) (old new : NodeCore) (r : Result StepOut NoMemory) : Type 0 where
   pub row : IfOk r (λ out. made (core_of new) out ≡ o)

@@ -3,9 +3,9 @@ ghost use Rattle.std.specs.Prelude.{◌≡◌, [], IfOk, IsTrue, OnOk};
 ghost use Rattle.item_versions.specs.Table.{pending};
 ghost use Rattle.item_versions.specs.Window.{in_window, IsWindowedTable};
 ghost use Rattle.world_model.specs.Asked.{asked_ops, asked_version};
-ghost use Rattle.tree_step.specs.Meant.{part_meant};
+ghost use Rattle.tree_step.specs.Meant.{ChangesPart};
 ghost use Rattle.tree_step.specs.Node.{IsReady};
-ghost use Rattle.tree_step.specs.AtNode.{IsDueAt, IsTreePartAt};
+ghost use Rattle.tree_step.specs.AtNode.{IsDueAt, IsTreePlanAt};
 
 use crate::lookups::ops_of;
 use crate::node::NodeParts;
@@ -16,7 +16,7 @@ use std::alloc::Global;
 use tv_base::{NoMemory, NodeNo, SubNo, TreeNo, Version};
 use tx_trees::{Script, SubOp};
 
-/// The version that a letter asks for, where a root takes version `root`.
+/// The version that a letter asks for, if a root takes version `root`.
 pub fn asked_version(letter: &Letter, root: Version) -> Version
     ensures { result ≡ asked_version root letter.now.body }
 {
@@ -37,7 +37,7 @@ pub fn asked_ops<'a>(letter: &Letter, script: &'a Script) -> &'a [SubOp]
     }
 }
 
-/// What a letter of a tree asks of a node: to do a subtransaction, or to take its notice down.
+/// What a letter of a tree asks of a node: to do a subtransaction, or to note its notice.
 #[derive(Clone, Copy)]
 pub struct Request {
     pub tree: TreeNo,
@@ -83,14 +83,8 @@ pub fn plan_tree(
     requires none_sent { scratch.old.sent ≡ [] }
     requires no_acts { scratch.old.acts ≡ [] }
     // What is planned.
-    ensures part { IfOk result (λ part. IsTreePartAt script.now letter.now turn.within
-        (record { staged = scratch.old.staged; notice = turn.notice }) node.now (part_meant part scratch.new)) }
-    ensures rest { OnOk result (scratch.new ≡ record scratch.old {
-      staged = scratch.new.staged;
-      values = scratch.new.values;
-      sent = scratch.new.sent;
-      acts = scratch.new.acts;
-    }) }
+    ensures part { IfOk result (IsTreePlanAt script.now letter.now turn node.now scratch.old scratch.new) }
+    ensures rest { OnOk result (ChangesPart scratch.old scratch.new) }
 {
     let version = turn.within.version;
     match &letter.body {

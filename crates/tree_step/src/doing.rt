@@ -1,5 +1,5 @@
-// What is planned is done.
-ghost use Rattle.std.specs.Prelude.{ℕ, ◌≡◌, ◌<◌, ◌≤◌, ◌+◌, ◌^◌, [], length, All, Some, MatchResult, OnErr, OnOk};
+// A node does what is planned.
+ghost use Rattle.std.specs.Prelude.{ℕ, ◌≡◌, ◌<◌, ◌≤◌, ◌+◌, ◌^◌, [], length, All, Some, OnErr, OnOk};
 ghost use Rattle.pair_counters.specs.Rows.{counts_of};
 ghost use Rattle.tree_home.specs.Homes.{open_trees};
 ghost use Rattle.tree_home.specs.Maps.{by_tree};
@@ -7,7 +7,7 @@ ghost use Rattle.tree_step.specs.Changes.{home_after, MayDo, MayHome, OpensNone,
 ghost use Rattle.tree_step.specs.steps.Change.{Tree};
 ghost use Rattle.tree_step.specs.steps.HoldChange.{Stay, Ack};
 ghost use Rattle.tree_step.specs.CoreChanges.{MayDoCore, epoch_with, numbers_of_nodes};
-ghost use Rattle.tree_step.specs.Meant.{core_meant, doing_meant, held_by, home_meant, IsDoingDone, IsStepDone, locks_meant, meant_with, out_in, refusals_meant, tree_meant};
+ghost use Rattle.tree_step.specs.Meant.{core_meant, doing_meant, home_meant, IsDoingDone, IsStepDone, locks_meant, meant_held, meant_with, out_in, refusals_meant, tree_meant};
 ghost use Rattle.tree_step.specs.inside.PlanOpening.{doing_once_open, opening_by, plan_once_open};
 ghost use Rattle.tree_step.specs.AtNode.{asked_counts};
 ghost use Rattle.world_model.specs.Done.{raised_if};
@@ -28,7 +28,7 @@ use tree_home::{Answered, Homes};
 use tv_base::{NoMemory, NodeNo, SubNo, TreeNo, Version};
 use version_collect::collect_table;
 
-/// The home of a tree does what is planned, where no tree is to be opened. Needs no memory.
+/// The home of a tree does what is planned, if no tree is to be opened. It needs no memory.
 #[inline(always)]
 fn do_home(homes: &mut Homes, plan: TreePlan, values: Values)
     requires may { MayHome (home_meant plan values) (open_trees homes.old) }
@@ -44,7 +44,7 @@ fn do_home(homes: &mut Homes, plan: TreePlan, values: Values)
     }
 }
 
-/// Raises the update version where it is to be raised.
+/// Raises the update version to `v` if `raises`.
 fn raise_if(turns: &mut Turns, raises: bool, v: Version)
     ensures { turns.new ≡ raised_if raises v.0 turns.old }
 {
@@ -53,7 +53,7 @@ fn raise_if(turns: &mut Turns, raises: bool, v: Version)
     }
 }
 
-/// A subtransaction is done, or a notice is brought, where no tree is to be opened. Needs no memory.
+/// Does a subtransaction or takes a notice, if no tree is to be opened. It needs no memory.
 #[inline(always)]
 fn do_tree(alloc: Global, parts: &mut NodeParts, plan: TreePlan, scratch: &mut Scratch)
     requires may { MayDo (Tree (tree_meant plan scratch.old)) scratch.old.sent parts.old }
@@ -69,14 +69,13 @@ fn do_tree(alloc: Global, parts: &mut NodeParts, plan: TreePlan, scratch: &mut S
     parts.items.put_staged(staged);
 }
 
-/// The parts do what is planned, where no tree is to be opened. Needs no memory.
+/// The parts do what is planned, if no tree is to be opened. It needs no memory.
 #[inline(always)]
 fn do_parts(alloc: Global, parts: &mut NodeParts, doing: Doing, scratch: &mut Scratch)
     requires may { MayDo (doing_meant doing scratch.old) scratch.old.sent parts.old }
     requires none { OpensNone (doing_meant doing scratch.old) }
     ensures done { IsDoingDone doing scratch.old parts.old parts.new }
     ensures out { out_in scratch.new ≡ out_in scratch.old }
-    ensures calls { scratch.new.calls ≡ scratch.old.calls }
     ensures told { scratch.new.told ≡ scratch.old.told }
 {
     match doing {
@@ -94,7 +93,8 @@ fn do_parts(alloc: Global, parts: &mut NodeParts, doing: Doing, scratch: &mut Sc
     }
 }
 
-/// Locks are taken or go, or a no is put in or out: the last that may need memory. Where none is found all is as it was.
+/// Takes or frees locks, or puts a negative vote in or takes it out: the last that may need memory. If no memory is
+/// found, both are unchanged.
 #[inline(always)]
 fn change_votes(
     locks: &mut Locks,
@@ -102,11 +102,10 @@ fn change_votes(
     votes: VotePlan,
     scratch: &Scratch,
 ) -> Result<(), NoMemory>
-    ensures locks { MatchResult result (λ _. locks.new ≡ locks_meant votes scratch.now locks.old)
-        (λ _. locks.new ≡ locks.old) }
-    ensures refusals { MatchResult result
-        (λ _. by_tree refusals.new ≡ refusals_meant votes scratch.now refusals.old)
-        (λ _. refusals.new ≡ refusals.old) }
+    ensures locks { OnOk result (locks.new ≡ locks_meant votes scratch.now locks.old) }
+    ensures refusals { OnOk result (by_tree refusals.new ≡ refusals_meant votes scratch.now refusals.old) }
+    ensures same_locks { OnErr result (locks.new ≡ locks.old) }
+    ensures same_refusals { OnErr result (refusals.new ≡ refusals.old) }
 {
     match votes {
         VotePlan::Stay => Ok(()),
@@ -126,7 +125,7 @@ fn change_votes(
     }
 }
 
-/// The node hears of an epoch, if it hears of one.
+/// Puts the epoch that the node hears of, if it hears of one.
 fn hear_of(epoch: &mut u64, heard: Option<u64>)
     ensures { epoch.new ≡ epoch_with heard epoch.old }
 {
@@ -135,8 +134,8 @@ fn hear_of(epoch: &mut u64, heard: Option<u64>)
     }
 }
 
-/// Does what is planned, where no tree is to be opened and the held answers stay. Where no memory is found the node is as
-/// it was.
+/// Does what is planned, if no tree is to be opened and the held answers stay. If no memory is found, the node is
+/// unchanged.
 #[inline(always)]
 fn do_still(
     alloc: Global,
@@ -149,7 +148,6 @@ fn do_still(
     ensures done { OnOk result (IsStepDone (meant_with plan scratch.old Stay) scratch.old core.old core.new) }
     ensures err { OnErr result (core.new ≡ core.old) }
     ensures out { out_in scratch.new ≡ out_in scratch.old }
-    ensures calls { scratch.new.calls ≡ scratch.old.calls }
 {
     change_votes(&mut core.locks, &mut core.refusals, plan.votes, scratch)?;
     do_parts(alloc, &mut core.parts, plan.doing, scratch);
@@ -157,8 +155,8 @@ fn do_still(
     Ok(())
 }
 
-/// Does what is planned, where no tree is to be opened, and takes an acknowledgement of a tree down. Where no memory is
-/// found the node is as it was.
+/// Does what is planned, if no tree is to be opened, and counts an acknowledgement of a tree. If no memory is found,
+/// the node is unchanged.
 fn do_ack(
     alloc: Global,
     core: &mut NodeCore,
@@ -171,7 +169,6 @@ fn do_ack(
     ensures done { OnOk result (IsStepDone (meant_with plan scratch.old (Ack tree)) scratch.old core.old core.new) }
     ensures err { OnErr result (core.new ≡ core.old) }
     ensures out { out_in scratch.new ≡ out_in scratch.old }
-    ensures calls { scratch.new.calls ≡ scratch.old.calls }
 {
     change_votes(&mut core.locks, &mut core.refusals, plan.votes, scratch)?;
     do_parts(alloc, &mut core.parts, plan.doing, scratch);
@@ -194,8 +191,8 @@ fn ask_each(counters: &mut Counters, v: Version, nodes: &[NodeNo])
     }
 }
 
-/// An answer is held, and then the rest is done that is planned, where no tree is to be opened. Where no memory is found
-/// the node is as it was.
+/// Holds the answer of a tree, and then does the rest that is planned, if no tree is to be opened. If no memory is
+/// found, the node is unchanged.
 fn do_hold(
     alloc: Global,
     core: &mut NodeCore,
@@ -204,13 +201,11 @@ fn do_hold(
     version: Version,
     scratch: &mut Scratch,
 ) -> Result<(), NoMemory>
-    requires may { MayDoCore (meant_with plan scratch.old (held_by tree version scratch.old)) core.old }
+    requires may { MayDoCore (meant_held plan tree version scratch.old) core.old }
     requires none { OpensNone (doing_meant plan.doing scratch.old) }
-    ensures done { OnOk result
-        (IsStepDone (meant_with plan scratch.old (held_by tree version scratch.old)) scratch.old core.old core.new) }
+    ensures done { OnOk result (IsStepDone (meant_held plan tree version scratch.old) scratch.old core.old core.new) }
     ensures err { OnErr result (core.new ≡ core.old) }
     ensures out { out_in scratch.new ≡ out_in scratch.old }
-    ensures calls { scratch.new.calls ≡ scratch.old.calls }
 {
     let values = mem::replace(&mut scratch.held, Values::new(alloc));
     let answered = Answered {
@@ -231,7 +226,7 @@ fn do_hold(
     Ok(())
 }
 
-/// Does what is planned, where no tree is to be opened. Where no memory is found the node is as it was.
+/// Does what is planned, if no tree is to be opened. If no memory is found, the node is unchanged.
 #[inline(always)]
 fn do_holds(
     alloc: Global,
@@ -244,7 +239,6 @@ fn do_holds(
     ensures done { OnOk result (IsStepDone (core_meant plan scratch.old) scratch.old core.old core.new) }
     ensures err { OnErr result (core.new ≡ core.old) }
     ensures out { out_in scratch.new ≡ out_in scratch.old }
-    ensures calls { scratch.new.calls ≡ scratch.old.calls }
 {
     match plan.holds {
         HoldPlan::Stay => do_still(alloc, core, plan, scratch),
@@ -253,7 +247,7 @@ fn do_holds(
     }
 }
 
-/// A tree of so many subtransactions that is to be opened at its home.
+/// A tree of `subs` subtransactions that is to be opened at its home.
 #[derive(Clone, Copy)]
 struct Opening {
     tree: TreeNo,
@@ -279,7 +273,7 @@ fn opening_by(doing: Doing) -> Option<Opening>
     }
 }
 
-/// What is left to do once the tree is open: its root's notice is taken down.
+/// What is left to do once the tree is open: its root's notice is noted.
 #[inline(always)]
 fn doing_once_open(doing: Doing) -> Doing
     ensures { result ≡ doing_once_open doing }
@@ -308,7 +302,7 @@ fn once_open(plan: Plan) -> Plan
     }
 }
 
-/// Opens a tree, and then does the rest that is planned. Where no memory is found the node is as it was.
+/// Opens a tree, and then does the rest that is planned. If no memory is found, the node is unchanged.
 fn do_open(
     alloc: Global,
     core: &mut NodeCore,
@@ -321,7 +315,6 @@ fn do_open(
     ensures done { OnOk result (IsStepDone (core_meant plan scratch.old) scratch.old core.old core.new) }
     ensures err { OnErr result (core.new ≡ core.old) }
     ensures out { out_in scratch.new ≡ out_in scratch.old }
-    ensures calls { scratch.new.calls ≡ scratch.old.calls }
 {
     let Opening {
         tree,
@@ -338,8 +331,9 @@ fn do_open(
     }
 }
 
-/// Does what is planned; what goes out stays in the scratch. The first calls alone may need memory: to open a tree, to
-/// hold an answer, for locks and noes. Where they find none the node is as it was.
+/// Does what is planned; what goes out stays in the scratch. Only its first calls may need memory: to open a tree, to
+/// hold an answer, for locks and negative votes. If no memory is found, the node is unchanged, and the scratch may have
+/// anything.
 #[inline(always)]
 pub fn do_plan(
     alloc: Global,
@@ -351,7 +345,6 @@ pub fn do_plan(
     ensures done { OnOk result (IsStepDone (core_meant plan scratch.old) scratch.old core.old core.new) }
     ensures err { OnErr result (core.new ≡ core.old) }
     ensures out { out_in scratch.new ≡ out_in scratch.old }
-    ensures calls { scratch.new.calls ≡ scratch.old.calls }
 {
     match opening_by(plan.doing) {
         None => do_holds(alloc, core, plan, scratch),
@@ -359,8 +352,8 @@ pub fn do_plan(
     }
 }
 
-/// The parts do what is planned; what goes out stays in the scratch. To open a tree alone may need memory: where none is
-/// found the parts are as they were.
+/// The parts do what is planned; what goes out stays in the scratch. Only to open a tree may need memory. If no memory
+/// is found, the parts are unchanged.
 pub(crate) fn do_whole(
     alloc: Global,
     parts: &mut NodeParts,

@@ -1,10 +1,10 @@
-// Whether a letter is one that a node takes, and an order one that it can obey.
-ghost use Rattle.std.specs.Prelude.{◌≡◌, ◌==◌, ◌&&◌, ◌+◌, not, is_some, nat_le, nat_lt, length};
+// Whether a letter is one that a node takes, and whether it can obey an order.
+ghost use Rattle.std.specs.Prelude.{◌≡◌, ◌==◌, ◌&&◌, ◌+◌, not, is_some, nat_le, nat_lt};
 ghost use Rattle.item_versions.specs.Window.{in_window};
-ghost use Rattle.tx_trees.specs.ScriptData.{home_of, node_of, subs_at};
+ghost use Rattle.tx_trees.specs.ScriptData.{home_of, node_of};
 ghost use Rattle.tree_home.specs.Homes.{home_in, open_trees};
 ghost use Rattle.world_model.specs.Named.{is_did, is_strict_at, suits};
-ghost use Rattle.tree_step.specs.Due.{can_obey, is_due};
+ghost use Rattle.tree_step.specs.Due.{can_obey, is_due, is_left_behind, is_notice_for};
 ghost use Rattle.tree_step.specs.Node.{data_of};
 
 use crate::lookups::{is_strict, node_of};
@@ -15,7 +15,7 @@ use tree_home::Homes;
 use tv_base::{ActorNo, SubNo, TreeNo, Version};
 use tx_trees::Script;
 
-/// How many versions a node goes by at a time.
+/// How many versions a node goes by at a time: the low version and the two after it.
 const VERSIONS: u64 = 3;
 
 /// Whether a tree's root is at node `at`, which doesn't have the tree.
@@ -51,8 +51,7 @@ fn suits(script: &Script, tree: TreeNo, notice: &Notice) -> bool
 
 /// Whether a tree has its home at node `at`, and the subtransaction, and the sender is a node.
 fn is_notice_for(script: &Script, at: ActorNo, from: ActorNo, tree: TreeNo, sub: SubNo) -> bool
-    ensures { result ≡ (home_of script.now tree.0 == at.0) &&
-        (nat_lt sub.0 (length (subs_at script.now tree.0)) && nat_lt from.0 script.now.nodes) }
+    ensures { result ≡ is_notice_for script.now at.0 from.0 tree sub }
 {
     script.home_of(tree) == at.0
         && (sub.0 as usize) < script.subs_of(tree).len()
@@ -83,15 +82,14 @@ fn is_within_reach(turns: &Turns, version: Version) -> bool
 /// Whether a version is from the low version up, and neither above the one that is read nor above the one that is
 /// updated: a node may collect to it.
 fn is_left_behind(turns: &Turns, version: Version) -> bool
-    ensures { result ≡ nat_le turns.now.low.0 version.0
-        && (nat_le version.0 turns.now.read.0 && nat_le version.0 turns.now.update.0) }
+    ensures { result ≡ is_left_behind version turns.now }
 {
     turns.low.0 <= version.0 && version.0 <= turns.read.0 && version.0 <= turns.update.0
 }
 
 /// Whether a node can go by a version that it is ordered to raise to, to show or to collect to: one to raise to is at
-/// most the last of the three versions that begin with the low version, one to show is one of them, and one to collect to
-/// is from the low version up and neither read nor updated below.
+/// most the last of the three versions that begin with the low version, one to show is one of them, and one to collect
+/// to is from the low version up and neither read nor updated below.
 pub fn can_obey(turns: &Turns, what: What, version: Version) -> bool
     ensures { result ≡ can_obey what version turns.now }
 {

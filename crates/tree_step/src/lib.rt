@@ -1,6 +1,6 @@
-//! What a node keeps, its parts, and its core: these parts with its locks, the answers that it holds, the noes and the
-//! epoch of which it has heard. Whether a letter is due; what doing a subtransaction counts, sends and tells, and what
-//! a home makes of a notice, whatever kind of tree it is of, planned; and the one call that changes a core.
+//! A node's state: its parts, and its core, which is these parts with locks, held answers, negative votes and the epoch
+//! of which the node has heard. Whether a letter is due. The plan of a subtransaction and of a notice, of any kind of
+//! tree: what is counted, sent and told. And the one call that changes a core.
 #![tactic(auto)]
 
 mod asked;

@@ -7,7 +7,7 @@ ghost use Rattle.world_model.specs.Named.{is_strict_at, tree_kind_at};
 use tv_base::{SubNo, TreeNo};
 use tx_trees::{Script, Sub, SubOp, TreeKind};
 
-/// The kind of a tree. None exactly where it isn't there.
+/// The kind of a tree. None exactly if the script has no such tree.
 pub fn kind_of(script: &Script, tree: TreeNo) -> Option<TreeKind>
     ensures { result ≡ tree_kind_at script.now tree.0 }
 {
@@ -17,21 +17,21 @@ pub fn kind_of(script: &Script, tree: TreeNo) -> Option<TreeKind>
     }
 }
 
-/// Whether a tree is there, and is strict.
+/// Whether the script has the tree, and it is strict.
 pub fn is_strict(script: &Script, tree: TreeNo) -> bool
     ensures { result ≡ is_strict_at script.now tree.0 }
 {
     matches!(kind_of(script, tree), Some(TreeKind::Strict))
 }
 
-/// A subtransaction of the script. None exactly where it isn't there.
+/// A subtransaction of the script. None exactly if the script doesn't have it.
 fn find_sub(script: &Script, tree: TreeNo, sub: SubNo) -> Option<&Sub>
     ensures { option_copied result ≡ sub_at script.now tree.0 sub.0 }
 {
     script.subs_of(tree).get(sub.0 as usize)
 }
 
-/// The node of a subtransaction; where it isn't there, the number of nodes, which is no node.
+/// The node of a subtransaction; if the script doesn't have it, the number of nodes, which is no node.
 pub(crate) fn node_of(script: &Script, tree: TreeNo, sub: SubNo) -> u8
     ensures { result ≡ node_of script.now tree.0 sub.0 }
 {
@@ -41,7 +41,7 @@ pub(crate) fn node_of(script: &Script, tree: TreeNo, sub: SubNo) -> u8
     }
 }
 
-/// The operations of a subtransaction, of which there are none where it isn't there.
+/// The operations of a subtransaction; none if the script doesn't have it.
 pub(crate) fn ops_of(script: &Script, tree: TreeNo, sub: SubNo) -> &[SubOp]
     ensures { result.now ≡ ops_of script.now tree.0 sub.0 }
 {

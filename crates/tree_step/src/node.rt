@@ -1,4 +1,4 @@
-// What a node keeps.
+// A node's parts.
 use item_versions::ItemTable;
 use node_versions::Turns;
 use pair_counters::Counters;

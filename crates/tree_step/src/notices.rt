@@ -4,9 +4,9 @@ ghost use Rattle.item_versions.specs.Window.{in_window};
 ghost use Rattle.pair_counters.specs.Numbers.{AllBelow, MOST_COUNT};
 ghost use Rattle.pair_counters.specs.Rows.{counts_of};
 ghost use Rattle.tree_home.specs.Homes.{open_trees};
-ghost use Rattle.tree_step.specs.Changes.{home_after, MayHome};
-ghost use Rattle.world_model.specs.Notices.{answer_noted, homes_noted};
-ghost use Rattle.tree_step.specs.Meant.{home_planned_at, part_meant};
+ghost use Rattle.world_model.specs.Notices.{answer_noted};
+ghost use Rattle.tree_step.specs.Meant.{ChangesPart, part_meant};
+ghost use Rattle.tree_step.specs.inside.Noting.{IsHomeNoted};
 ghost use Rattle.tree_step.specs.Node.{IsInWindow};
 ghost use Rattle.tree_step.specs.AtNode.{IsNotedPart};
 
@@ -19,8 +19,8 @@ use std::alloc::Global;
 use tree_home::{Answered, Homes, Prospect};
 use tv_base::NoMemory;
 
-/// What the home does for a notice of these values, of which a copy is noted if it is taken down, and what the tree is
-/// answered then.
+/// What the home does for a notice of these values, of which it gets a copy in `noted` if it notes them; and the tree's
+/// answer, if no notice is missing then.
 #[tactic(auto, using(crate::proofs::Noticed::noticed))]
 fn notice_home(
     alloc: Global,
@@ -29,11 +29,9 @@ fn notice_home(
     values: &Values,
     noted: &mut Values,
 ) -> Result<(HomePlan, Option<Answered>), NoMemory>
-    ensures after { IfOk result (λ r. home_after (home_planned_at request.tree request.sub noted.new r.0) (open_trees homes.now)
-        ≡ homes_noted request.tree request.sub values.now (open_trees homes.now)) }
+    ensures home { IfOk result (λ r. IsHomeNoted request values.now noted.new homes.now r.0) }
     ensures answered { IfOk result (λ r. r.1
         ≡ answer_noted request.tree request.sub values.now (open_trees homes.now)) }
-    ensures may { IfOk result (λ r. MayHome (home_planned_at request.tree request.sub noted.new r.0) (open_trees homes.now)) }
 {
     match homes.would_answer(request.tree, request.sub, values)? {
         Prospect::NotMissing => Ok((HomePlan::Stay, None)),
@@ -45,8 +43,9 @@ fn notice_home(
     }
 }
 
-/// Plans that a tree's home takes a notice of these values down and counts its completion, before the tree is answered,
-/// which it is where no notice is missing any more. A notice that isn't missing is counted and changes nothing else.
+/// Plans that a tree's home notes a notice of these values and counts its completion, before the tree is answered: it
+/// has an answer if no notice is missing then. A notice that isn't missing is counted and changes nothing else. If no
+/// memory is found, the scratch may have anything.
 pub fn plan_notice(
     alloc: Global,
     node: &NodeParts,
@@ -65,12 +64,7 @@ pub fn plan_notice(
     requires no_acts { scratch.old.acts ≡ [] }
     // What is planned.
     ensures part { IfOk result (λ part. IsNotedPart request values.now node.now (part_meant part scratch.new)) }
-    ensures rest { OnOk result (scratch.new ≡ record scratch.old {
-      staged = scratch.new.staged;
-      values = scratch.new.values;
-      sent = scratch.new.sent;
-      acts = scratch.new.acts;
-    }) }
+    ensures rest { OnOk result (ChangesPart scratch.old scratch.new) }
 {
     let (home, answered) = notice_home(alloc, &node.homes, request, values, &mut scratch.values)?;
     let Request {

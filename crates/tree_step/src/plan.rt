@@ -5,7 +5,7 @@ ghost use Rattle.tree_step.specs.Meant.{IsEmpty, out_in};
 use crate::counting::Counting;
 use commute_ops::Values;
 use item_versions::Staged;
-use letter_types::{Acts, Body, Boxed, Letter, Letters, StepOut};
+use letter_types::{Acts, Letter, Letters, StepOut};
 use nc_locks::WantedLocks;
 use std::alloc::Global;
 use std::mem;
@@ -21,9 +21,9 @@ pub type Visited = Seq<NodeNo, 64>;
 pub enum HomePlan {
     /// The open trees stay.
     Stay,
-    /// A tree of so many subtransactions, more than one, is opened, and its root's notice taken down.
+    /// A tree of `subs` subtransactions, from 2 to 64, is opened, and its root's notice noted.
     Open { subs: u32, version: Version },
-    /// A notice that is missing is taken down, where another is missing too.
+    /// A notice that is missing is noted, while another is missing too.
     Note,
     /// The tree is answered, and goes.
     Forget,
@@ -47,7 +47,7 @@ pub enum Doing {
     Still,
     /// A subtransaction is done, or a notice is brought.
     Tree(TreePlan),
-    /// The update version is raised, where it is less.
+    /// The update version is raised to this one, if it is less.
     Turn(Version),
     /// A version is shown to reads.
     Show(Version),
@@ -55,15 +55,15 @@ pub enum Doing {
     Sweep(Version),
 }
 
-/// What a node's parts do for a tree's letter, before the tree is answered; and its answer where its home misses no
-/// notice any more.
+/// What a node's parts do for a tree's letter, before the tree is answered; and its answer if its home misses no notice
+/// any more.
 #[derive(Drop)]
 pub struct PartPlan {
     pub doing: Doing,
     pub answered: Option<Answered>,
 }
 
-/// What becomes of locks, or of the noes.
+/// What becomes of locks, or of the negative votes.
 #[derive(Clone, Copy)]
 pub enum VotePlan {
     /// All stay.
@@ -72,9 +72,9 @@ pub enum VotePlan {
     Take(TreeNo),
     /// The locks of a tree go.
     Free(TreeNo),
-    /// A tree has the no in the scratch, in place of the one before.
+    /// A tree has the negative vote in the scratch, in place of the one before; if none is there, all stay.
     Note(TreeNo),
-    /// A tree has no no any more.
+    /// A tree has no negative vote any more.
     Drop(TreeNo),
 }
 
@@ -86,7 +86,7 @@ pub enum HoldPlan {
     /// The answer of a tree, of the values in the scratch, is held until each node that the scratch tells has
     /// acknowledged the decision. A request of this version to each is counted.
     Hold { tree: TreeNo, version: Version },
-    /// An acknowledgement of a tree is taken down whose answer is held.
+    /// An acknowledgement of a tree whose answer is held is counted.
     Ack(TreeNo),
 }
 
@@ -100,21 +100,21 @@ pub struct Plan {
     pub epoch: Option<u64>,
 }
 
-/// What a step makes, in places that are used again.
+/// What a step makes and takes memory for. The places are used again by the next step.
 #[derive(Drop)]
 pub struct Scratch {
     pub staged: Staged,
-    /// Of a notice.
+    /// The values of a notice.
     pub values: Values,
-    /// Of an answer that is to be held.
+    /// The values of an answer that is to be held.
     pub held: Values,
+    /// The nodes that are told the decision.
     pub told: Visited,
+    /// The locks that a tree takes.
     pub wanted: WantedLocks,
     pub refusal: Option<NegativeVote>,
-    /// That came, and is to be kept.
+    /// The letter that came, if it is deferred.
     pub letter: Option<Letter>,
-    /// What it wakes is to be called.
-    pub calls: Option<Boxed<Body>>,
     pub sent: Letters,
     pub acts: Acts,
 }
@@ -131,13 +131,12 @@ pub fn new_scratch(alloc: Global) -> Scratch
         wanted: WantedLocks::new(alloc),
         refusal: None,
         letter: None,
-        calls: None,
         sent: Letters::new(alloc),
         acts: Acts::new(alloc),
     }
 }
 
-/// Takes what goes out out of a scratch, in which nothing is left.
+/// Takes what goes out from a scratch, in which nothing is left.
 pub fn take_out(alloc: Global, scratch: &mut Scratch) -> StepOut
     ensures out { result ≡ out_in scratch.old }
     ensures empty { IsEmpty scratch.new }

@@ -1,7 +1,6 @@
 // No run makes this call: a run does the step of a whole core, and copies its letters alone.
-ghost use Rattle.tree_step.specs.Changes.{IsDoneTwice, MayDo, SendsRequests, part_row, replied};
-ghost use Rattle.tree_step.specs.Meant.{doing_meant, part_meant};
-ghost use Rattle.tree_step.specs.Node.{data_of};
+ghost use Rattle.tree_step.specs.Changes.{IsDoneTwice, MayDo, SendsRequests};
+ghost use Rattle.tree_step.specs.Meant.{doing_meant, replied_part};
 
 use crate::doing::do_whole;
 use crate::node::NodeParts;
@@ -12,8 +11,9 @@ use std::alloc::Global;
 use tv_base::{ActorNo, NoMemory};
 use tx_trees::Script;
 
-/// Does what is planned for a tree's letter, and gives what goes out, twice over: with the answer to the client behind
-/// what is sent, where the tree is answered. Where no memory is found the parts are as they were.
+/// Does what is planned for a tree's letter, and gives what goes out in two equal copies, with the answer to the client
+/// behind what is sent, if the tree is answered. If no memory is found, the parts are unchanged, and the scratch may
+/// have anything.
 pub fn do_part(
     alloc: Global,
     parts: &mut NodeParts,
@@ -23,8 +23,7 @@ pub fn do_part(
 ) -> Result<Step, NoMemory>
     requires may { MayDo (doing_meant part.doing scratch.old) scratch.old.sent parts.old }
     requires counted { SendsRequests (doing_meant part.doing scratch.old) scratch.old.sent }
-    ensures { IsDoneTwice (replied script.now (part_row (part_meant part scratch.old) (data_of parts.old)))
-        parts.old parts.new result }
+    ensures { IsDoneTwice (replied_part script.now part scratch.old parts.old) parts.old parts.new result }
 {
     let PartPlan { doing, answered } = part;
     push_reply(&mut scratch.sent, ActorNo(script.nodes() + 1), answered)?;

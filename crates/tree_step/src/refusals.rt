@@ -1,3 +1,4 @@
+// The negative votes of strict trees.
 ghost use Rattle.std.specs.Prelude.{◌≡◌, [], None, OnErr, OnOk, Some};
 ghost use Rattle.tree_home.specs.Maps.{by_tree, put_at};
 
@@ -8,8 +9,8 @@ use tree_home::tree_map::{find, insert, remove};
 use tv_base::{NoMemory, TreeNo};
 use world_model::NegativeVote;
 
-/// Of each strict tree that is at home here the no of the least number, among the votes that have come. To look for one,
-/// to put one in and to take one out takes time by the logarithm of how many there are.
+/// For each strict tree with its home here, the negative vote of the least subtransaction among the votes that have
+/// come. To look for one, to put one in and to take one out takes time by the logarithm of how many there are.
 #[derive(Drop)]
 pub struct Refusals {
     trees: BTreeMap<TreeNo, NegativeVote>,
@@ -30,7 +31,7 @@ impl Model for Refusals {
 }
 
 impl Refusals {
-    /// No tree has a no.
+    /// No tree has a negative vote.
     pub fn new(alloc: Global) -> Refusals
         ensures { result ≡ [] }
     {
@@ -39,7 +40,7 @@ impl Refusals {
         }
     }
 
-    /// The no of a tree. None exactly where it has none.
+    /// The negative vote of a tree. None exactly if it has none.
     pub fn of(&self, tree: TreeNo) -> Option<NegativeVote>
         ensures { result ≡ by_tree self.now tree.0 }
     {
@@ -49,8 +50,8 @@ impl Refusals {
         }
     }
 
-    /// Puts the no of a tree in, in place of the one before. Those of other trees stay. Where no memory is found all
-    /// stay.
+    /// Puts the negative vote of a tree in, in place of the one before. Those of other trees stay. If no memory is
+    /// found, all stay.
     pub fn put(&mut self, tree: TreeNo, refusal: NegativeVote) -> Result<(), NoMemory>
         ensures ok { OnOk result (by_tree self.new ≡ put_at tree.0 (Some refusal) (by_tree self.old)) }
         ensures err { OnErr result (self.new ≡ self.old) }
@@ -59,7 +60,7 @@ impl Refusals {
         Ok(())
     }
 
-    /// Takes the no of a tree out, if it has one. Those of other trees stay. Needs no memory.
+    /// Takes the negative vote of a tree out, if it has one. Those of other trees stay. It needs no memory.
     pub fn take_out(&mut self, tree: TreeNo)
         ensures { by_tree self.new ≡ put_at tree.0 None (by_tree self.old) }
     {

@@ -1,15 +1,15 @@
-// A root or another subtransaction is planned.
-ghost use Rattle.std.specs.Prelude.{◌≡◌, ◌<◌, length, IfOk, IsTrue, None, OnOk};
+// The plans of a root and of another subtransaction.
+ghost use Rattle.std.specs.Prelude.{◌≡◌, ◌<◌, ◌≤◌, length, IfOk, IsTrue, None, OnOk};
 ghost use Rattle.item_versions.specs.Table.{pending};
 ghost use Rattle.item_versions.specs.Window.{in_window, IsWindowedTable};
-ghost use Rattle.tree_home.specs.Homes.{begun, home_in, open_trees};
+ghost use Rattle.tree_home.specs.Homes.{home_in, open_trees};
 ghost use Rattle.tx_trees.specs.ScriptData.{subs_at};
-ghost use Rattle.tree_step.specs.Changes.{home_after, MayHome};
-ghost use Rattle.tree_step.specs.Meant.{home_planned_at, part_meant};
+ghost use Rattle.tree_step.specs.Meant.{ChangesOut, ChangesRoot};
 ghost use Rattle.tree_step.specs.Node.{IsReady};
-ghost use Rattle.world_model.specs.Notices.{homes_noted, values_of};
+ghost use Rattle.world_model.specs.Notices.{values_of};
+ghost use Rattle.tree_step.specs.inside.Noting.{IsHomeRooted};
 ghost use Rattle.tree_step.specs.inside.Opening.{root_answer};
-ghost use Rattle.tree_step.specs.AtNode.{IsRootPart, IsSubPart};
+ghost use Rattle.tree_step.specs.AtNode.{IsRootPlan, IsSubPlan};
 
 use crate::asked::{Request, SubTurn};
 use crate::counting::Counting;
@@ -34,8 +34,9 @@ fn values_of(alloc: Global, notice: Notice) -> Values
     }
 }
 
-/// What the home of a tree of so many subtransactions does once its root is done, and what the tree is answered then. A
-/// tree that has no other isn't opened, since these values are its answer; of any other they are noted.
+/// What the home of a tree of `subs` subtransactions does once its root was done with these values, and the tree's
+/// answer if it has one then. A tree of one isn't opened, since these values are its answer; of any other they go to
+/// `noted`.
 fn root_home(
     homes: &Homes,
     request: Request,
@@ -44,12 +45,10 @@ fn root_home(
     noted: &mut Values,
 ) -> (HomePlan, Option<Answered>)
     requires some { 0 < subs }
+    requires few { subs ≤ 64 }
     requires absent { home_in request.tree (open_trees homes.now) ≡ None }
-    ensures after { home_after (home_planned_at request.tree (record { 0 = 0 }) noted.new result.0) (open_trees homes.now)
-        ≡ homes_noted request.tree (record { 0 = 0 }) values
-        (begun request.tree subs request.version (open_trees homes.now)) }
+    ensures home { IsHomeRooted request subs values noted.new homes.now result.0 }
     ensures answered { result.1 ≡ root_answer subs request.tree request.version values }
-    ensures may { MayHome (home_planned_at request.tree (record { 0 = 0 }) noted.new result.0) (open_trees homes.now) }
 {
     let Request { tree, version, .. } = request;
     if subs == 1 {
@@ -64,8 +63,8 @@ fn root_home(
     (HomePlan::Open { subs, version }, None)
 }
 
-/// Plans the root of a tree of which its home is told this: it is counted, its children are asked for, and its home
-/// takes down its notice, which may be the last.
+/// Plans the root of a tree with this notice: it is counted, its children are asked for, and its home notes the notice,
+/// which may be the last. If no memory is found, the scratch may have anything.
 pub(crate) fn plan_root(
     alloc: Global,
     node: &NodeParts,
@@ -81,13 +80,8 @@ pub(crate) fn plan_root(
     requires near { IsTrue (in_window node.now.turns.low.0 request.version.0) }
     requires fits { IsWindowedTable node.now.turns.low.0 (pending scratch.old.staged node.now.items) }
     // What is planned.
-    ensures part { IfOk result (λ part. IsRootPart script.now request
-        (record { staged = scratch.old.staged; notice = notice }) node.now (part_meant part scratch.new)) }
-    ensures rest { OnOk result (scratch.new ≡ record scratch.old {
-      values = scratch.new.values;
-      sent = scratch.new.sent;
-      acts = scratch.new.acts;
-    }) }
+    ensures part { IfOk result (IsRootPlan script.now request notice node.now scratch.old scratch.new) }
+    ensures rest { OnOk result (ChangesRoot scratch.old scratch.new) }
 {
     let Request {
         tree,
@@ -124,7 +118,7 @@ pub(crate) fn plan_root(
 }
 
 /// Plans the turn of a subtransaction that isn't a root: it is counted, its children are asked for, and its notice goes
-/// to the tree's home.
+/// to the tree's home. If no memory is found, the scratch may have anything.
 pub(crate) fn plan_sub(
     alloc: Global,
     node: &NodeParts,
@@ -139,10 +133,8 @@ pub(crate) fn plan_sub(
     requires near { IsTrue (in_window node.now.turns.low.0 request.version.0) }
     requires fits { IsWindowedTable node.now.turns.low.0 (pending scratch.old.staged node.now.items) }
     // What is planned.
-    ensures part { IfOk result (λ part. IsSubPart script.now request turn.within.raises
-        (record { staged = scratch.old.staged; notice = turn.notice }) node.now (part_meant part scratch.new)) }
-    ensures rest { OnOk result (scratch.new
-        ≡ record scratch.old { sent = scratch.new.sent; acts = scratch.new.acts }) }
+    ensures part { IfOk result (IsSubPlan script.now request turn node.now scratch.old scratch.new) }
+    ensures rest { OnOk result (ChangesOut scratch.old scratch.new) }
 {
     let SubTurn { within, notice } = turn;
     let raises = within.raises;

@@ -14,7 +14,7 @@ abbrev pub opening_in : Change → Option Opening
 opening_in (Tree c) = opening_of c.home
 opening_in _ = None
 
--- what is left once it is open: its root's notice is taken down
+-- what is left once it is open: its root's notice is noted
 abbrev pub home_once_open : HomeChange → HomeChange
 home_once_open (Open t n v values) = Note t (record { 0 = 0 }) values
 home_once_open home = home

@@ -17,7 +17,7 @@ abbrev pub opening_by : Doing → Option Opening
 opening_by (Tree p) = opening_at p p.home
 opening_by _ = None
 
--- what is left once it is open: its root's notice is taken down
+-- what is left once it is open: its root's notice is noted
 abbrev pub tree_once_open : TreePlan → HomePlan → TreePlan
 tree_once_open p (Open n v) = record p { sub = record { 0 = 0 }; home = Note }
 tree_once_open p _ = p

@@ -8,17 +8,13 @@ use Rattle.tree_home.specs.Maps.{by_tree}
 use Rattle.tree_home.specs.declared.homes.Answered.{Answered}
 use Rattle.tree_home.specs.declared.homes.Held.{Held}
 use Rattle.tv_base.specs.declared.numbers.TreeNo.{TreeNo}
-use Rattle.tree_step.specs.Changes.{step_row}
-use Rattle.tree_step.specs.CoreChanges.{core_step_row, locks_with, refusals_with}
+use Rattle.tree_step.specs.CoreChanges.{core_step_row}
 use Rattle.tree_step.specs.Core.{core_of, core_with}
-use Rattle.tree_step.specs.Node.{Node, data_of}
-use Rattle.tree_step.specs.steps.Change.{Change}
-use Rattle.tree_step.specs.steps.VoteChange.{VoteChange}
+use Rattle.tree_step.specs.Node.{Node}
 use Rattle.tree_step.proofs.Asking.{room_after}
 use Rattle.tree_step.proofs.Stepped.{apart, asked_node, asked_window, may_same, same_open, stepped, with_counters, with_homes}
 use Rattle.tree_step.proofs.Undone.{unheld}
-use Rattle.tree_step.specs.Meant.{doing_meant, held_by, meant_with, out_in, parts_meant}
-use Rattle.tree_step.proofs.HeldAside.{same_doing, same_votes}
+use Rattle.tree_step.specs.Meant.{doing_meant, meant_held, out_in, parts_meant}
 use Rattle.tree_step.proofs.doing.do_hold.Goals as goal
 
 pub returns-in-Err-clause-err : goal.returns-in-Err-clause-err
@@ -34,8 +30,8 @@ returns-in-Err-clause-err c =
         counters = c.args.core.now.parts.counters;
         homes = homes i;
       };
-      locks = c.in-Err.ensures.locks i;
-      refusals = c.in-Err.ensures.refusals i;
+      locks = c.in-Err.ensures.same_locks i;
+      refusals = c.in-Err.ensures.same_refusals i;
       epoch = c.args.core.now.epoch;
     }
 
@@ -49,9 +45,7 @@ ask_each-requires-clause-below c =
     room_after (doing_meant d x) x.sent (with_homes c.hold.new.self old) (counts_of c.do_parts.new.parts.counters).numbers
     c.args.version.0 (length c.items-2.result.now)
     (may_same (doing_meant d x) x.sent old c.hold.new.self c.hold.ensures.opened c.requires.may.parts)
-    (ap (λ (o : Out Node). o.state.counts) (c.do_parts.ensures.done.row
-    ∙ ap (λ (ch : Change). step_row (record { change = ch; out = out_in x }) (data_of (with_homes c.hold.new.self old)))
-    (same_doing d _ x))) few
+    (ap (λ (o : Out Node). o.state.counts) c.do_parts.ensures.done.row) few
 
 pub returns-clause-done : goal.returns-clause-done
 returns-clause-done c =
@@ -59,21 +53,16 @@ returns-clause-done c =
     let d = c.args.plan.doing in
     let n = c.args.core.now in
     let out = out_in x in
-    let p = meant_with c.args.plan x (held_by c.args.tree c.args.version x) in
+    let p = meant_held c.args.plan c.args.tree c.args.version x in
     let done = c.do_parts.ensures.done in
     let mid = c.do_parts.new.parts in
     let parts = with_counters c.ask_each.new.counters mid in
     let told : c.items-2.result.now ≡ x.told = c.items-2.ensures.items ∙ c.do_parts.ensures.told in
     let row = ap (λ (e : ℕ). made (core_with parts c.change_votes.new.locks c.change_votes.new.refusals e) out) c.hear_of.ensures
     ∙ stepped p n mid parts c.change_votes.new.locks c.change_votes.new.refusals out
-    (done.row
-    ∙ ap (λ (ch : Change). step_row (record { change = ch; out = out }) (data_of (with_homes c.hold.new.self n.parts)))
-    (same_doing d _ x)
-    ∙ same_open (parts_meant d x) n.parts c.hold.new.self c.hold.ensures.opened)
+    (done.row ∙ same_open (parts_meant d x) n.parts c.hold.new.self c.hold.ensures.opened)
     (asked_node mid c.ask_each.new.counters c.args.version.0 c.items-2.result.now x.told c.ask_each.ensures told)
-    (c.in_default.ensures.locks ∙ ap (λ (v : VoteChange). locks_with v n.locks) (same_votes c.args.plan.votes _ x))
-    (c.in_default.ensures.refusals
-    ∙ ap (λ (v : VoteChange). refusals_with v (by_tree n.refusals)) (same_votes c.args.plan.votes _ x))
+    c.in_default.ensures.locks c.in_default.ensures.refusals
     (ap (λ (es : List (TreeNo × Held)). by_tree es) done.held ∙ c.in_ok-hold.ensures.ok
     ∙ (λ i. held_with (record { tree = c.args.tree; version = c.args.version; values = c.replace-values.ensures.value i })
     (length (c.items.ensures.items i)) (held_answers n.parts.homes))) in

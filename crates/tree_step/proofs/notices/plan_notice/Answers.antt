@@ -25,4 +25,4 @@ returns-clause-part c =
       answered = home.answered;
     })
     (noted_part q c.args.values.now c.args.node.now does home.answered c.requires.from c.requires.small c.requires.window
-    c.requires.near home.ensures.after home.ensures.answered home.ensures.may)
+    c.requires.near home.ensures.home.after home.ensures.answered home.ensures.home.may)

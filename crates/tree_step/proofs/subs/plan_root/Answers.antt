@@ -21,7 +21,7 @@ returns-clause-part c =
     record {
       row = root_ready s q.from q.tree q.version asked c.args.notice c.args.scratch.now.staged home
           c.root_home-home.result.1 n sent c.in_ok-acts.acts xs c.subs_of-subs.ensures.subs c.in_ok-sent.ensures count
-          (rw c.values_of-values.ensures at c.root_home-home.ensures.after)
+          (rw c.values_of-values.ensures at c.root_home-home.ensures.home.after)
           (rw c.values_of-values.ensures at c.root_home-home.ensures.answered
           ∙ root_answered q.tree (length xs) q.version (values_of c.args.notice) (open_trees n.homes)
           (rw c.subs_of-subs.ensures.subs c.requires.there))
@@ -36,7 +36,7 @@ returns-clause-part c =
                 children_few q.tree.0 q.version.0 0 64 xs sent c.in_ok-sent.ensures c.subs_of-subs.ensures.few,
               ));
           items = c.requires.fits;
-          home = c.root_home-home.ensures.may;
+          home = c.root_home-home.ensures.home.may;
         };
         small = c.requires.ready.small;
         window = c.requires.ready.window;

@@ -3,9 +3,12 @@ use Rattle.tree_home.specs.Homes.{begun, open_trees}
 use Rattle.tree_step.proofs.Begun.{opened_noted}
 use Rattle.tree_step.proofs.subs.root_home.Goals as goal
 
-pub returns-clause-after : goal.returns-clause-after
-returns-clause-after c =
+pub returns-clause-home : goal.returns-clause-home
+returns-clause-home c =
     let q = c.args.request in
     let hs = open_trees c.args.homes.now in
     let more : 1 < c.args.subs = omega (arith, c.if-subs-eq1.false, c.requires.some) in
-    opened_noted q.tree c.args.subs q.version c.args.values hs (begun q.tree c.args.subs q.version hs) _ more refl refl
+    record {
+      after = opened_noted q.tree c.args.subs q.version c.args.values hs (begun q.tree c.args.subs q.version hs) _ more refl refl;
+      may = (more, c.requires.absent, c.requires.few);
+    }
