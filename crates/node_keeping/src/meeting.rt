@@ -12,7 +12,7 @@ use crate::node_plan::KeepPlan;
 use letter_types::{Act, Acts, Body, KeepReason, Letter};
 use nc_locks::{Locks, Met, Mode};
 use node_versions::Turns;
-use tree_step::{NodeCore, asked_ops, asked_version};
+use tree_step::{NodeCore, asked_ops, asked_version, is_above};
 use tv_base::{NoMemory, SubNo, TreeNo, Version};
 use tx_trees::{Script, SubOp};
 
@@ -52,7 +52,7 @@ fn asked_sub(letter: &Letter) -> SubNo
 fn raises_to(turns: &Turns, version: Version) -> Option<Version>
     ensures { result ≡ raises_to turns.now version }
 {
-    if turns.update.0 < version.0 {
+    if is_above(turns, version) {
         return Some(version);
     }
     None
