@@ -1,5 +1,5 @@
 -- Messages that wait for one thing are woken, and are called from then on.
-use Rattle.std.proofs.Common.{◌≡◌, ◌<◌, ℕ, Bool, true, false, ◌&&◌, ◌||◌, List, [], ◌∷◌, ◌++◌, refl, ap, sym, ◌∙◌, subst, arith, cond, Option, Some, None}
+use Rattle.std.proofs.Common.{◌≡◌, ◌<◌, ℕ, Bool, true, false, ◌&&◌, ◌||◌, List, [], ◌∷◌, ◌++◌, refl, ap, sym, ◌∙◌, arith, cond, Option, Some, None}
 use Rattle.std.specs.Prelude.{IsSome}
 use Rattle.std.specs.BTreeSet.{IsKeyRangeOf}
 use Rattle.std.specs.List.{AllByRecursion}
@@ -12,7 +12,6 @@ use Rattle.std.specs.Ordering.{is_eq, is_gt, nat_cmp, ordering_then}
 use Rattle.std.proofs.lemmas.Bool.Decides.{nat_tests}
 use Rattle.tv_base.specs.declared.numbers.SubNo.{SubNo}
 use Rattle.tv_base.specs.declared.numbers.TreeNo.{TreeNo}
-use Rattle.tv_base.proofs.Orderings.{is_eq-back}
 use Rattle.letter_types.specs.declared.bodies.Body.TheVariants.{Wake}
 use Rattle.letter_types.specs.declared.entries.Outgoing.{Outgoing}
 use Rattle.letter_types.specs.declared.kept.KeptLetter.{KeptLetter}
@@ -206,34 +205,6 @@ kept_called q a next x es es' ps ps' kept reason is waits set came' up up' =
 
 abbrev nothing : Option Key
 nothing = None
-
--- the key of what a message waits for finds those that wait for the same
-shown_alike : (why : KeepReason) → is_why Show why ≡ waits_alike ForShow why
-shown_alike ForShow = refl
-shown_alike (ForHolder h) = refl
-shown_alike Called = refl
-
-held_alike : (t : TreeNo) (why : KeepReason) → is_why (Holder t) why ≡ waits_alike (ForHolder t) why
-held_alike t ForShow = refl
-held_alike t (ForHolder h) = is_eq-back h.0 t.0
-held_alike t Called = refl
-
-alike_by : (r : KeepReason) (q : Key) → key_of_why r ≡ Some q → (why : KeepReason) → is_why q why ≡ waits_alike r why
-alike_by ForShow q is why =
-    let same : Show ≡ q = cc in
-    subst (λ (k : Key). is_why k why ≡ waits_alike ForShow why) same (shown_alike why)
-alike_by (ForHolder t) q is why =
-    let same : Holder t ≡ q = cc in
-    subst (λ (k : Key). is_why k why ≡ waits_alike (ForHolder t) why) same (held_alike t why)
-alike_by Called q is why = let no : nothing ≡ Some q = is in cc
-
-pub key_waits : (r : KeepReason) (q : Key) → key_of_why r ≡ Some q → is_why q ≡ waits_alike r
-key_waits r q is = λ i why. alike_by r q is why i
-
-pub is_reason_of : (r : KeepReason) (q : Key) → key_of_why r ≡ Some q → is_reason q ≡ true
-is_reason_of ForShow q is = let same : Show ≡ q = cc in ap (λ (k : Key). is_reason k) (sym same)
-is_reason_of (ForHolder t) q is = let same : Holder t ≡ q = cc in ap (λ (k : Key). is_reason k) (sym same)
-is_reason_of Called q is = let no : nothing ≡ Some q = is in cc
 
 -- for its own Wake no other message waits
 pub none_alike : (r : KeepReason) → key_of_why r ≡ None → (why : KeepReason) → waits_alike r why ≡ false
