@@ -1,4 +1,4 @@
--- A strict tree has one operation on an item at most, at each node.
+-- A strict tree has at most one operation on an item at each node.
 use Rattle.std.proofs.Common.{◌≡◌, ℕ, Bool, true, false, List, [], ◌∷◌, ◌++◌, map, refl, Option, Some, None}
 use Rattle.std.specs.Prelude.{if◌then◌else◌, ◌==◌, nat_eq, slice_get}
 use Rattle.std.specs.List.{AllByRecursion}
@@ -62,7 +62,7 @@ once-at-by : (p : ℕ) (k : Sub) (ks : List Sub) (b : Bool) → AreOnce (ops_at 
 once-at-by p k ks true rest once = once-changed k.ops (ops_in ks) (ops_at p ks) (λ P. all-at P p ks) rest once
 once-at-by p k ks false rest once = rest
 
--- where each item is touched once, so it is at a node
+-- if each item is touched once, so it is at a node
 pub once-at : (p : ℕ) (ks : List Sub) → AreOnce (ops_in ks) → AreOnce (ops_at p ks)
 once-at p [] once = once
 once-at p (k ∷ ks) once =

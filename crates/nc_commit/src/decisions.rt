@@ -1,57 +1,32 @@
 // What a node makes of the decision on a strict tree.
-ghost use Rattle.std.specs.Prelude.{◌≡◌, ◌++◌, [], IfOk, IsTrue, OnErr, OnOk};
+ghost use Rattle.std.specs.Prelude.{◌≡◌, [], IfOk, IsTrue, OnOk};
 ghost use Rattle.item_versions.specs.Table.{item_in, pending};
 ghost use Rattle.world_model.specs.Named.{is_strict_at};
 ghost use Rattle.script_parts.specs.Deeds.{after_deed};
-ghost use Rattle.nc_locks.specs.Locks.{without};
 ghost use Rattle.nc_commit.specs.Decisions.{applied_in, can_apply, can_apply_op, decided_in, may_apply_decision, may_overwrite, ops_at, overwritten_in};
 ghost use Rattle.nc_commit.specs.inside.Writes.{AreOnce};
 
 use crate::votes::seen_in;
 use commute_ops::{Op, SumValue, TopValue, Value};
 use item_versions::{ItemTable, Staged};
-use nc_locks::Locks;
 use script_parts::deeds::overwrites;
 use script_parts::kinds;
 use std::alloc::Global;
 use tv_base::{NoMemory, NodeNo, TreeNo, Version};
 use tx_trees::{Deed, Script, Sub, SubOp};
 
-/// What is decided of a strict tree.
+/// The decision on a strict tree.
 #[derive(Clone, Copy, Debug)]
 pub struct Decision {
     pub tree: TreeNo,
-    /// The version that the tree runs in.
+    /// The version in which the tree runs.
     pub version: Version,
-    /// Whether what it does is applied.
+    /// Whether the tree commits: its sets and draws are applied. Else it aborts.
     pub commit: bool,
 }
 
-/// Applies a decision at a node: on a commit, each set and draw that the tree has there gives its item this version,
-/// made of what is seen there; other versions stay. In either case the tree's locks are freed. Where no memory is found
-/// nothing is changed.
-pub fn apply_decision(
-    alloc: Global,
-    locks: &mut Locks,
-    items: &mut ItemTable,
-    decision: Decision,
-    script: &Script,
-    node: NodeNo,
-) -> Result<(), NoMemory>
-    requires { IsTrue (may_apply_decision script.now node.0 decision items.old) }
-    ensures locks { OnOk result (locks.new ≡ without decision.tree locks.old) }
-    ensures items { OnOk result (items.new ≡ decided_in script.now node.0 decision items.old) }
-    ensures locks_stay { OnErr result (locks.new ≡ locks.old) }
-    ensures items_stay { OnErr result (items.new ≡ items.old) }
-{
-    let mut staged = Staged::new(alloc);
-    stage_decided(alloc, items, &mut staged, decision, script, node)?;
-    items.put_staged(staged);
-    locks.free(decision.tree);
-    Ok(())
-}
-
-/// Stages the items as a decision makes them at a node, where nothing is staged. The table takes them without memory.
+/// Stages what a decision makes of a node's items; nothing may be staged before. Nothing is staged on an abort. The table
+/// takes what is staged without memory. After out of memory a part may be staged.
 pub fn stage_decided(
     alloc: Global,
     items: &ItemTable,
@@ -102,6 +77,7 @@ fn is_strict(script: &Script, tree: TreeNo) -> bool
     }
 }
 
+/// Whether all operations that the subtransactions have at the node can be applied in version `v`.
 fn may_apply_subs(items: &ItemTable, v: Version, subs: &[Sub], node: NodeNo) -> bool
     ensures { result ≡ can_apply v (ops_at node.0 subs.now) items.now }
 {
@@ -113,6 +89,7 @@ fn may_apply_subs(items: &ItemTable, v: Version, subs: &[Sub], node: NodeNo) -> 
     true
 }
 
+/// Whether all of these operations can be applied in version `v`.
 fn may_apply_ops(items: &ItemTable, v: Version, ops: &[SubOp]) -> bool
     ensures { result ≡ can_apply v ops.now items.now }
 {
@@ -124,6 +101,8 @@ fn may_apply_ops(items: &ItemTable, v: Version, ops: &[SubOp]) -> bool
     true
 }
 
+/// Whether an operation can be applied in version `v`: it is no set or draw, or its item is there, has room for the
+/// version, and may be overwritten.
 fn may_apply_op(items: &ItemTable, v: Version, op: &SubOp) -> bool
     ensures { result ≡ can_apply_op v op.now items.now }
 {
@@ -157,22 +136,13 @@ fn ops_at(alloc: Global, subs: &[Sub], node: NodeNo) -> Result<Vec<SubOp>, NoMem
     let mut ops = Vec::new(alloc);
     for sub in subs {
         if sub.node.0 == node.0 {
-            push_all(&mut ops, sub.ops.items())?;
+            ops.extend_from_slice(sub.ops.items())?;
         }
     }
     Ok(ops)
 }
 
-fn push_all(ops: &mut Vec<SubOp>, more: &[SubOp]) -> Result<(), NoMemory>
-    ensures { OnOk result (ops.new.items ≡ ops.old.items ++ more.now) }
-{
-    for op in more {
-        ops.push(*op)?;
-    }
-    Ok(())
-}
-
-/// Stages the items after the sets and draws among the operations, of which no two are on one item.
+/// Stages what the sets and draws among the operations make of their items, of which no two are the same.
 fn stage_all(
     items: &ItemTable,
     staged: &mut Staged,
@@ -190,7 +160,7 @@ fn stage_all(
     Ok(())
 }
 
-/// Stages a set or a draw of an item of which nothing is staged yet.
+/// Stages a set or a draw. Nothing may be staged of its item before.
 fn stage_op(items: &ItemTable, staged: &mut Staged, v: Version, op: &SubOp) -> Result<(), NoMemory>
     requires untouched { item_in op.now.item (pending staged.old items.now) ≡ item_in op.now.item items.now }
     requires can { IsTrue (can_apply_op v op.now items.now) }

@@ -2,7 +2,9 @@
 #![tactic(auto)]
 
 mod decisions;
+mod public;
 mod votes;
 
-pub use decisions::{Decision, apply_decision, may_apply_decision, stage_decided};
-pub use votes::{push_wanted, vote, vote_on};
+pub use decisions::{Decision, may_apply_decision, stage_decided};
+pub use public::{apply_decision, vote};
+pub use votes::{push_wanted, vote_on};

@@ -1,5 +1,5 @@
 // How a subtransaction of a strict tree votes.
-ghost use Rattle.std.specs.Prelude.{◌≡◌, [], IfOk, OnOk, Some};
+ghost use Rattle.std.specs.Prelude.{◌≡◌, ◌++◌, IfOk, OnOk, Some};
 ghost use Rattle.std.specs.Option.{option_copied};
 ghost use Rattle.letter_types.specs.declared.votes.Vote.TheVariants.{No};
 ghost use Rattle.nc_locks.specs.Locks.{first_where, is_in_way, met_by, met_in};
@@ -13,27 +13,13 @@ use nc_locks::{Locks, Met, Mode, WantedLocks};
 use script_parts::deeds::{found_short, overwrites};
 use std::alloc::Global;
 use tv_base::{ItemNo, NoMemory, TreeNo, Version};
-use tx_trees::{Deed, Sub, SubOp};
+use tx_trees::{Deed, SubOp};
 
-/// How a subtransaction of a strict tree votes in version `version`. It looks at its operations in order, three times:
-/// for a lock of another tree that conflicts with the one that it needs, then for a set or a draw of an item that is
-/// held in a version above its own, then for a draw of more than is seen in its version. The first that is found makes
-/// the vote a no; else it is a yes, with what its gets show. Nothing is changed, and no lock is taken.
-pub fn vote(
-    alloc: Global,
-    locks: &Locks,
-    items: &ItemTable,
-    tree: TreeNo,
-    version: Version,
-    sub: &Sub,
-) -> Result<Vote, NoMemory>
-    ensures { IfOk result (λ vote. vote ≡ vote_of locks.now items.now tree version sub.now.ops) }
-{
-    let vote = vote_on(alloc, locks, items, tree, version, sub.ops.items())?;
-    Ok(vote)
-}
-
-/// The same of a subtransaction with these operations.
+/// How a subtransaction of a strict tree with these operations votes in version `version`. It looks at the operations in
+/// order, three times: for a lock of another tree that conflicts with the one that it needs, then for a set or a draw of
+/// an item that is held in a version above its own, then for a draw of more than is seen in its version. The first that
+/// is found is the cause of a negative vote. If none is found the vote is positive, with what the gets show. Nothing is
+/// changed, and no lock is taken.
 pub fn vote_on(
     alloc: Global,
     locks: &Locks,
@@ -61,7 +47,7 @@ pub fn vote_on(
     Ok(Vote::Yes(values))
 }
 
-/// What the first of the operations meets whose lock conflicts with one of another tree.
+/// The lock that the first operation meets whose own lock conflicts with one of another tree.
 fn conflict(locks: &Locks, tree: TreeNo, ops: &[SubOp]) -> Option<Met>
     ensures { result ≡ met_in tree (wanted_by ops.now) locks.now }
 {
@@ -74,6 +60,7 @@ fn conflict(locks: &Locks, tree: TreeNo, ops: &[SubOp]) -> Option<Met>
     None
 }
 
+/// The lock that an operation meets, if its own lock conflicts with one of another tree.
 fn conflict_at(locks: &Locks, tree: TreeNo, op: &SubOp) -> Option<Met>
     ensures { result ≡ met_by (first_where (is_in_way tree op.now.item (mode_wanted op.now.deed)) locks.now) }
 {
@@ -81,7 +68,7 @@ fn conflict_at(locks: &Locks, tree: TreeNo, op: &SubOp) -> Option<Met>
     locks.met(tree, &wanted)
 }
 
-/// A no for this cause.
+/// A negative vote of this cause.
 fn no(alloc: Global, cause: Cause) -> Result<Vote, NoMemory>
     ensures { IfOk result (λ vote. vote ≡ No cause) }
 {
@@ -89,10 +76,9 @@ fn no(alloc: Global, cause: Cause) -> Result<Vote, NoMemory>
     Ok(Vote::No(cause))
 }
 
-/// Adds the locks that the operations of a strict tree want.
+/// Adds the locks that the operations of a strict tree want. After out of memory a part of them may be there.
 pub fn push_wanted(wanted: &mut WantedLocks, ops: &[SubOp]) -> Result<(), NoMemory>
-    requires { wanted.old ≡ [] }
-    ensures { OnOk result (wanted.new ≡ wanted_by ops.now) }
+    ensures { OnOk result (wanted.new ≡ wanted.old ++ wanted_by ops.now) }
 {
     for op in ops {
         wanted.push((op.item, mode_wanted(&op.deed)))?;
@@ -100,7 +86,7 @@ pub fn push_wanted(wanted: &mut WantedLocks, ops: &[SubOp]) -> Result<(), NoMemo
     Ok(())
 }
 
-/// How a deed of a strict tree locks its item: a get looks at it, and a set or a draw holds it.
+/// The mode in which a deed locks its item: a commuting one marks it, a get looks at it, a set or a draw holds it.
 fn mode_wanted(deed: &Deed) -> Mode
     ensures { result ≡ mode_wanted deed.now }
 {
@@ -112,7 +98,7 @@ fn mode_wanted(deed: &Deed) -> Mode
     }
 }
 
-/// The first of the operations that writes an item which is held in a version above `v`, as a cause.
+/// The cause that the first operation gives that writes an item which is held in a version above `v`.
 fn newer(items: &ItemTable, v: Version, ops: &[SubOp]) -> Option<Cause>
     ensures { result ≡ newer_in v ops.now items.now }
 {
@@ -125,6 +111,7 @@ fn newer(items: &ItemTable, v: Version, ops: &[SubOp]) -> Option<Cause>
     None
 }
 
+/// The cause that an operation gives, if it writes an item that is held in a version above `v`.
 fn newer_at(items: &ItemTable, v: Version, op: &SubOp) -> Option<Cause>
     ensures { result ≡ newer_at v op.now items.now }
 {
@@ -137,7 +124,7 @@ fn newer_at(items: &ItemTable, v: Version, op: &SubOp) -> Option<Cause>
     }
 }
 
-/// An item that is held in a version above `v`, as a cause.
+/// The cause that an item gives, if it is held in a version above `v`.
 fn newer_by(item: ItemNo, v: Version, held: &Item) -> Option<Cause>
     ensures { result ≡ newer_by item v (Some held.now) }
 {
@@ -151,6 +138,7 @@ fn newer_by(item: ItemNo, v: Version, held: &Item) -> Option<Cause>
     None
 }
 
+/// The greatest version in which an item is held, 0 if it is held in none.
 fn greatest_version(held: &[(Version, Value)]) -> u64
     ensures { result ≡ greatest_version held.now }
 {
@@ -161,7 +149,7 @@ fn greatest_version(held: &[(Version, Value)]) -> u64
     greatest
 }
 
-/// What is seen of an item in version `v`. None where it isn't there.
+/// What is seen of an item in version `v`. None if the item isn't there.
 pub(crate) fn seen_in(items: &ItemTable, v: Version, item: ItemNo) -> Option<&Value>
     ensures { option_copied result ≡ seen_in v item items.now }
 {
@@ -171,7 +159,7 @@ pub(crate) fn seen_in(items: &ItemTable, v: Version, item: ItemNo) -> Option<&Va
     }
 }
 
-/// The first of the operations that draws more than is seen of its item in version `v`, as a cause.
+/// The cause that the first operation gives that draws more than is seen of its item in version `v`.
 fn short(items: &ItemTable, v: Version, ops: &[SubOp]) -> Option<Cause>
     ensures { result ≡ short_in v ops.now items.now }
 {
@@ -184,6 +172,7 @@ fn short(items: &ItemTable, v: Version, ops: &[SubOp]) -> Option<Cause>
     None
 }
 
+/// The cause that an operation gives, if it draws more than is seen of its item in version `v`.
 fn short_at(items: &ItemTable, v: Version, op: &SubOp) -> Option<Cause>
     ensures { result ≡ short_at v op.now items.now }
 {
@@ -204,7 +193,7 @@ fn got(alloc: Global, items: &ItemTable, v: Version, ops: &[SubOp]) -> Result<Va
     Ok(values)
 }
 
-/// What a get shows in version `v`. None where the operation isn't one, or its item isn't there.
+/// What a get shows in version `v`. None if the operation isn't a get, or the item isn't there.
 fn shown<'a>(items: &'a ItemTable, v: Version, op: &SubOp) -> Option<&'a Value>
     ensures { option_copied result ≡ got_by_deed v op.now.item op.now.deed items.now }
 {

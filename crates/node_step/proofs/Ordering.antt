@@ -1,4 +1,4 @@
--- An order that was planned by its parts is its row.
+-- The plan of an order is its row.
 use Rattle.std.proofs.Common.{◌≡◌, true, sym, subst}
 use Rattle.tv_base.specs.declared.numbers.Version.{Version}
 use Rattle.letter_types.specs.declared.bodies.Body.{Body}

@@ -1,4 +1,4 @@
--- What a node does by an order, whichever coordinator gave it.
+-- What a node does by an order, whichever coordinator gives it.
 use Rattle.std.specs.Prelude.{if◌then◌else◌, ℕ, []}
 use Rattle.tv_base.specs.declared.numbers.Version.{Version}
 use Rattle.letter_types.specs.declared.bodies.Body.{Body}
@@ -11,7 +11,7 @@ use Rattle.tree_step.specs.Node.{Node}
 use Rattle.world_model.specs.Advancing.{show_row, sweep_row, to_coordinator, turn_row}
 use Rattle.world_model.specs.Epochs.{was_obeyed}
 
--- the answer that a coordinator that remembers gets
+-- the answer to an order of a coordinator that keeps its state
 abbrev pub plain_answer : What → Version → Body
 plain_answer whats.Turn v = Turned v
 plain_answer whats.Show v = Shown v
@@ -31,11 +31,11 @@ ordered_row s what v answer st = record {
   acts = (plain_row s what v st).acts;
 }
 
--- a node stays as it is, and tells the coordinator this
+-- a node stays as it is, and sends the coordinator this answer
 abbrev pub told_row : ScriptData → Body → Node → Out Node
 told_row s answer st = record { state = st; sent = to_coordinator s answer; acts = [] }
 
--- a node obeys an order of this epoch, unless it did before, and answers
+-- a node obeys an order of this epoch, unless it has done so before, and answers
 abbrev pub obeyed_row : ScriptData → ℕ → What → Version → Node → Out Node
 obeyed_row s e what v st =
     if was_obeyed what v st then told_row s (Obeyed e what v) st else ordered_row s what v (Obeyed e what v) st

@@ -1,4 +1,4 @@
-//! What a node does with the letters of either coordinator, planned.
+//! What a node does with the messages of either coordinator, as plans.
 #![tactic(auto)]
 
 mod orders;

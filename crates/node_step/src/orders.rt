@@ -1,11 +1,10 @@
-// What a node does with the coordinator's letters.
-ghost use Rattle.std.specs.Prelude.{◌≡◌, [], nat_lt, IfOk, IsTrue, OnOk};
+// What a node does with the coordinator's messages.
+ghost use Rattle.std.specs.Prelude.{◌≡◌, ◌++◌, [], nat_lt, IfOk, IsTrue, OnOk};
 ghost use Rattle.world_model.specs.Advancing.{asked_row, done_row, to_coordinator};
 ghost use Rattle.world_model.specs.Done.{turned_if};
 ghost use Rattle.world_model.specs.Epochs.{was_obeyed};
-ghost use Rattle.tree_step.specs.Changes.{IsNodeStepOf};
 ghost use Rattle.tree_step.specs.Due.{can_obey};
-ghost use Rattle.tree_step.specs.Meant.{parts_meant};
+ghost use Rattle.tree_step.specs.Meant.{ChangesOut, IsDoingPlan};
 ghost use Rattle.tree_step.specs.Node.{data_of, CanStep};
 ghost use Rattle.node_step.specs.Orders.{obeyed_row, ordered_row, plain_answer, told_row};
 ghost use Rattle.node_step.specs.inside.Advancing.{acts_if, order_acts, order_doing};
@@ -19,8 +18,7 @@ use tx_trees::Script;
 
 /// Adds an answer of this body to the coordinator.
 fn push_answer(sent: &mut Letters, script: &Script, body: Body) -> Result<(), NoMemory>
-    requires { sent.old ≡ [] }
-    ensures { OnOk result (sent.new ≡ to_coordinator script.now body) }
+    ensures { OnOk result (sent.new ≡ sent.old ++ to_coordinator script.now body) }
 {
     sent.push(Outgoing {
         to: ActorNo(script.nodes()),
@@ -31,8 +29,7 @@ fn push_answer(sent: &mut Letters, script: &Script, body: Body) -> Result<(), No
 
 /// Adds the act, if there is one.
 fn push_act(acts: &mut Acts, act: Option<Act>) -> Result<(), NoMemory>
-    requires { acts.old ≡ [] }
-    ensures { OnOk result (acts.new ≡ acts_if act) }
+    ensures { OnOk result (acts.new ≡ acts.old ++ acts_if act) }
 {
     let Some(act) = act else {
         return Ok(());
@@ -41,7 +38,7 @@ fn push_act(acts: &mut Acts, act: Option<Act>) -> Result<(), NoMemory>
     Ok(())
 }
 
-/// The act of a node whose update version is raised, where it is less.
+/// The act of raising a node's update version to this one, if it is less.
 fn turn_act(turns: &Turns, version: Version) -> Option<Act>
     ensures { acts_if result ≡ turned_if (nat_lt turns.now.update.0 version.0) version.0 }
 {
@@ -62,7 +59,7 @@ fn order_act(turns: &Turns, what: What, version: Version) -> Option<Act>
     }
 }
 
-/// What a node does by an order.
+/// What a node's parts do by an order.
 fn order_doing(what: What, version: Version) -> Doing
     ensures { result ≡ order_doing what version }
 {
@@ -73,7 +70,7 @@ fn order_doing(what: What, version: Version) -> Doing
     }
 }
 
-/// What a coordinator that remembers is answered.
+/// The answer to an order of a coordinator that keeps its state.
 pub fn plain_answer(what: What, version: Version) -> Body
     ensures { result ≡ plain_answer what version }
 {
@@ -84,9 +81,10 @@ pub fn plain_answer(what: What, version: Version) -> Body
     }
 }
 
-/// Plans that a node does what it is ordered, and answers this: the update version is raised where it is less; or a
-/// version is shown to reads; or every item is collected to a version, which is the low version then, and what was
-/// counted of older ones goes.
+/// Plans that a node does what it is ordered to do, and sends this answer. A turn raises the update version, if it is
+/// less than this one. A show makes this version the read version. A sweep collects every item to this version, which
+/// becomes the low version, and drops the counters of older versions. After out of memory the scratch may hold a part of
+/// what goes out.
 pub fn plan_order(
     node: &NodeParts,
     script: &Script,
@@ -101,16 +99,16 @@ pub fn plan_order(
     requires none_sent { scratch.old.sent ≡ [] }
     requires no_acts { scratch.old.acts ≡ [] }
     // What is planned.
-    ensures step { IfOk result (λ doing. IsNodeStepOf
-        (ordered_row script.now what version answer (data_of node.now)) node.now (parts_meant doing scratch.new)) }
-    ensures rest { OnOk result (scratch.new ≡ record scratch.old { sent = scratch.new.sent; acts = scratch.new.acts }) }
+    ensures step { IfOk result (IsDoingPlan (ordered_row script.now what version answer) node.now scratch.new) }
+    ensures rest { OnOk result (ChangesOut scratch.old scratch.new) }
 {
     push_answer(&mut scratch.sent, script, answer)?;
     push_act(&mut scratch.acts, order_act(&node.turns, what, version))?;
     Ok(order_doing(what, version))
 }
 
-/// Plans that a node stays as it is, and tells the coordinator this.
+/// Plans that a node stays as it is, and sends the coordinator this answer. After out of memory the scratch may hold a
+/// part of what goes out.
 pub fn plan_told(
     node: &NodeParts,
     script: &Script,
@@ -122,16 +120,15 @@ pub fn plan_told(
     requires none_sent { scratch.old.sent ≡ [] }
     requires no_acts { scratch.old.acts ≡ [] }
     // What is planned.
-    ensures step { IfOk result (λ doing. IsNodeStepOf (told_row script.now answer (data_of node.now)) node.now
-        (parts_meant doing scratch.new)) }
-    ensures rest { OnOk result (scratch.new ≡ record scratch.old { sent = scratch.new.sent; acts = scratch.new.acts }) }
+    ensures step { IfOk result (IsDoingPlan (told_row script.now answer) node.now scratch.new) }
+    ensures rest { OnOk result (ChangesOut scratch.old scratch.new) }
 {
     let _ = node;
     push_answer(&mut scratch.sent, script, answer)?;
     Ok(Doing::Still)
 }
 
-/// Whether an order was obeyed before: the version that it raises isn't less.
+/// Whether an order was obeyed before: the version that it would raise isn't less than this one.
 pub fn was_obeyed(node: &NodeParts, what: What, version: Version) -> bool
     ensures { result ≡ was_obeyed what version (data_of node.now) }
 {
@@ -142,8 +139,9 @@ pub fn was_obeyed(node: &NodeParts, what: What, version: Version) -> bool
     }
 }
 
-/// Plans that a node obeys an order of a coordinator that forgets, of this epoch: it does what it is ordered, unless it
-/// did that before, and answers either way.
+/// Plans that a node obeys an order of this epoch, from a coordinator that may lose its state: it does what it is
+/// ordered to do, unless it has done so before, and answers either way. After out of memory the scratch may hold a part
+/// of what goes out.
 pub fn plan_obeyed(
     node: &NodeParts,
     script: &Script,
@@ -158,9 +156,8 @@ pub fn plan_obeyed(
     requires none_sent { scratch.old.sent ≡ [] }
     requires no_acts { scratch.old.acts ≡ [] }
     // What is planned.
-    ensures step { IfOk result (λ doing. IsNodeStepOf
-        (obeyed_row script.now epoch what version (data_of node.now)) node.now (parts_meant doing scratch.new)) }
-    ensures rest { OnOk result (scratch.new ≡ record scratch.old { sent = scratch.new.sent; acts = scratch.new.acts }) }
+    ensures step { IfOk result (IsDoingPlan (obeyed_row script.now epoch what version) node.now scratch.new) }
+    ensures rest { OnOk result (ChangesOut scratch.old scratch.new) }
 {
     let answer = Body::Obeyed {
         epoch,
@@ -173,7 +170,8 @@ pub fn plan_obeyed(
     plan_order(node, script, what, version, answer, scratch)
 }
 
-/// Plans that a node tells its completions of a version by sender, in answer to a round.
+/// Plans that a node answers a round with its completions of this version, by sender. After out of memory the scratch
+/// may hold a part of what goes out.
 pub fn plan_done_row(
     alloc: Global,
     node: &NodeParts,
@@ -187,9 +185,8 @@ pub fn plan_done_row(
     requires none_sent { scratch.old.sent ≡ [] }
     requires no_acts { scratch.old.acts ≡ [] }
     // What is planned.
-    ensures step { IfOk result (λ doing. IsNodeStepOf (done_row script.now version round (data_of node.now)) node.now
-        (parts_meant doing scratch.new)) }
-    ensures rest { OnOk result (scratch.new ≡ record scratch.old { sent = scratch.new.sent; acts = scratch.new.acts }) }
+    ensures step { IfOk result (IsDoingPlan (done_row script.now version round) node.now scratch.new) }
+    ensures rest { OnOk result (ChangesOut scratch.old scratch.new) }
 {
     let row = node.counters.done_row(alloc, version)?;
     let body = Body::DoneRow {
@@ -201,7 +198,8 @@ pub fn plan_done_row(
     Ok(Doing::Still)
 }
 
-/// Plans that a node tells its requests of a version by addressee, in answer to a round.
+/// Plans that a node answers a round with its requests of this version, by addressee. After out of memory the scratch
+/// may hold a part of what goes out.
 pub fn plan_asked_row(
     alloc: Global,
     node: &NodeParts,
@@ -215,9 +213,8 @@ pub fn plan_asked_row(
     requires none_sent { scratch.old.sent ≡ [] }
     requires no_acts { scratch.old.acts ≡ [] }
     // What is planned.
-    ensures step { IfOk result (λ doing. IsNodeStepOf (asked_row script.now version round (data_of node.now)) node.now
-        (parts_meant doing scratch.new)) }
-    ensures rest { OnOk result (scratch.new ≡ record scratch.old { sent = scratch.new.sent; acts = scratch.new.acts }) }
+    ensures step { IfOk result (IsDoingPlan (asked_row script.now version round) node.now scratch.new) }
+    ensures rest { OnOk result (ChangesOut scratch.old scratch.new) }
 {
     let row = node.counters.asked_row(alloc, version)?;
     let body = Body::AskedRow {

@@ -1,5 +1,5 @@
--- The row where the operations may be made. A read leaves the items.
-use Rattle.std.proofs.Common.{◌≡◌, ℕ, true, false, List, [], ◌∷◌, refl, ap, sym, ◌∙◌, Result, Ok, Err}
+-- The row of a message whose operations may be made. A read leaves the items.
+use Rattle.std.proofs.Common.{◌≡◌, ℕ, true, false, List, [], refl, ap, sym, ◌∙◌, Result, Ok, Err}
 use Rattle.std.specs.Prelude.{IfOk}
 use Rattle.tv_base.specs.declared.numbers.NoMemory.{NoMemory}
 use Rattle.letter_types.specs.declared.entries.Step.{Step}
@@ -9,7 +9,7 @@ use Rattle.letter_types.specs.declared.bodies.Body.TheVariants.{Root, Sub as Sub
 use Rattle.letter_types.specs.declared.bodies.Notice.{Notice}
 use Rattle.letter_types.specs.declared.entries.StepOut.{StepOut}
 use Rattle.letter_types.specs.Steps.{Out, made}
-use Rattle.item_versions.specs.Table.{Table, pending, replaced}
+use Rattle.item_versions.specs.Table.{Table}
 use Rattle.node_versions.specs.declared.turns.Turns.{Turns}
 use Rattle.pair_counters.specs.Rows.{CounterRows}
 use Rattle.tree_home.specs.Homes.{HomesData}
@@ -63,10 +63,6 @@ with_items items out = record { state = record out.state { items = items }; sent
 abbrev with_table : Table → Node → Node
 with_table items st = record st { items = items }
 
-pub pending_none : (staged : Table) → pending staged [] ≡ []
-pending_none [] = refl
-pending_none (x ∷ xs) = ap (λ (t : Table). replaced x.0 x.1 t) (pending_none xs)
-
 -- the row doesn't look at the items, it only passes on those of its effect
 passes_on : (s : ScriptData) (p from : ℕ) (v : Version) (notice : Notice) (body : Body) (none items : Table) (st : Node)
     → with_items items (read_done s p from v (record { items = none; notice = notice }) body (with_table none st))
@@ -83,39 +79,34 @@ turns_stay s p from v e _ st = refl
 
 -- a row that was made of a node without items is that of the node with its items
 pub read_apart : (s : ScriptData) (p from : ℕ) (v : Version) (body : Body) (turns : Turns) (items : Table)
-    (counters : CounterRows) (homes : HomesData) (staged : Table) (notice : Notice)
-    (after : NodeParts) (out : StepOut)
-    → made (data_of after) out ≡ read_done s p from v (record { items = pending staged []; notice = notice })
-    body (data_of (state_of turns [] counters homes))
+    (counters : CounterRows) (homes : HomesData) (notice : Notice) (after : NodeParts) (out : StepOut)
+    → made (data_of after) out ≡ read_done s p from v (record { items = []; notice = notice }) body
+    (data_of (state_of turns [] counters homes))
     → made (data_of (state_of turns items after.counters after.homes)) out
     ≡ read_done s p from v (record { items = items; notice = notice }) body
     (data_of (state_of turns items counters homes))
-read_apart s p from v body turns items counters homes staged notice after out row =
-    let none : made (data_of after) out ≡ read_done s p from v (record { items = []; notice = notice }) body
-    (data_of (state_of turns [] counters homes)) =
-    row ∙ ap (λ (t : Table). read_done s p from v (record { items = t; notice = notice }) body
-    (data_of (state_of turns [] counters homes))) (pending_none staged) in
-    let same : after.turns ≡ turns = ap (λ (o : Out Node). o.state.turns) none
+read_apart s p from v body turns items counters homes notice after out row =
+    let same : after.turns ≡ turns = ap (λ (o : Out Node). o.state.turns) row
     ∙ turns_stay s p from v (record { items = []; notice = notice }) body
     (data_of (state_of turns [] counters homes)) in
     ap (λ (t : Turns). made (data_of (state_of t items after.counters after.homes)) out) (sym same)
-    ∙ ap (with_items items) none
+    ∙ ap (with_items items) row
     ∙ passes_on s p from v notice body [] items (data_of (state_of turns items counters homes))
 
 -- the same of a step that may need memory
 pub read_face : (s : ScriptData) (p from : ℕ) (body : Body) (turns : Turns) (items : Table) (counters : CounterRows)
-    (homes : HomesData) (v : Version) (ops : List SubOp)
-    (staged : Table) (notice : Notice) (after : NodeParts) (r : Result Step NoMemory)
+    (homes : HomesData) (v : Version) (ops : List SubOp) (notice : Notice) (after : NodeParts)
+    (r : Result Step NoMemory)
     → v ≡ asked_version turns.read body → ops ≡ asked_ops s body → true ≡ can_get v ops items
-    → record { items = pending staged items; notice = notice } ≡ getting v ops items
+    → record { items = items; notice = notice } ≡ getting v ops items
     → IfOk r (λ step. made (data_of after) step.given ≡ read_done s p from v
-    (record { items = pending staged []; notice = notice }) body (data_of (state_of turns [] counters homes)))
+    (record { items = []; notice = notice }) body (data_of (state_of turns [] counters homes)))
     → IfOk r (λ step. made (data_of (state_of turns items after.counters after.homes)) step.given ≡ read_if_made s p
     (data_of (state_of turns items counters homes)) from body)
-read_face s p from body turns items counters homes v ops staged notice after (Ok step) at asked can got row =
+read_face s p from body turns items counters homes v ops notice after (Ok step) at asked can got row =
     was_read s p from body (data_of (state_of turns items counters homes)) v ops
     (record { items = items; notice = notice }) (made (data_of (state_of turns items after.counters after.homes))
     step.given)
-    at asked can (ap (λ (e : Effect). record { items = items; notice = e.notice }) got)
-    (read_apart s p from v body turns items counters homes staged notice after step.given row)
-read_face s p from body turns items counters homes v ops staged notice after (Err e) at asked can got row = tt
+    at asked can got
+    (read_apart s p from v body turns items counters homes notice after step.given row)
+read_face s p from body turns items counters homes v ops notice after (Err e) at asked can got row = tt

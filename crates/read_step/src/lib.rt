@@ -1,4 +1,4 @@
-//! A node's step for a subtransaction of a read tree.
+//! A node's step for a subtransaction of a read tree, as a plan.
 #![tactic(auto)]
 
 mod plan;

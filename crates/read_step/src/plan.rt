@@ -1,9 +1,8 @@
 // A subtransaction of a read tree is planned.
-ghost use Rattle.std.specs.Prelude.{◌≡◌, [], is_some, IfNone, IfOk, IfSome, OnOk};
+ghost use Rattle.std.specs.Prelude.{◌≡◌, [], is_some, IfOk, IfSome};
 ghost use Rattle.std.specs.Option.{option_copied};
-ghost use Rattle.tree_step.specs.Meant.{out_in, part_meant};
 ghost use Rattle.tree_step.specs.Node.{data_of, IsReady};
-ghost use Rattle.read_step.specs.Rows.{can_get, can_read, gets, got_by_deed, IsReadPart};
+ghost use Rattle.read_step.specs.Rows.{can_get, can_read, gets, got_by_deed, IsReadPartPlan};
 ghost use Rattle.tree_step.specs.AtNode.{IsDueAt};
 
 use commute_ops::{Value, Values};
@@ -16,7 +15,7 @@ use tree_step::{
 use tv_base::{NoMemory, Version};
 use tx_trees::{Deed, Script, SubOp};
 
-/// What a get shows in version `v`. None where the operation isn't one, or its item isn't there.
+/// What a get shows in version `v`. None if the operation isn't a get, or the item isn't there.
 fn shown<'a>(items: &'a ItemTable, v: Version, op: &SubOp) -> Option<&'a Value>
     ensures { option_copied result ≡ got_by_deed v op.now.item op.now.deed items.now }
 {
@@ -29,7 +28,7 @@ fn shown<'a>(items: &'a ItemTable, v: Version, op: &SubOp) -> Option<&'a Value>
     Some(item.seen(v))
 }
 
-/// The values of the gets of a read in version `v`. None exactly where one of the operations isn't a get, or its item
+/// The values of the gets of a read in version `v`. None exactly if one of the operations isn't a get, or its item
 /// isn't there.
 pub(crate) fn get_values(
     alloc: Global,
@@ -50,8 +49,9 @@ pub(crate) fn get_values(
     Ok(Some(values))
 }
 
-/// Plans what a node does with a letter that asks it for a subtransaction of a read tree (docs/ALGORITHM.md, "Nodes"),
-/// before the tree is answered. None exactly where the operations may not be made; then nothing goes out.
+/// Plans what a node does with a message that asks it for a subtransaction of a read tree (docs/ALGORITHM.md, "Nodes"),
+/// before the tree is answered. None exactly if the operations may not be made. After out of memory the scratch may hold
+/// a part of the plan.
 pub fn plan_read(
     alloc: Global,
     node: &NodeParts,
@@ -68,15 +68,7 @@ pub fn plan_read(
     requires no_acts { scratch.old.acts ≡ [] }
     // What is planned.
     ensures can { IfOk result (λ found. is_some found ≡ can_read script.now (data_of node.now) letter.now.body) }
-    ensures part { IfOk result (λ found. IfSome found
-        (λ part. IsReadPart script.now letter.now node.now (part_meant part scratch.new))) }
-    ensures none { IfOk result (λ found. IfNone found (out_in scratch.new ≡ record { sent = []; acts = [] })) }
-    ensures rest { OnOk result (scratch.new ≡ record scratch.old {
-      staged = scratch.new.staged;
-      values = scratch.new.values;
-      sent = scratch.new.sent;
-      acts = scratch.new.acts;
-    }) }
+    ensures part { IfOk result (λ found. IfSome found (IsReadPartPlan script.now letter.now node.now scratch.new)) }
 {
     let version = asked_version(letter, node.turns.read);
     let Some(values) = get_values(alloc, &node.items, version, asked_ops(letter, script))? else {

@@ -1,12 +1,10 @@
-// No run makes this call: a run plans a step of a whole node and does it apart.
-ghost use Rattle.std.specs.Prelude.{◌≡◌, [], IfOk, IsTrue, OnErr, OnOk};
+// No run makes this call: a run plans the step of a whole node, and does it by another call.
+ghost use Rattle.std.specs.Prelude.{◌≡◌, IfOk, IsTrue, OnErr, OnOk};
 ghost use Rattle.item_versions.specs.Window.{in_window};
-ghost use Rattle.letter_types.specs.declared.bodies.Notice.TheVariants.{Did};
-ghost use Rattle.letter_types.specs.Steps.{made};
 ghost use Rattle.tree_step.specs.Changes.{IsDoneTwice};
-ghost use Rattle.tree_step.specs.Node.{data_of, IsInWindow, IsOf, IsReady, state_of};
+ghost use Rattle.tree_step.specs.Node.{IsInWindow, IsOf, IsReady, state_of};
 ghost use Rattle.tree_step.specs.AtNode.{IsDueAt};
-ghost use Rattle.read_step.specs.Rows.{read_at, read_done_at};
+ghost use Rattle.read_step.specs.Rows.{HasRead, read_done_at};
 
 use crate::plan::get_values;
 use commute_ops::Values;
@@ -23,8 +21,8 @@ use tree_step::{
 use tv_base::{NoMemory, Version};
 use tx_trees::Script;
 
-/// Plans the subtransaction that a letter asks for and that gets these values, with the answer to the client, and does
-/// it. Running out of memory leaves the node as it was.
+/// Plans the subtransaction that a message asks for and that gets these values, with the answer to the client, and does
+/// it. After out of memory the node is as it was.
 fn step_read(
     alloc: Global,
     node: &mut NodeParts,
@@ -36,8 +34,7 @@ fn step_read(
     requires ready { IsReady script.now letter.now.to.0 node.old }
     requires due { IsDueAt script.now letter.now node.old }
     requires near { IsTrue (in_window node.old.turns.low.0 version.0) }
-    ensures { IsDoneTwice (read_done_at script.now letter.now version
-        (record { staged = []; notice = Did values }) node.old) node.old node.new result }
+    ensures { IsDoneTwice (read_done_at script.now letter.now version values node.old) node.old node.new result }
 {
     let within = InVersion {
         version,
@@ -51,7 +48,9 @@ fn step_read(
     Ok(step)
 }
 
-/// The same over a node's parts, of which the turns and the items stay.
+/// Does the step for a message that asks a node for a subtransaction of a read tree, with the answer to the client, over
+/// the node's parts, of which the versions and the items stay. A message whose operations may not be made changes and
+/// sends nothing. What goes out is given twice. After out of memory all parts are as they were.
 pub fn run_read(
     alloc: Global,
     turns: &Turns,
@@ -65,10 +64,10 @@ pub fn run_read(
     requires ready { IsReady script.now letter.now.to.0 (state_of turns.now items.now counters.old homes.old) }
     requires due { IsDueAt script.now letter.now (state_of turns.now items.now counters.old homes.old) }
     // What is made.
-    ensures row { IfOk result (λ step. made (data_of (state_of turns.now items.now counters.new homes.new)) step.given
-        ≡ read_at script.now letter.now (state_of turns.now items.now counters.old homes.old)) }
+    ensures row { HasRead script.now letter.now (state_of turns.now items.now counters.old homes.old)
+        (state_of turns.now items.now counters.new homes.new) result }
     ensures kept { IfOk result (λ step. step.kept ≡ step.given) }
-    // What stays, and what running out of memory leaves.
+    // What stays, and what out of memory leaves.
     ensures held { OnOk result (homes.new.held ≡ homes.old.held) }
     ensures script { OnOk result (IsOf script.now (state_of turns.now items.now counters.new homes.new)) }
     ensures window { OnOk result (IsInWindow (state_of turns.now items.now counters.new homes.new)) }

@@ -1,5 +1,4 @@
--- Of no tree that is open an answer is held, also after a subtransaction or a notice; and a tree that is answered is
--- the notice's, and isn't open any more.
+-- No open tree has a held answer, also after a subtransaction or a notice. A tree that is answered isn't open any more.
 use Rattle.std.proofs.Common.{◌≡◌, ℕ, Bool, true, false, length, refl, ap, sym, subst, ◌∙◌, Option, Some, None, inl, inr}
 use Rattle.std.specs.Prelude.{IsSome, is_some, not, if◌then◌else◌}
 use Rattle.std.proofs.lemmas.Bool.{cases_eq}
@@ -95,13 +94,13 @@ apart_tree s p from v raises e (Root t) st held unheld apart =
 apart_tree s p from v raises e (SubLetter t k w) st held unheld apart = apart
 apart_tree s p from v raises e _ st held unheld apart = apart
 
--- in a step
+-- the same of the plan of a part
 pub apart_part : (part : TreeStep) (n : NodeCore) (o : TreeOut) → part_row part (data_of n.parts) ≡ o
     → AreApart o.out.state.homes (held_answers n.parts.homes) → IsApartAfter part n
 apart_part part n o row apart =
     subst (λ (x : TreeOut). AreApart x.out.state.homes (held_answers n.parts.homes)) (sym row) apart
 
--- a tree that is answered is the notice's, and isn't open any more
+-- a tree that is answered is that of the notice, and isn't open any more
 gone_by : (t : TreeNo) (k : SubNo) (values : Gets) (hs : OpenTrees) (a : Answered) (o : Option Answered) → o ≡ Some a
     → home_in t (after_notice t k values hs o) ≡ None
 gone_by t k values hs a None is = cc

@@ -1,4 +1,4 @@
--- A decision and an acknowledgement, as they are planned, are their rows, and the node may do them.
+-- The plans of a decision that comes to a node and of an acknowledgement are their rows, and the node may do them.
 use Rattle.std.proofs.Common.{◌≡◌, ℕ, ◌<◌, Bool, true, false, List, [], ◌∷◌, take, refl, ap, sym, subst, ◌∙◌, arith, Option, Some, None, inl, inr}
 use Rattle.std.proofs.Math.Path.{fun_ext}
 use Rattle.std.specs.Prelude.{IsSome, if◌then◌else◌}
@@ -44,7 +44,7 @@ use Rattle.tree_step.specs.declared.plan.HoldPlan.TheVariants.{Stay}
 use Rattle.tree_step.specs.declared.plan.Plan.{Plan}
 use Rattle.tree_step.specs.declared.plan.Scratch.{Scratch}
 use Rattle.tree_step.specs.declared.plan.VotePlan.TheVariants.{Free}
-use Rattle.strict_step.specs.inside.Decided.{acking, completing, dropping}
+use Rattle.strict_step.specs.inside.Decided.{acking, completing, dropping, plan_with}
 
 -- the items stay in their window, and their versions in order
 overwritten-kept : (low : ℕ) (v : Version) (o : SubOp) (w : Option Value) (items : Table) → IsHeldTable items
@@ -78,7 +78,7 @@ decided_kept low s p t v false items held all near = all
 
 -- the plan of a decision
 abbrev pub decide_plan : TreeNo → NodeNo → Version → Plan
-decide_plan t q v = record { doing = completing t q v 1; votes = Free t; holds = Stay; epoch = None }
+decide_plan t q v = plan_with (completing t q v 1) (Free t) Stay
 
 -- it means its row
 decide_ready : (s : ScriptData) (p : ℕ) (from : NodeNo) (t : TreeNo) (v : Version) (commit : Bool) (n : NodeCore)
@@ -98,7 +98,7 @@ decide_ready s p from t v commit n x home items at letters acts =
       acts = acts i;
     }
 
--- its letter is counted
+-- the acknowledgement that it sends is counted
 one_counted : (s : ScriptData) (n : NodeCore) (t : TreeNo) (v : Version) (from : NodeNo) (home : ℕ)
     (sent : List Outgoing) → IsReady s from.0 n.parts → in_window n.parts.turns.low.0 v.0 ≡ true → home ≡ home_of s t.0
     → home_of s t.0 < s.nodes → sent ≡ record { to = record { 0 = home }; body = bodies.Decided t v } ∷ []
@@ -111,7 +111,7 @@ one_counted s n t v from home sent ready near at there is =
     (may_count s n.parts v false from 1 (letter ∷ []) (letter ∷ []) ready near (omega arith) refl
     (All-from_recursion (λ (o : Outgoing). o.to.0 < s.nodes) (letter ∷ []) (lt, tt)) (omega arith))
 
--- a completion alone is counted
+-- only a completion is counted
 none_counted : (s : ScriptData) (n : NodeCore) (v : Version) (from : NodeNo) (sent : List Outgoing)
     → IsReady s from.0 n.parts → in_window n.parts.turns.low.0 v.0 ≡ true
     → MayCount (record { version = v; root = false; from = from; asked = 0 }) sent (counts_of n.parts.counters)
@@ -119,7 +119,7 @@ none_counted s n v from sent ready near =
     may_count s n.parts v false from 0 sent [] ready near (omega arith) refl
     (All-from_recursion (λ (o : Outgoing). o.to.0 < s.nodes) [] tt) (omega arith)
 
--- a function with what is there put in
+-- to put in what is there changes nothing
 put_own-at : (k j : ℕ) (x : Option Held) (f : HeldAnswers) → f k ≡ x → put_at k x f j ≡ f j
 put_own-at k j x f here =
     elim (cases_eq j k) [
@@ -127,7 +127,7 @@ put_own-at k j x f here =
       | inr ne ↦ put_at-other k j x f ne
     ]
 
--- what is acknowledged is held, and where nothing is held nothing changes
+-- what is acknowledged is held, and if nothing is held nothing changes
 ack_holds : (t : TreeNo) (hs : HeldAnswers) (o : Option Held) (x : Scratch) → held_in t hs ≡ o
     → holds_with (holds_meant (acking t o) x) hs ≡ acked t hs
 ack_holds t hs None x here =
@@ -149,7 +149,7 @@ ack_counts : (t : TreeNo) (o : Option Held) (x : Scratch) (n : Numbers)
 ack_counts t None x n = refl
 ack_counts t (Some h) x n = refl
 
--- the noes after an answer
+-- the negative votes after an answer
 noes_dropped : (a : Option Answered) (x : Scratch) (rs : Refusals)
     → refusals_with (votes_meant (dropping a) x) rs ≡ refusals_after a rs
 noes_dropped None x rs = refl
@@ -159,9 +159,9 @@ locks_dropped : (a : Option Answered) (x : Scratch) (ls : List Lock) → locks_w
 locks_dropped None x ls = refl
 locks_dropped (Some a) x ls = refl
 
--- the plan of an acknowledgement that sets this answer free, where this is held
+-- the plan of an acknowledgement that sets this answer free, if this is held
 abbrev pub acked_plan : TreeNo → NodeNo → Version → Option Answered → Option Held → Plan
-acked_plan t q v a h = record { doing = completing t q v 0; votes = dropping a; holds = acking t h; epoch = None }
+acked_plan t q v a h = plan_with (completing t q v 0) (dropping a) (acking t h)
 
 -- it means its row
 acked_ready : (s : ScriptData) (from : NodeNo) (t : TreeNo) (v : Version) (n : NodeCore) (x : Scratch)
@@ -191,7 +191,7 @@ acked_ready s from t v n x answered free letters acts none =
       acts = acts i;
     }
 
--- of a tree that is open no answer is held after an acknowledgement either
+-- after an acknowledgement, too, no open tree has a held answer
 apart_at : (opened : OpenTrees) (t u : TreeNo) (hs : HeldAnswers) → held_in u hs ≡ None → held_in u (acked t hs) ≡ None
 apart_at opened t u hs none =
     elim (cases_eq u.0 t.0) [

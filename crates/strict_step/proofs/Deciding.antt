@@ -20,8 +20,8 @@ use Rattle.tree_home.specs.declared.homes.Answered.{Answered}
 use Rattle.tx_trees.specs.ScriptData.{ScriptData, subs_at, visited, visited_by, visits}
 use Rattle.tx_trees.specs.declared.parts.Sub.{Sub}
 use Rattle.world_model.specs.Strict.{decided, none_refuses, to_each}
-use Rattle.tree_step.proofs.Replied.{after_more, do_more}
-use Rattle.tree_step.specs.Changes.{MayDo, SendsRequests, after_change, part_row}
+use Rattle.tree_step.proofs.Replied.{HasRequests, after_more, do_more, has_fit}
+use Rattle.tree_step.specs.Changes.{MayDo, after_change, part_row}
 use Rattle.tree_step.specs.Node.{Node, data_of}
 use Rattle.tree_step.specs.steps.TreeStep.{TreeStep}
 use Rattle.strict_step.proofs.Apart.{none_some}
@@ -75,7 +75,7 @@ pub visited_some : (xs : List Sub) (n : ℕ) → AllByRecursion (λ (x : Sub). x
 visited_some [] n all some = absurd (omega arith)
 visited_some (x ∷ xs) n all some = visited_first x xs n all.0
 
--- so many are named as are numbered
+-- as many nodes are named as there are numbers
 pub as_many : (qs : List NodeNo) (rs : List ℕ) → numbers_of_nodes qs ≡ rs → length qs ≡ length rs
 as_many qs rs is = omega (arith, length-map qs (λ (q : NodeNo). q.0), ap (λ (ns : List ℕ). length ns) is)
 
@@ -91,20 +91,20 @@ decided_change part votes a nodes out = record {
 -- it is the row
 decided_ready : (s : ScriptData) (part : TreeStep) (votes : VoteChange) (n : NodeCore) (a : Answered)
     (commit : Bool) (nodes : List NodeNo) (out : StepOut)
-    → SendsRequests part.parts.change part.parts.out.sent
+    → HasRequests part.parts.change part.parts.out.sent
     → commit ≡ none_refuses a.tree (refusals_with votes (by_tree n.refusals))
     → numbers_of_nodes nodes ≡ visited_by s a.tree.0
     → out.sent ≡ part.parts.out.sent ++ to_each (Decide a.tree a.version commit) (numbers_of_nodes nodes)
     → out.acts ≡ part.parts.out.acts ++ acts.Decided a.tree commit ∷ []
     → core_step_row (decided_change part votes a nodes out) (core_of n)
     ≡ decided s (with_votes votes (core_of n)) (part_row part (data_of n.parts)) (Some a)
-decided_ready s part votes n a commit nodes out counted known names letters told =
+decided_ready s part votes n a commit nodes out has known names letters told =
     let st = data_of n.parts in
     let change = part.parts.change in
     let old = part.parts.out.sent in
     let hs = held_answers n.parts.homes in
     let after = ap (λ (os : List Outgoing). after_change change os st) letters
-    ∙ after_more change old (to_each (Decide a.tree a.version commit) (numbers_of_nodes nodes)) st counted in
+    ∙ after_more change old (to_each (Decide a.tree a.version commit) (numbers_of_nodes nodes)) st has in
     let node = ap (λ (x : Node). record x { counts = asked_all a.version.0 (numbers_of_nodes nodes) x.counts }) after
     ∙ ap (λ (qs : List ℕ). record (node_after part n) { counts = asked_all a.version.0 qs (node_after part n).counts }) names in
     let held = ap (λ (k : ℕ). holding a k hs) (as_many nodes (visited_by s a.tree.0) names) in
@@ -124,7 +124,7 @@ decided_ready s part votes n a commit nodes out counted known names letters told
       acts = done i;
     }
 
--- of no tree that is open an answer is held then
+-- then, too, no open tree has a held answer
 apart_holding : (opened : OpenTrees) (a : Answered) (k : ℕ) (hs : HeldAnswers) → home_in a.tree opened ≡ None
     → AreApart opened hs → AreApart opened (holding a k hs)
 apart_holding opened a k hs gone apart = λ u there.
@@ -137,7 +137,6 @@ apart_holding opened a k hs gone apart = λ u there.
 pub decided_step : (s : ScriptData) (part : TreeStep) (votes : VoteChange) (n : NodeCore) (a : Answered)
     (commit : Bool) (nodes : List NodeNo) (out : StepOut)
     → MayDo part.parts.change part.parts.out.sent n.parts
-    → SendsRequests part.parts.change part.parts.out.sent
     → IsApartAfter part n → IsDecidable s part n a → length nodes ≤ 64 → 0 < length nodes
     → commit ≡ none_refuses a.tree (refusals_with votes (by_tree n.refusals))
     → numbers_of_nodes nodes ≡ visited_by s a.tree.0
@@ -145,19 +144,20 @@ pub decided_step : (s : ScriptData) (part : TreeStep) (votes : VoteChange) (n : 
     → out.acts ≡ part.parts.out.acts ++ acts.Decided a.tree commit ∷ []
     → IsCoreStepOf (decided s (with_votes votes (core_of n)) (part_row part (data_of n.parts)) (Some a)) n
     (decided_change part votes a nodes out)
-decided_step s part votes n a commit nodes out may counted apart can few some known names letters told =
+decided_step s part votes n a commit nodes out may apart can few some known names letters told =
     let st = data_of n.parts in
     let change = part.parts.change in
     let old = part.parts.out.sent in
     let more = to_each (Decide a.tree a.version commit) (numbers_of_nodes nodes) in
     let hs = held_answers n.parts.homes in
+    let has = has_fit change old n.parts may.fits in
     let after : after_change change out.sent st ≡ node_after part n =
-    ap (λ (os : List Outgoing). after_change change os st) letters ∙ after_more change old more st counted in
+    ap (λ (os : List Outgoing). after_change change os st) letters ∙ after_more change old more st has in
     record {
-      row = decided_ready s part votes n a commit nodes out counted known names letters told;
+      row = decided_ready s part votes n a commit nodes out has known names letters told;
       may = record {
         parts = subst (λ (os : List Outgoing). MayDo change os n.parts) (sym letters)
-            (do_more change old more n.parts counted may);
+            (do_more change old more n.parts may);
         holds = (some, can.unheld);
         asks = (
           subst (λ (x : Node). in_window x.turns.low.0 a.version.0 ≡ true) (sym after) can.near,

@@ -1,4 +1,4 @@
--- A vote and a notice, as they are planned, are their rows, and the tree may be decided.
+-- The plans of a vote and of a notice are their rows, and the tree may be decided.
 use Rattle.std.proofs.Common.{◌≡◌, ℕ, ◌<◌, ◌==◌, Bool, true, false, List, [], ◌∷◌, length, refl, ap, sym, subst, ◌∙◌, arith, Option, Some, None}
 use Rattle.std.specs.Prelude.{IsSome, nat_lt, not, ◌||◌, slice_get, if◌then◌else◌}
 use Rattle.std.proofs.lemmas.Bool.{and_parts}
@@ -45,7 +45,7 @@ use Rattle.tree_step.specs.declared.node_core.NodeCore.{NodeCore}
 use Rattle.strict_step.specs.Answering.{MayDecide}
 use Rattle.strict_step.specs.inside.Voting.{change_by, refusal_there}
 
--- the noes after a notice
+-- the negative votes after a notice
 noes_noted : (b : Bool) (t : TreeNo) (k : SubNo) (notice : Notice) (rs : Refusals)
     → refusals_with (refusal_there b t k notice rs) rs ≡ (if b then refused_by t k notice rs else rs)
 noes_noted true t k (notices.Did values) rs = refl
@@ -94,7 +94,7 @@ note_decided s from t k v notice c o change kind row is =
     ∙ sym (ap (λ (b : Bool). if b then decided s (record c { refusals = refused_there t k notice c }) out out.answered
     else answered s c out) kind)
 
--- where a notice is missing its tree is open
+-- if a notice is missing, its tree is open
 misses_some : (k : SubNo) (o : Option OpenTree) → misses_of k o ≡ true → IsSome o
 misses_some k None is = cc
 misses_some k (Some h) is = refl
@@ -161,7 +161,7 @@ voted_vote t vote ops body c = λ i. record c {
   refusals = noes_voted t vote ops body c.refusals i;
 }
 
--- a vote that was planned, by its parts
+-- the plan of a vote, by its parts
 pub vote_row : (s : ScriptData) (p from : ℕ) (t : TreeNo) (body : Body) (n : NodeCore) (part : TreeStep)
     (v : Version) (raises : Bool) (staged : Table) (notice : Notice) (vote : Vote) (ops : List SubOp)
     (change : VoteChange)
@@ -189,7 +189,7 @@ vote_row s p from t body n part v raises staged notice vote ops change row none 
     (cast ∙ ap (λ (os : List SubOp). vote_of n.locks items t v os) asked)
     ∙ ap (λ (w : Version). voted_core s p from t w (vote_of n.locks items t w (asked_ops s body)) body c) at
 
--- a root that a node takes has a tree
+-- the tree of a root that a node takes is there
 rooted : (xs : List Sub) (m p : ℕ) → ((elim (slice_get xs 0) [ Some sub ↦ sub.node.0 | None ↦ m ]) == p) ≡ true → p < m
     → 0 < length xs
 rooted [] m p is lt = grind (arith, nat_tests)

@@ -1,15 +1,15 @@
-// What becomes of a tree once its home misses no notice: an update or a read tree is answered, and a strict tree is
+// What becomes of a tree once its home misses no notice: an update tree or a read tree is answered, a strict tree
 // decided.
 ghost use Rattle.std.specs.Prelude.{◌≡◌, ◌<◌, ◌++◌, length, [], IfOk, OnOk};
-ghost use Rattle.letter_types.specs.declared.bodies.Body.TheVariants.{Decide};
 ghost use Rattle.tx_trees.specs.ScriptData.{subs_at, updates, visited_by};
-ghost use Rattle.world_model.specs.Strict.{marks, none_refuses, release_letters, to_each};
-ghost use Rattle.tree_step.specs.Changes.{MayDo, SendsRequests};
+ghost use Rattle.world_model.specs.Strict.{marks, none_refuses, release_letters};
+ghost use Rattle.tree_step.specs.Changes.{MayDo};
 ghost use Rattle.tree_step.specs.CoreChanges.{numbers_of_nodes};
-ghost use Rattle.tree_step.specs.Meant.{core_meant, doing_meant, part_meant, refusals_meant, votes_meant};
-ghost use Rattle.strict_step.specs.Answering.{IsAnsweredStep, IsApartAfter, IsDecidedStep, MayDecide, tree_releases};
+ghost use Rattle.tree_step.specs.Meant.{doing_meant, part_meant, refusals_meant};
+ghost use Rattle.strict_step.specs.Answering.{IsAnsweredPlan, IsApartAfter, IsDecidedPlan, MayDecide, tree_releases};
+ghost use Rattle.strict_step.specs.inside.Decided.{decides_to};
 
-use crate::decisions::client_of;
+use crate::decisions::{client_of, plan_with};
 use letter_types::{Act, Body, Letters, Outgoing};
 use nc_commit::Decision;
 use script_parts::children::visits;
@@ -35,20 +35,22 @@ fn push_visited(told: &mut Visited, script: &Script, tree: TreeNo) -> Result<(),
     Ok(())
 }
 
-/// Whether the tree is an update tree of a script with strict trees: then it marks its items.
+/// Whether a tree marks its items: it is an update tree of a script with strict trees.
 fn marks(script: &Script, tree: TreeNo) -> bool
     ensures { result ≡ marks script.now tree.0 }
 {
     script.has_strict() && is_update(script, tree)
 }
 
+/// Whether a tree is there, and is an update tree.
 fn is_update(script: &Script, tree: TreeNo) -> bool
     ensures { result ≡ updates script.now tree.0 }
 {
     matches!(kind_of(script, tree), Some(TreeKind::Update))
 }
 
-/// Adds what tells each node that a tree visits to let its marks go, where the tree is answered and marks its items.
+/// Adds a message to each node that a tree visits, which lets the tree's marks go, if the tree is answered and marks its
+/// items.
 fn push_releases(
     sent: &mut Letters,
     script: &Script,
@@ -62,6 +64,7 @@ fn push_releases(
     }
 }
 
+/// The same of a tree that is answered.
 fn push_tree_releases(sent: &mut Letters, script: &Script, tree: TreeNo) -> Result<(), NoMemory>
     ensures { OnOk result (sent.new ≡ sent.old ++ tree_releases script.now tree) }
 {
@@ -80,8 +83,9 @@ fn push_tree_releases(sent: &mut Letters, script: &Script, tree: TreeNo) -> Resu
     Ok(())
 }
 
-/// Plans a step of an update or a read tree's letter, with what is sent where the tree is answered, behind what was
-/// sent before: that its marks go, and the answer to the client.
+/// Plans a step of a message of an update tree or a read tree. If the tree is answered, then behind what the step sends
+/// goes what lets its marks go, and the answer to the client. After out of memory the scratch may hold a part of what
+/// goes out.
 pub fn plan_answered(
     core: &NodeCore,
     script: &Script,
@@ -91,24 +95,17 @@ pub fn plan_answered(
 ) -> Result<Plan, NoMemory>
     // What the caller knows.
     requires may { MayDo (doing_meant part.doing scratch.old) scratch.old.sent core.now.parts }
-    requires counted { SendsRequests (doing_meant part.doing scratch.old) scratch.old.sent }
     requires apart { IsApartAfter (part_meant part scratch.old) core.now }
     // What is planned.
-    ensures { IfOk result (λ plan. IsAnsweredStep script.now (votes_meant votes scratch.old)
-        (part_meant part scratch.old) core.now (core_meant plan scratch.new)) }
+    ensures { IfOk result (IsAnsweredPlan script.now votes part core.now scratch.old scratch.new) }
 {
     let PartPlan { doing, answered } = part;
     push_releases(&mut scratch.sent, script, &answered)?;
     push_reply(&mut scratch.sent, client_of(script), answered)?;
-    Ok(Plan {
-        doing,
-        votes,
-        holds: HoldPlan::Stay,
-        epoch: None,
-    })
+    Ok(plan_with(doing, votes, HoldPlan::Stay))
 }
 
-/// Whether a tree commits once the noes have changed so: it has no no.
+/// Whether a tree commits after these changes of the negative votes: it has none.
 fn commits(refusals: &Refusals, votes: VotePlan, scratch: &Scratch, tree: TreeNo) -> bool
     ensures { result ≡ none_refuses tree (refusals_meant votes scratch.now refusals.now) }
 {
@@ -122,10 +119,9 @@ fn commits(refusals: &Refusals, votes: VotePlan, scratch: &Scratch, tree: TreeNo
     }
 }
 
-/// Tells each of these nodes what was decided.
+/// Adds a message to each of these nodes that tells it the decision.
 fn push_decides(sent: &mut Letters, decision: Decision, nodes: &[NodeNo]) -> Result<(), NoMemory>
-    ensures { OnOk result (sent.new ≡ sent.old
-        ++ to_each (Decide decision.tree decision.version decision.commit) (numbers_of_nodes nodes.now)) }
+    ensures { OnOk result (sent.new ≡ sent.old ++ decides_to decision nodes.now) }
 {
     for node in nodes {
         sent.push(Outgoing {
@@ -140,8 +136,8 @@ fn push_decides(sent: &mut Letters, decision: Decision, nodes: &[NodeNo]) -> Res
     Ok(())
 }
 
-/// Plans a step of a strict tree's letter, with the decision where all its votes are there. Each node that the tree
-/// visits is told, behind what was sent before, and the answer is held until all have told that they applied it.
+/// Plans a step of a message of a strict tree, with the decision if no vote is missing. Each node that the tree visits is
+/// told the decision, behind what the step sends, and the answer is held until all of them have acknowledged it.
 pub(crate) fn plan_decided(
     core: &NodeCore,
     script: &Script,
@@ -151,22 +147,15 @@ pub(crate) fn plan_decided(
 ) -> Result<Plan, NoMemory>
     // What the caller knows.
     requires may { MayDo (doing_meant part.doing scratch.old) scratch.old.sent core.now.parts }
-    requires counted { SendsRequests (doing_meant part.doing scratch.old) scratch.old.sent }
     requires apart { IsApartAfter (part_meant part scratch.old) core.now }
     requires decide { MayDecide script.now (part_meant part scratch.old) core.now part.answered }
     requires none_told { scratch.old.told ≡ [] }
     // What is planned.
-    ensures { IfOk result (λ plan. IsDecidedStep script.now (votes_meant votes scratch.old)
-        (part_meant part scratch.old) core.now (core_meant plan scratch.new)) }
+    ensures { IfOk result (IsDecidedPlan script.now votes part core.now scratch.old scratch.new) }
 {
     let PartPlan { doing, answered } = part;
     let Some(answered) = answered else {
-        return Ok(Plan {
-            doing,
-            votes,
-            holds: HoldPlan::Stay,
-            epoch: None,
-        });
+        return Ok(plan_with(doing, votes, HoldPlan::Stay));
     };
     let Answered {
         tree,
@@ -183,10 +172,5 @@ pub(crate) fn plan_decided(
     push_decides(&mut scratch.sent, decision, scratch.told.items())?;
     scratch.acts.push(Act::Decided { tree, commit })?;
     scratch.held = values;
-    Ok(Plan {
-        doing,
-        votes,
-        holds: HoldPlan::Hold { tree, version },
-        epoch: None,
-    })
+    Ok(plan_with(doing, votes, HoldPlan::Hold { tree, version }))
 }

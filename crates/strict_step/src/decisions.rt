@@ -1,17 +1,15 @@
-// What a node does with a decision, with an acknowledgement of one, and with marks that go.
-ghost use Rattle.std.specs.Prelude.{◌≡◌, ◌<◌, ◌++◌, length, IfOk, IsTrue, OnOk, Some};
+// What a node does with a decision, with an acknowledgement of one, and with a message that lets marks go.
+ghost use Rattle.std.specs.Prelude.{◌≡◌, ◌<◌, ◌++◌, [], length, IfOk, IsTrue, OnOk, Some};
 ghost use Rattle.item_versions.specs.Window.{in_window};
 ghost use Rattle.tree_home.specs.HeldAnswers.{answer_when_acked, held_answers, held_in, last_answer};
 ghost use Rattle.tree_home.specs.Maps.{by_tree};
 ghost use Rattle.tx_trees.specs.ScriptData.{client_of, subs_at};
-ghost use Rattle.world_model.specs.Decisions.{can_decide};
 ghost use Rattle.world_model.specs.Named.{is_strict_at};
-ghost use Rattle.world_model.specs.Strict.{answer_by, answer_letters, release_core};
-ghost use Rattle.tree_step.specs.CoreChanges.{IsCoreStepOf};
-ghost use Rattle.tree_step.specs.Core.{CanCoreStep, IsCoreReady, core_of};
+ghost use Rattle.world_model.specs.Strict.{answer_by, answer_letters};
+ghost use Rattle.tree_step.specs.Core.{CanCoreStep, IsCoreReady};
 ghost use Rattle.tree_step.specs.Meant.{core_meant, IsEmpty};
-ghost use Rattle.strict_step.specs.inside.Decided.{acking, completing, dropping};
-ghost use Rattle.strict_step.specs.Answering.{IsAckedStep, IsDecideStep};
+ghost use Rattle.strict_step.specs.inside.Decided.{acking, completing, dropping, plan_with};
+ghost use Rattle.strict_step.specs.Answering.{IsAckedStep, IsDecideStep, IsReleaseStep, can_decide_at};
 
 use commute_ops::copy_values;
 use letter_types::{Act, Answer, Body, Boxed, Letter, Letters, Outgoing};
@@ -25,23 +23,31 @@ use tv_base::{ActorNo, NoMemory, NodeNo, SubNo, TreeNo, Version};
 use tx_trees::Script;
 use world_model::NegativeVote;
 
-/// Plans that an update tree's marks go.
-pub fn plan_release(core: &NodeCore, tree: TreeNo, scratch: &mut Scratch) -> Result<Plan, NoMemory>
-    requires can { CanCoreStep core.now }
-    requires empty { IsEmpty scratch.old }
-    ensures { IfOk result (λ plan. IsCoreStepOf (release_core tree (core_of core.now)) core.now
-        (core_meant plan scratch.new)) }
+/// The plan of these three parts, by which a node hears of no epoch.
+pub(crate) fn plan_with(doing: Doing, votes: VotePlan, holds: HoldPlan) -> Plan
+    ensures { result ≡ plan_with doing votes holds }
 {
-    scratch.acts.push(Act::Freed { tree })?;
-    Ok(Plan {
-        doing: Doing::Still,
-        votes: VotePlan::Free(tree),
-        holds: HoldPlan::Stay,
+    Plan {
+        doing,
+        votes,
+        holds,
         epoch: None,
-    })
+    }
 }
 
-/// A completion from node `from` is counted in this version, and so many letters that are sent.
+/// Plans that a node lets the marks of an update tree go.
+pub fn plan_release(core: &NodeCore, tree: TreeNo, scratch: &mut Scratch) -> Result<Plan, NoMemory>
+    requires can { CanCoreStep core.now }
+    requires none_sent { scratch.old.sent ≡ [] }
+    requires no_acts { scratch.old.acts ≡ [] }
+    ensures { IfOk result (λ plan. IsReleaseStep tree core.now (core_meant plan scratch.new)) }
+{
+    scratch.acts.push(Act::Freed { tree })?;
+    Ok(plan_with(Doing::Still, VotePlan::Free(tree), HoldPlan::Stay))
+}
+
+/// What a node's parts do for a completion: one from node `from` is counted in this version, and the first `asked` of the
+/// messages that are sent.
 fn completing(tree: TreeNo, from: NodeNo, version: Version, asked: usize) -> Doing
     ensures { result ≡ completing tree from version asked }
 {
@@ -60,8 +66,8 @@ fn completing(tree: TreeNo, from: NodeNo, version: Version, asked: usize) -> Doi
     })
 }
 
-/// Plans that a node applies a decision that a letter brings: a commit writes what the tree has there, the tree's locks
-/// go, and its home is told.
+/// Plans that a node applies the decision that a message brings. A commit writes what the tree sets and draws there. The
+/// tree's locks go, and its home gets an acknowledgement. After out of memory the scratch may hold a part of the plan.
 pub fn plan_decide(
     alloc: Global,
     core: &NodeCore,
@@ -75,14 +81,14 @@ pub fn plan_decide(
     requires strict { IsTrue (is_strict_at script.now decision.tree.0) }
     requires there { 0 < length (subs_at script.now decision.tree.0) }
     requires near { IsTrue (in_window core.now.parts.turns.low.0 decision.version.0) }
-    requires can { IsTrue (can_decide script.now letter.now.to.0 decision.tree decision.version decision.commit
-        core.now.parts.items) }
+    requires can { IsTrue (can_decide_at script.now letter.now decision core.now) }
     requires empty { IsEmpty scratch.old }
     // What is planned.
     ensures { IfOk result (λ plan. IsDecideStep script.now letter.now decision core.now (core_meant plan scratch.new)) }
 {
+    let items = &core.parts.items;
     // The readers say that the versions of each item ascend, and that a tree's nodes are the script's.
-    let _count = core.parts.items.count();
+    let _count = items.count();
     let _subs = script.subs_of(decision.tree);
     let Decision {
         tree,
@@ -90,28 +96,17 @@ pub fn plan_decide(
         commit,
     } = decision;
     let node = NodeNo(letter.to.0);
-    stage_decided(
-        alloc,
-        &core.parts.items,
-        &mut scratch.staged,
-        decision,
-        script,
-        node,
-    )?;
+    stage_decided(alloc, items, &mut scratch.staged, decision, script, node)?;
     scratch.sent.push(Outgoing {
         to: ActorNo(script.home_of(tree)),
         body: Body::Decided { tree, version },
     })?;
     scratch.acts.push(Act::Applied { tree, commit })?;
-    Ok(Plan {
-        doing: completing(tree, NodeNo(letter.from.0), version, 1),
-        votes: VotePlan::Free(tree),
-        holds: HoldPlan::Stay,
-        epoch: None,
-    })
+    let doing = completing(tree, NodeNo(letter.from.0), version, 1);
+    Ok(plan_with(doing, VotePlan::Free(tree), HoldPlan::Stay))
 }
 
-/// What becomes of the held answers at an acknowledgement of a tree: nothing where none of its is held.
+/// What becomes of the held answers at an acknowledgement of a tree: they stay if none of this tree is held.
 fn acking(homes: &Homes, tree: TreeNo) -> HoldPlan
     ensures { result ≡ acking tree (held_in tree (held_answers homes.now)) }
 {
@@ -121,7 +116,7 @@ fn acking(homes: &Homes, tree: TreeNo) -> HoldPlan
     }
 }
 
-/// A copy of an answer that is held, where no acknowledgement is missing beside the next.
+/// A copy of an answer that is held, if no acknowledgement but the next is missing.
 fn last_answer(alloc: Global, held: &Held) -> Result<Option<Answered>, NoMemory>
     ensures { IfOk result (λ answer. answer ≡ last_answer (Some held.now)) }
 {
@@ -137,7 +132,7 @@ fn last_answer(alloc: Global, held: &Held) -> Result<Option<Answered>, NoMemory>
     }))
 }
 
-/// A copy of the answer that the next acknowledgement of a tree sets free.
+/// A copy of the answer of a tree that its next acknowledgement sets free, if it sets one free.
 fn freed_answer(alloc: Global, homes: &Homes, tree: TreeNo) -> Result<Option<Answered>, NoMemory>
     ensures { IfOk result (λ answer. answer ≡ answer_when_acked tree (held_answers homes.now)) }
 {
@@ -147,7 +142,7 @@ fn freed_answer(alloc: Global, homes: &Homes, tree: TreeNo) -> Result<Option<Ans
     }
 }
 
-/// What becomes of the noes at an answer: its tree has none any more.
+/// What becomes of the negative votes at an answer: that of its tree goes.
 fn dropping(answered: &Option<Answered>) -> VotePlan
     ensures { result ≡ dropping answered.now }
 {
@@ -157,7 +152,7 @@ fn dropping(answered: &Option<Answered>) -> VotePlan
     }
 }
 
-/// The answer of a strict tree that has this no, if it has one.
+/// What the client is told of a strict tree: the values, or the cause of the tree's negative vote, if it has one.
 fn answer_by(
     alloc: Global,
     refusal: Option<NegativeVote>,
@@ -207,7 +202,7 @@ fn push_answer(
     Ok(())
 }
 
-/// That a node has applied what was decided of a strict tree.
+/// An acknowledgement: a node has applied the decision on a strict tree.
 #[derive(Clone, Copy)]
 pub struct Acknowledgement {
     pub tree: TreeNo,
@@ -217,8 +212,8 @@ pub struct Acknowledgement {
     pub from: NodeNo,
 }
 
-/// Plans that a strict tree's home hears from a node that the decision was applied there: after the last such
-/// acknowledgement the client is answered.
+/// Plans that a strict tree's home takes an acknowledgement down. After the last one the client is answered. After out of
+/// memory the scratch may hold a part of what goes out.
 pub fn plan_acked(
     alloc: Global,
     core: &NodeCore,
@@ -242,10 +237,6 @@ pub fn plan_acked(
     let answered = freed_answer(alloc, homes, tree)?;
     let votes = dropping(&answered);
     push_answer(alloc, &mut scratch.sent, script, &core.refusals, answered)?;
-    Ok(Plan {
-        doing: completing(tree, from, version, 0),
-        votes,
-        holds: acking(homes, tree),
-        epoch: None,
-    })
+    let doing = completing(tree, from, version, 0);
+    Ok(plan_with(doing, votes, acking(homes, tree)))
 }

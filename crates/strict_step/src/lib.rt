@@ -1,5 +1,5 @@
-//! What a node does for strict trees, planned: votes, notices of them, decisions on them and their acknowledgements,
-//! and marks of update trees that go; and how a step of any tree becomes one of its core.
+//! What a node does for strict trees, as plans: votes, notices that bring them, decisions and their acknowledgements. And
+//! what any tree passes: its answer, its notices at its home, and, of update trees, messages that let their marks go.
 #![tactic(auto)]
 
 mod answers;

@@ -1,4 +1,4 @@
-// A subtransaction of a strict tree votes, and a vote comes to its tree's home.
+// A subtransaction of a strict tree votes, and its vote comes to the tree's home.
 ghost use Rattle.std.specs.Prelude.{◌≡◌, ◌<◌, length, [], IfOk, IsTrue, OnOk};
 ghost use Rattle.item_versions.specs.Window.{in_window};
 ghost use Rattle.tree_home.specs.Maps.{by_tree};
@@ -8,7 +8,7 @@ ghost use Rattle.world_model.specs.Notices.{values_of};
 ghost use Rattle.world_model.specs.Strict.{notice_by};
 ghost use Rattle.tree_step.specs.AtNode.{answers_near, IsDueAt, IsNoteStep, IsUnheldAt, IsVoteStep};
 ghost use Rattle.tree_step.specs.Core.{IsCoreReady};
-ghost use Rattle.tree_step.specs.Meant.{core_meant, IsEmpty, votes_meant};
+ghost use Rattle.tree_step.specs.Meant.{ChangesNo, ChangesVotes, core_meant, IsEmpty, MeansVotes, votes_meant};
 ghost use Rattle.strict_step.specs.inside.Voting.{change_by, no_by, no_in_notice, noted_no, refusal_at};
 
 use crate::answers::{plan_answered, plan_decided};
@@ -24,7 +24,7 @@ use tv_base::{NoMemory, SubNo, TreeNo};
 use tx_trees::{Script, SubOp};
 use world_model::NegativeVote;
 
-/// Of two noes that of the lesser number.
+/// Of two negative votes that of the lesser subtransaction.
 fn lesser(old: Option<NegativeVote>, new: NegativeVote) -> NegativeVote
     ensures { result ≡ lesser old new }
 {
@@ -34,7 +34,7 @@ fn lesser(old: Option<NegativeVote>, new: NegativeVote) -> NegativeVote
     }
 }
 
-/// A no comes to the tree's home: the tree has it, unless it has one of a lesser number.
+/// A negative vote comes to the tree's home. It is the tree's then, unless the tree has one of a lesser subtransaction.
 fn note_no(
     refusals: &Refusals,
     tree: TreeNo,
@@ -43,14 +43,14 @@ fn note_no(
     scratch: &mut Scratch,
 ) -> VotePlan
     ensures votes { votes_meant result scratch.new ≡ noted_no tree sub cause (by_tree refusals.now) }
-    ensures rest { scratch.new ≡ record scratch.old { refusal = scratch.new.refusal } }
+    ensures rest { ChangesNo scratch.old scratch.new }
 {
     let refusal = lesser(refusals.of(tree), NegativeVote { sub, cause });
     scratch.refusal = Some(refusal);
     VotePlan::Note(tree)
 }
 
-/// What becomes of the noes at a notice.
+/// What becomes of the negative votes at a notice that is missing at its home.
 fn refusal_of(
     refusals: &Refusals,
     tree: TreeNo,
@@ -59,7 +59,7 @@ fn refusal_of(
     scratch: &mut Scratch,
 ) -> VotePlan
     ensures votes { votes_meant result scratch.new ≡ no_in_notice tree sub notice.now (by_tree refusals.now) }
-    ensures rest { scratch.new ≡ record scratch.old { refusal = scratch.new.refusal } }
+    ensures rest { ChangesNo scratch.old scratch.new }
 {
     match notice {
         Notice::No(cause) => note_no(refusals, tree, sub, *cause.get(), scratch),
@@ -67,7 +67,7 @@ fn refusal_of(
     }
 }
 
-/// What becomes of the noes at a notice: nothing where it isn't missing at its home.
+/// What becomes of the negative votes at a notice: all stay if it isn't missing at its home.
 fn refused_there(
     core: &NodeCore,
     request: Request,
@@ -75,7 +75,7 @@ fn refused_there(
     scratch: &mut Scratch,
 ) -> VotePlan
     ensures votes { votes_meant result scratch.new ≡ refusal_at request notice.now core.now }
-    ensures rest { scratch.new ≡ record scratch.old { refusal = scratch.new.refusal } }
+    ensures rest { ChangesNo scratch.old scratch.new }
 {
     let Request { tree, sub, .. } = request;
     if !core.parts.homes.misses(tree, sub) {
@@ -84,7 +84,7 @@ fn refused_there(
     refusal_of(&core.refusals, tree, sub, notice, scratch)
 }
 
-/// The values that a notice brings: these, which are none, where it is a no.
+/// The values that a notice brings. If it is a negative vote, they are `none`, an empty list.
 fn values_of<'a>(notice: &'a Notice, none: &'a Values) -> &'a Values
     requires { none.now ≡ [] }
     ensures { result.now ≡ values_of notice.now }
@@ -96,8 +96,8 @@ fn values_of<'a>(notice: &'a Notice, none: &'a Values) -> &'a Values
     }
 }
 
-/// Plans that a tree's home takes a notice down and counts its completion. Where none is missing any more, an update or
-/// a read tree is answered, and a strict tree is decided.
+/// Plans that a tree's home takes a notice down and counts its completion. If none is missing any more, an update tree or
+/// a read tree is answered, and a strict tree decided. After out of memory the scratch may hold a part of the plan.
 pub fn plan_note(
     alloc: Global,
     core: &NodeCore,
@@ -128,7 +128,7 @@ pub fn plan_note(
     Ok(plan)
 }
 
-/// What a vote tells the tree's home.
+/// The notice that brings a vote to the tree's home.
 fn notice_by(vote: Vote) -> Notice
     ensures { result ≡ notice_by vote }
 {
@@ -138,10 +138,10 @@ fn notice_by(vote: Vote) -> Notice
     }
 }
 
-/// What becomes of the noes at a no: that of a root is at its home.
+/// What becomes of the negative votes at a negative vote: a root casts it at the tree's home, which notes it at once.
 fn no_by(refusals: &Refusals, cause: Cause, body: &Body, scratch: &mut Scratch) -> VotePlan
     ensures votes { votes_meant result scratch.new ≡ no_by cause body.now (by_tree refusals.now) }
-    ensures rest { scratch.new ≡ record scratch.old { refusal = scratch.new.refusal } }
+    ensures rest { ChangesNo scratch.old scratch.new }
 {
     match body {
         Body::Root { tree } => note_no(refusals, *tree, SubNo(0), cause, scratch),
@@ -149,7 +149,7 @@ fn no_by(refusals: &Refusals, cause: Cause, body: &Body, scratch: &mut Scratch) 
     }
 }
 
-/// What a vote changes: a yes takes the locks that the operations want.
+/// What a vote changes: a positive one takes the locks that the operations want.
 fn change_by(
     refusals: &Refusals,
     tree: TreeNo,
@@ -159,10 +159,9 @@ fn change_by(
     scratch: &mut Scratch,
 ) -> Result<VotePlan, NoMemory>
     requires { scratch.old.wanted ≡ [] }
-    ensures votes { IfOk result (λ votes. votes_meant votes scratch.new
-        ≡ change_by tree vote.now ops.now body.now (by_tree refusals.now)) }
-    ensures rest { OnOk result (scratch.new
-        ≡ record scratch.old { wanted = scratch.new.wanted; refusal = scratch.new.refusal }) }
+    ensures votes { IfOk result (MeansVotes (change_by tree vote.now ops.now body.now (by_tree refusals.now))
+        scratch.new) }
+    ensures rest { OnOk result (ChangesVotes scratch.old scratch.new) }
 {
     match vote {
         Vote::Yes(_) => {
@@ -173,8 +172,9 @@ fn change_by(
     }
 }
 
-/// Plans that a subtransaction of a strict tree votes: a yes takes its locks, and its home is told. A root is at its
-/// home, so a tree without another subtransaction is decided.
+/// Plans that a subtransaction of a strict tree votes. A positive vote takes its locks, and the tree's home is told. A
+/// root is at the home, so a tree that has only its root is decided at once. After out of memory the scratch may hold a
+/// part of the plan.
 pub fn plan_vote(
     alloc: Global,
     core: &NodeCore,

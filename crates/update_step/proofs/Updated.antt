@@ -1,4 +1,4 @@
--- The row where the operations may be made.
+-- The row of a message whose operations may be made.
 use Rattle.std.proofs.Common.{◌≡◌, ℕ, Bool, true, List, ap, sym, ◌∙◌, subst}
 use Rattle.std.specs.Prelude.{nat_lt}
 use Rattle.tv_base.specs.declared.numbers.Version.{Version}

@@ -1,4 +1,4 @@
-//! A node's step for a subtransaction of an update tree.
+//! A node's step for a subtransaction of an update tree, as a plan.
 #![tactic(auto)]
 
 mod plan;

@@ -1,11 +1,10 @@
 // A subtransaction of an update tree is planned.
-ghost use Rattle.std.specs.Prelude.{◌≡◌, [], is_some, IfNone, IfOk, IfSome, IsTrue, OnOk};
+ghost use Rattle.std.specs.Prelude.{◌≡◌, [], is_some, IfOk, IfSome, IsTrue, OnOk};
 ghost use Rattle.std.specs.Bool.{OnTrue};
-ghost use Rattle.item_versions.specs.Table.{pending};
 ghost use Rattle.item_versions.specs.Window.{in_window, IsWindowedTable};
-ghost use Rattle.tree_step.specs.Meant.{out_in, part_meant};
+ghost use Rattle.tree_step.specs.Meant.{ChangesPart};
 ghost use Rattle.tree_step.specs.Node.{data_of, IsReady};
-ghost use Rattle.update_step.specs.Rows.{can_touch, can_update, IsUpdatePart, table_after_ops};
+ghost use Rattle.update_step.specs.Rows.{can_touch, can_update, FitsStaged, IsStagedBy, IsUpdatePartPlan};
 ghost use Rattle.tree_step.specs.AtNode.{IsDueAt};
 
 use commute_ops::Values;
@@ -18,8 +17,8 @@ use tree_step::{
 use tv_base::{NoMemory, Version};
 use tx_trees::{Deed, Script, SubOp};
 
-/// Stages what the operations of an update make at a node in version `v`. False exactly where one of them may not be
-/// made.
+/// Stages what the operations of an update make of a node's items in version `v`, and drops what was staged. False
+/// exactly if one of them may not be made; then a part may be staged.
 fn stage_ops(
     alloc: Global,
     node: &NodeParts,
@@ -30,10 +29,8 @@ fn stage_ops(
     requires items { IsWindowedTable node.now.turns.low.0 node.now.items }
     requires near { IsTrue (in_window node.now.turns.low.0 v.0) }
     ensures can { IfOk result (λ can. can ≡ can_touch v ops.now node.now.items) }
-    ensures after { IfOk result (λ can. OnTrue can
-        (pending staged.new node.now.items ≡ table_after_ops v ops.now node.now.items)) }
-    ensures fits { IfOk result (λ can. OnTrue can
-        (IsWindowedTable node.now.turns.low.0 (pending staged.new node.now.items))) }
+    ensures after { IfOk result (λ can. OnTrue can (IsStagedBy v ops.now node.now staged.new)) }
+    ensures fits { IfOk result (λ can. OnTrue can (FitsStaged node.now staged.new)) }
 {
     let items = &node.items;
     // The reader says that the versions of each item ascend.
@@ -50,7 +47,7 @@ fn stage_ops(
     Ok(true)
 }
 
-/// Whether the operations that a letter asks for may be made.
+/// Whether the operations may be made that a message asks for.
 pub fn can_update(
     alloc: Global,
     node: &NodeParts,
@@ -67,8 +64,9 @@ pub fn can_update(
     Ok(can)
 }
 
-/// Plans what a node does with a letter that asks it for a subtransaction of an update tree (docs/ALGORITHM.md,
-/// "Nodes"), before the tree is answered. None exactly where the operations may not be made; then nothing goes out.
+/// Plans what a node does with a message that asks it for a subtransaction of an update tree (docs/ALGORITHM.md,
+/// "Nodes"), before the tree is answered. None exactly if the operations may not be made; then a part may be staged, as
+/// after out of memory.
 pub fn plan_update(
     alloc: Global,
     node: &NodeParts,
@@ -85,15 +83,8 @@ pub fn plan_update(
     requires no_acts { scratch.old.acts ≡ [] }
     // What is planned.
     ensures can { IfOk result (λ found. is_some found ≡ can_update script.now (data_of node.now) letter.now.body) }
-    ensures part { IfOk result (λ found. IfSome found
-        (λ part. IsUpdatePart script.now letter.now node.now (part_meant part scratch.new))) }
-    ensures none { IfOk result (λ found. IfNone found (out_in scratch.new ≡ record { sent = []; acts = [] })) }
-    ensures rest { OnOk result (scratch.new ≡ record scratch.old {
-      staged = scratch.new.staged;
-      values = scratch.new.values;
-      sent = scratch.new.sent;
-      acts = scratch.new.acts;
-    }) }
+    ensures part { IfOk result (λ found. IfSome found (IsUpdatePartPlan script.now letter.now node.now scratch.new)) }
+    ensures rest { OnOk result (ChangesPart scratch.old scratch.new) }
 {
     let version = asked_version(letter, node.turns.update);
     let ops = asked_ops(letter, script);

@@ -1,10 +1,9 @@
-// No run makes this call: a run plans a step of a whole node and does it apart.
+// No run makes this call: a run plans the step of a whole node, and does it by another call.
 ghost use Rattle.std.specs.Prelude.{◌≡◌, IfOk, OnErr, OnOk};
-ghost use Rattle.letter_types.specs.Steps.{made};
 ghost use Rattle.tree_step.specs.Changes.{IsDoneTwice};
-ghost use Rattle.tree_step.specs.Node.{data_of, IsInWindow, IsOf, IsReady, state_of};
+ghost use Rattle.tree_step.specs.Node.{IsInWindow, IsOf, IsReady, state_of};
 ghost use Rattle.tree_step.specs.AtNode.{IsDueAt};
-ghost use Rattle.update_step.specs.Rows.{update_at};
+ghost use Rattle.update_step.specs.Rows.{update_at, Updated};
 
 use crate::plan::plan_update;
 use item_versions::ItemTable;
@@ -18,8 +17,8 @@ use tree_step::{NodeParts, do_part, new_scratch};
 use tv_base::NoMemory;
 use tx_trees::Script;
 
-/// Plans the step, with the answer to the client, and does it. A letter whose operations may not be made changes and
-/// sends nothing. Running out of memory leaves the node as it was.
+/// Plans the step, with the answer to the client, and does it. A message whose operations may not be made changes and
+/// sends nothing. After out of memory the node is as it was.
 fn step_update(
     alloc: Global,
     node: &mut NodeParts,
@@ -38,7 +37,9 @@ fn step_update(
     Ok(step)
 }
 
-/// The same over a node's parts.
+/// Does the step for a message that asks a node for a subtransaction of an update tree, with the answer to the client,
+/// over the node's parts. A message whose operations may not be made changes and sends nothing. What goes out is given
+/// twice. After out of memory all parts are as they were.
 pub fn run_update(
     alloc: Global,
     turns: &mut Turns,
@@ -52,15 +53,17 @@ pub fn run_update(
     requires ready { IsReady script.now letter.now.to.0 (state_of turns.old items.old counters.old homes.old) }
     requires due { IsDueAt script.now letter.now (state_of turns.old items.old counters.old homes.old) }
     // What is made.
-    ensures row { IfOk result (λ step. made (data_of (state_of turns.new items.new counters.new homes.new)) step.given
-        ≡ update_at script.now letter.now (state_of turns.old items.old counters.old homes.old)) }
+    ensures row { Updated script.now letter.now (state_of turns.old items.old counters.old homes.old)
+        (state_of turns.new items.new counters.new homes.new) result }
     ensures kept { IfOk result (λ step. step.kept ≡ step.given) }
-    // What stays, and what running out of memory leaves.
+    // What stays, and what out of memory leaves.
     ensures held { OnOk result (homes.new.held ≡ homes.old.held) }
     ensures script { OnOk result (IsOf script.now (state_of turns.new items.new counters.new homes.new)) }
     ensures window { OnOk result (IsInWindow (state_of turns.new items.new counters.new homes.new)) }
-    ensures err { OnErr result (state_of turns.new items.new counters.new homes.new
-        ≡ state_of turns.old items.old counters.old homes.old) }
+    ensures same_turns { OnErr result (turns.new ≡ turns.old) }
+    ensures same_items { OnErr result (items.new ≡ items.old) }
+    ensures same_counts { OnErr result (counters.new ≡ counters.old) }
+    ensures same_homes { OnErr result (homes.new ≡ homes.old) }
 {
     let mut node = NodeParts {
         turns: *turns,
@@ -69,15 +72,9 @@ pub fn run_update(
         homes: mem::replace(homes, Homes::new(alloc)),
     };
     let step = step_update(alloc, &mut node, letter, script);
-    let NodeParts {
-        turns: turns_after,
-        items: items_after,
-        counters: counters_after,
-        homes: homes_after,
-    } = node;
-    *turns = turns_after;
-    *items = items_after;
-    *counters = counters_after;
-    *homes = homes_after;
+    *turns = node.turns;
+    *items = node.items;
+    *counters = node.counters;
+    *homes = node.homes;
     step
 }

@@ -1,4 +1,4 @@
--- What a node does with the coordinator's letters. These are the definitions that private code alone cites.
+-- What a node does with the coordinator's messages. Private code alone cites these definitions.
 use Rattle.std.specs.Prelude.{List, [], ◌∷◌, nat_lt, Option, Some}
 use Rattle.tv_base.specs.declared.numbers.Version.{Version}
 use Rattle.letter_types.specs.declared.acts.Act.{Act}
@@ -21,7 +21,7 @@ order_acts whats.Turn v turns = turned_if (nat_lt turns.update.0 v.0) v.0
 order_acts whats.Show v turns = acts.Showed v ∷ []
 order_acts whats.Sweep v turns = acts.Swept v ∷ []
 
--- what a node does by it
+-- what a node's parts do by it
 abbrev pub order_doing : What → Version → Doing
 order_doing whats.Turn v = doings.Turn v
 order_doing whats.Show v = doings.Show v

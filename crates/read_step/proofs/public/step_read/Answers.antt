@@ -3,9 +3,10 @@ use Rattle.item_versions.specs.Table.{pending}
 use Rattle.item_versions.specs.Window.{IsWindowedTable}
 use Rattle.letter_types.specs.declared.bodies.Notice.TheVariants.{Did}
 use Rattle.tree_step.specs.Changes.{replied}
+use Rattle.tree_step.specs.Node.{data_of}
 use Rattle.tree_step.specs.declared.plan.Scratch.{Scratch}
 use Rattle.world_model.specs.Done.{TreeOut}
-use Rattle.read_step.specs.Rows.{read_done_at}
+use Rattle.read_step.specs.Rows.{read_done}
 use Rattle.read_step.proofs.public.step_read.Goals as goal
 
 pub plan_tree-requires-clause-fits : goal.plan_tree-requires-clause-fits
@@ -22,7 +23,8 @@ returns c =
     let done = c.in_ok-step.ensures in
     record {
       row = done.row ∙ ap (λ (o : TreeOut). replied s o) c.in_ok-part.ensures.part.row
-          ∙ ap (λ (x : Scratch). read_done_at s l c.args.version (record { staged = x.staged; notice = Did c.args.values }) n)
+          ∙ ap (λ (x : Scratch). read_done s l.to.0 l.from.0 c.args.version
+          (record { items = pending x.staged n.items; notice = Did c.args.values }) l.body (data_of n))
           c.new_scratch-scratch.ensures;
       kept = done.kept;
       held = done.held;

@@ -4,7 +4,7 @@ use Rattle.world_model.specs.Strict.{to_each}
 use Rattle.tree_step.specs.CoreChanges.{numbers_of_nodes}
 use Rattle.strict_step.proofs.answers.push_decides.Given as goal
 
--- a letter to each node so far
+-- a message to each node so far
 abbrev pub invariant-loop-node : goal.invariant-loop-node
 invariant-loop-node l = l.sent ≡ l.initial.sent
     ++ to_each (Decide l.decision.tree l.decision.version l.decision.commit)

@@ -4,6 +4,6 @@ use Rattle.tx_trees.specs.ScriptData.{visited}
 use Rattle.world_model.specs.Strict.{to_each}
 use Rattle.strict_step.proofs.answers.push_tree_releases.Given as goal
 
--- a letter to each node so far that the tree visits
+-- a message to each node so far that the tree visits
 abbrev pub invariant-loop-to : goal.invariant-loop-to
 invariant-loop-to l = l.sent ≡ l.initial.sent ++ to_each (Release l.tree) (visited l.subs l.to)

@@ -1,4 +1,4 @@
-use Rattle.std.proofs.Common.{◌≡◌, ◌++◌, ◌∙◌, None, ap, subst, sym}
+use Rattle.std.proofs.Common.{◌≡◌, ◌++◌, ◌∙◌, ap, subst, sym}
 use Rattle.tree_home.specs.HeldAnswers.{held_answers, held_in}
 use Rattle.tree_home.specs.Maps.{by_tree}
 use Rattle.world_model.specs.Strict.{answer_letters}
@@ -7,6 +7,7 @@ use Rattle.tree_step.specs.declared.plan.Plan.{Plan}
 use Rattle.tree_step.specs.declared.plan.Scratch.{Scratch}
 use Rattle.strict_step.proofs.Decided.{acked_plan, acked_step}
 use Rattle.strict_step.specs.Answering.{IsAckedStep}
+use Rattle.strict_step.specs.inside.Decided.{plan_with}
 use Rattle.strict_step.proofs.decisions.plan_acked.Goals as goal
 
 pub returns : goal.returns
@@ -17,19 +18,10 @@ returns c =
     let answered = c.in_ok-answered.answered in
     let x = c.args.scratch.now in
     let y : Scratch = record x { sent = c.push_answer.new.sent } in
-    let plan : Plan = record {
-      doing = c.completing.result;
-      votes = c.dropping-votes.result;
-      holds = c.acking.result;
-      epoch = None;
-    } in
-    let same : plan ≡ acked_plan a.tree a.from a.version answered (held_in a.tree (held_answers n.parts.homes)) =
-    λ i. record {
-      doing = c.completing.ensures i;
-      votes = c.dropping-votes.ensures i;
-      holds = c.acking.ensures i;
-      epoch = None;
-    } in
+    let same : c.plan_with.result
+    ≡ acked_plan a.tree a.from a.version answered (held_in a.tree (held_answers n.parts.homes)) =
+    c.plan_with.ensures
+    ∙ λ i. plan_with (c.completing-doing.ensures i) (c.dropping-votes.ensures i) (c.acking.ensures i) in
     subst (λ (p : Plan). IsAckedStep s a n (core_meant p y)) (sym same)
     (acked_step s a.from a.tree a.version n y answered c.requires.ready c.requires.near c.in_ok-answered.ensures
     (c.in_ok-push_answer.ensures

@@ -1,4 +1,4 @@
-use Rattle.std.proofs.Common.{◌++◌, ◌∷◌, [], ◌∙◌, None, ap, subst, sym}
+use Rattle.std.proofs.Common.{◌≡◌, ◌++◌, ◌∷◌, [], ◌∙◌, ap, subst, sym}
 use Rattle.tv_base.specs.declared.numbers.NodeNo.{NodeNo}
 use Rattle.letter_types.specs.declared.acts.Act.TheVariants.{Applied}
 use Rattle.letter_types.specs.declared.bodies.Body.TheVariants.{Decided}
@@ -7,10 +7,12 @@ use Rattle.tree_step.proofs.Rooted.{home_there}
 use Rattle.tree_step.specs.Meant.{core_meant}
 use Rattle.tree_step.specs.declared.plan.Doing.{Doing}
 use Rattle.tree_step.specs.declared.plan.HoldPlan.TheVariants.{Stay}
+use Rattle.tree_step.specs.declared.plan.Plan.{Plan}
 use Rattle.tree_step.specs.declared.plan.Scratch.{Scratch}
 use Rattle.tree_step.specs.declared.plan.VotePlan.TheVariants.{Free}
-use Rattle.strict_step.proofs.Decided.{decide_step}
+use Rattle.strict_step.proofs.Decided.{decide_plan, decide_step}
 use Rattle.strict_step.specs.Answering.{IsDecideStep}
+use Rattle.strict_step.specs.inside.Decided.{plan_with}
 use Rattle.strict_step.proofs.decisions.plan_decide.Goals as goal
 
 pub returns : goal.returns
@@ -28,9 +30,9 @@ returns c =
       sent = c.push.new.self;
       acts = c.push-2.new.self;
     } in
-    subst (λ (doing : Doing). IsDecideStep s l d n
-    (core_meant (record { doing = doing; votes = Free d.tree; holds = Stay; epoch = None }) y))
-    (sym c.completing.ensures)
+    let same : c.plan_with.result ≡ decide_plan d.tree from d.version =
+    c.plan_with.ensures ∙ ap (λ (doing : Doing). plan_with doing (Free d.tree) Stay) c.completing-doing.ensures in
+    subst (λ (p : Plan). IsDecideStep s l d n (core_meant p y)) (sym same)
     (decide_step s l.to.0 from d.tree d.version d.commit n y c.home_of.result c.requires.ready c.requires.near
     c.count-count.ensures.held c.in_ok-stage_decided.ensures c.home_of.ensures home
     (c.in_ok-push.ensures.ok ∙ ap (λ (x : Scratch). x.sent ++ letter ∷ []) c.requires.empty)

@@ -9,10 +9,9 @@ use Rattle.tree_step.specs.Changes.{part_row}
 use Rattle.tree_step.specs.Node.{data_of}
 use Rattle.tree_step.specs.CoreChanges.{IsCoreStepOf}
 use Rattle.tree_step.specs.Core.{core_of}
-use Rattle.tree_step.specs.Meant.{core_meant, part_meant}
+use Rattle.tree_step.specs.Meant.{core_meant, part_meant, votes_meant}
 use Rattle.tree_step.specs.declared.plan.Scratch.{Scratch}
 use Rattle.strict_step.proofs.Apart.{apart_noted, apart_part}
-use Rattle.strict_step.proofs.Planned.{same_votes}
 use Rattle.strict_step.proofs.Voting.{note_answered, note_decided, note_decides}
 use Rattle.strict_step.proofs.votes.plan_note.Goals as goal
 
@@ -74,9 +73,7 @@ returns c =
     let row = c.in_ok-part-2.ensures.part.row
     ∙ ap (λ (vs : Gets). note_part r.from.0 r.tree.0 r.sub.0 r.version.0 vs (data_of n.parts))
     c.values_of-values.ensures in
-    let votes = same_votes c.refused_there-votes.result c.refused_there-votes.new.scratch x
-    (ap (λ (w : Scratch). w.wanted) c.in_ok-part-2.ensures.rest)
-    (ap (λ (w : Scratch). w.refusal) c.in_ok-part-2.ensures.rest)
+    let votes = ap (λ (w : Scratch). votes_meant c.refused_there-votes.result w) c.in_ok-part-2.ensures.rest
     ∙ c.refused_there-votes.ensures.votes in
     subst (λ (o : Out Core). IsCoreStepOf o n (core_meant c.in_ok-plan-2.plan c.plan_decided.new.scratch))
     (note_decided c.args.script.now r.from.0 r.tree r.sub r.version c.args.notice.now (core_of n)

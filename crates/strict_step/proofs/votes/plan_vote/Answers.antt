@@ -14,7 +14,6 @@ use Rattle.tree_step.specs.Meant.{core_meant, part_meant, votes_meant}
 use Rattle.tree_step.specs.declared.plan.Scratch.{Scratch}
 use Rattle.world_model.specs.Asked.{tree_part}
 use Rattle.strict_step.proofs.Apart.{apart_part, apart_tree}
-use Rattle.strict_step.proofs.Planned.{same_votes}
 use Rattle.strict_step.proofs.Voting.{vote_decides, vote_row}
 use Rattle.strict_step.proofs.votes.plan_vote.Goals as goal
 
@@ -82,9 +81,7 @@ returns c =
     let x = c.plan_tree.new.scratch in
     let none = ap (λ (w : Scratch). w.staged) c.in_ok-votes.ensures.rest
     ∙ ap (λ (w : Scratch). w.staged) c.requires.empty in
-    let votes = same_votes c.in_ok-votes.votes before x
-    (ap (λ (w : Scratch). w.wanted) c.in_ok-part.ensures.rest)
-    (ap (λ (w : Scratch). w.refusal) c.in_ok-part.ensures.rest)
+    let votes = ap (λ (w : Scratch). votes_meant c.in_ok-votes.votes w) c.in_ok-part.ensures.rest
     ∙ c.in_ok-votes.ensures.votes in
     subst (λ (o : Out Core). IsCoreStepOf o n (core_meant c.in_ok-plan.plan c.plan_decided.new.scratch))
     (vote_row s l.to.0 l.from.0 c.args.tree l.body n (part_meant c.in_ok-part.part x) c.asked_version-version.result
