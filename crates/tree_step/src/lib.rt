@@ -22,7 +22,7 @@ pub use asked::{InVersion, Request, SubTurn, asked_ops, asked_version, plan_tree
 pub use counting::Counting;
 pub use doing::do_plan;
 pub use due::{can_obey, is_above, is_due, is_near};
-pub use lookups::{is_strict, kind_of};
+pub use lookups::{is_strict, kind_of, node_of};
 pub use node::NodeParts;
 pub use node_core::NodeCore;
 pub use notices::plan_notice;

@@ -32,7 +32,7 @@ fn find_sub(script: &Script, tree: TreeNo, sub: SubNo) -> Option<&Sub>
 }
 
 /// The node of a subtransaction; if the script doesn't have it, the number of nodes, which is no node.
-pub(crate) fn node_of(script: &Script, tree: TreeNo, sub: SubNo) -> u8
+pub fn node_of(script: &Script, tree: TreeNo, sub: SubNo) -> u8
     ensures { result ≡ node_of script.now tree.0 sub.0 }
 {
     match find_sub(script, tree, sub) {

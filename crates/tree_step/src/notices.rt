@@ -21,7 +21,6 @@ use tv_base::NoMemory;
 
 /// What the home does for a notice of these values, of which it gets a copy in `noted` if it notes them; and the tree's
 /// answer, if no notice is missing then.
-#[tactic(auto, using(crate::proofs::Noticed::noticed))]
 fn notice_home(
     alloc: Global,
     homes: &Homes,

@@ -7,8 +7,9 @@ pub returns-clause-home : goal.returns-clause-home
 returns-clause-home c =
     let q = c.args.request in
     let hs = open_trees c.args.homes.now in
+    let mid = begun q.tree c.args.subs q.version hs in
     let more : 1 < c.args.subs = omega (arith, c.if-subs-eq1.false, c.requires.some) in
     record {
-      after = opened_noted q.tree c.args.subs q.version c.args.values hs (begun q.tree c.args.subs q.version hs) _ more refl refl;
+      after = opened_noted q.tree c.args.subs q.version c.args.values hs mid _ more refl refl;
       may = (more, c.requires.absent, c.requires.few);
     }
