@@ -1,9 +1,7 @@
 // Whether a message is enabled, as far as its operations don't decide.
 ghost use Rattle.std.specs.Prelude.{◌≡◌, is_some};
-ghost use Rattle.std.specs.Option.{option_copied};
 ghost use Rattle.tree_home.specs.HeldAnswers.{held_answers, held_in};
 ghost use Rattle.tree_home.specs.Homes.{Gets};
-ghost use Rattle.tx_trees.specs.ScriptData.{node_of, sub_at};
 ghost use Rattle.world_model.specs.Epochs.{suits_coordinator};
 ghost use Rattle.world_model.specs.Strict.{is_unheld};
 ghost use Rattle.tree_step.specs.Core.{core_of};
@@ -14,9 +12,9 @@ use letter_types::{Body, Letter};
 use nc_commit::{Decision, may_apply_decision};
 use script_parts::children::visits;
 use tree_home::Homes;
-use tree_step::{NodeCore, Request, is_due, is_near, is_strict};
+use tree_step::{NodeCore, Request, is_due, is_near, is_strict, node_of};
 use tv_base::{ActorNo, NodeNo, SubNo, TreeNo, Version};
-use tx_trees::{Script, Sub};
+use tx_trees::Script;
 
 /// Whether a message is none that only the other kind of coordinator has, which the script doesn't run.
 pub fn suits_coordinator(script: &Script, body: &Body) -> bool
@@ -127,23 +125,6 @@ pub fn release_apt(script: &Script, at: ActorNo, tree: TreeNo) -> bool
     ensures { result ≡ release_apt script.now at.0 tree }
 {
     script.has_strict() && visits(script.subs_of(tree), NodeNo(at.0))
-}
-
-/// A subtransaction of the script. None exactly if it isn't there.
-fn find_sub(script: &Script, tree: TreeNo, sub: SubNo) -> Option<&Sub>
-    ensures { option_copied result ≡ sub_at script.now tree.0 sub.0 }
-{
-    script.subs_of(tree).get(sub.0 as usize)
-}
-
-/// The node of a subtransaction; if it isn't there, the number of nodes, which is no node.
-fn node_of(script: &Script, tree: TreeNo, sub: SubNo) -> u8
-    ensures { result ≡ node_of script.now tree.0 sub.0 }
-{
-    match find_sub(script, tree, sub) {
-        Some(found) => found.node.0,
-        None => script.nodes(),
-    }
 }
 
 /// Whether a Wake is enabled: the script has strict trees, and the subtransaction is at the node.
