@@ -1,5 +1,5 @@
 -- Messages that a step sends behind its own change nothing of what it counts.
-use Rattle.std.proofs.Common.{◌≡◌, List, ◌++◌, refl, ap, sym, subst}
+use Rattle.std.proofs.Common.{◌≡◌, List, ◌++◌, ap, sym, subst}
 use Rattle.letter_types.specs.declared.entries.Outgoing.{Outgoing}
 use Rattle.letter_types.specs.declared.kept.KeepReason.{KeepReason}
 use Rattle.letter_types.specs.Kept.{wakes, with_called}

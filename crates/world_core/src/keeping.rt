@@ -121,12 +121,7 @@ fn plan_waking(
 
 /// What the deferred messages wait for that an order of a coordinator that forgets wakes: a version to be shown, if it
 /// is an order to show one, and takes effect. Any other wakes none.
-fn woken_by_order(
-    core: &NodeCore,
-    epoch: u64,
-    what: What,
-    version: Version,
-) -> Option<KeepReason>
+fn woken_by_order(core: &NodeCore, epoch: u64, what: What, version: Version) -> Option<KeepReason>
     ensures { result ≡ reason_of_order epoch what version (core_of core.now) }
 {
     match what {

@@ -222,7 +222,9 @@ pub(crate) fn choose_advancing(
     match letter.body {
         Body::Turn { version } => choose_plain(core, letter, script, What::Turn, version, scratch),
         Body::Show { version } => choose_plain(core, letter, script, What::Show, version, scratch),
-        Body::Sweep { version } => choose_plain(core, letter, script, What::Sweep, version, scratch),
+        Body::Sweep { version } => {
+            choose_plain(core, letter, script, What::Sweep, version, scratch)
+        }
         Body::Order {
             epoch,
             what,

@@ -13,7 +13,7 @@ ghost use Rattle.node_keeping.specs.Plans.{IsPlanOf};
 ghost use Rattle.node_keeping.specs.Apt.{asks_a_sub, IsReadPlan};
 ghost use Rattle.node_keeping.specs.Choices.{IsChoiceOfKind, IsChoiceOfTree, IsDueChoice, IsOwnChoice, choice_meant};
 ghost use Rattle.tree_step.specs.AtNode.{IsDueAt, IsUnheldAt};
-ghost use Rattle.world_core.specs.inside.Own.{sending_node};
+ghost use Rattle.world_core.specs.inside.Own.{from_node};
 
 use crate::orders::{choose_advancing, still_plan};
 use crate::trees::{plan_read_tree, plan_update_tree};
@@ -46,7 +46,7 @@ fn notice_here<'a>(
     version: Version,
     notice: &'a Notice,
 ) -> NoticeHere<'a>
-    ensures request { result.request ≡ record { tree = tree; sub = sub; version = version; from = sending_node letter.now } }
+    ensures request { result.request ≡ record { tree = tree; sub = sub; version = version; from = from_node letter.now } }
     ensures notice { result.notice.now ≡ notice.now }
 {
     let request = Request {
@@ -71,7 +71,7 @@ fn decision_on(tree: TreeNo, version: Version, commit: bool) -> Decision
 
 /// The acknowledgement that a message is, of a decision on a strict transaction of this version.
 fn acknowledged(letter: &Letter, tree: TreeNo, version: Version) -> Acknowledgement
-    ensures { result ≡ record { tree = tree; version = version; from = sending_node letter.now } }
+    ensures { result ≡ record { tree = tree; version = version; from = from_node letter.now } }
 {
     Acknowledgement {
         tree,

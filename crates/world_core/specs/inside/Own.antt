@@ -6,8 +6,8 @@ use Rattle.letter_types.specs.declared.bodies.Body.TheVariants.{Root, Sub as Sub
 use Rattle.letter_types.specs.declared.entries.Letter.{Letter}
 
 -- the node that sent a message, if a node sent it
-abbrev pub sending_node : Letter → NodeNo
-sending_node l = record { 0 = l.from.0 }
+abbrev pub from_node : Letter → NodeNo
+from_node l = record { 0 = l.from.0 }
 
 -- a message asks for a subtransaction, tells of one, decides on a transaction or frees its locks, or calls a deferred
 -- message
