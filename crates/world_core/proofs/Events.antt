@@ -20,7 +20,7 @@ use Rattle.world_model.specs.Tables.{ActorData}
 use Rattle.world_model.specs.Taking.{CountsBelow, IsAddressed, MOST_COUNTED}
 use Rattle.world_core.specs.Actors.{IsWorldOf, TookLetter, WorldData}
 use Rattle.world_core.specs.Prepared.{IsActorStepOf, ActorMayDo, MayTake, out_of}
-use Rattle.world_core.specs.inside.Actors.{Acted, entry_made, letters_made, with_entry}
+use Rattle.world_core.specs.inside.Actors.{Acted, entry_made, letters_made, with_last_entry}
 use Rattle.world_core.proofs.Doing.{is_row, may_do, out_is}
 use Rattle.world_core.proofs.Worlds.{Took, below, entry_of, next_world}
 
@@ -81,7 +81,7 @@ pub record Event (s : ScriptData) (w : WorldData) (k : ℕ) (l : Letter) (p : Ac
   pub acted : Acted l.to.0 p z w.actors next.actors out
   pub stamp_is : stamp.0 ≡ length w.history + 1
   pub bag : next.bag ≡ remove w.bag k ++ letters_made stamp l.to p z
-  pub history : next.history ≡ with_entry (w.history ++ x ∷ []) l out stamp
+  pub history : next.history ≡ with_last_entry (w.history ++ x ∷ []) l out stamp
 
 -- the actor made its row
 took_by : (s : ScriptData) (w : WorldData) (k : ℕ) (l : Letter) (p : ActorPlan) (z : Scratch) (out : StepOut) (stamp : Stamp) (x : Entry) (next : WorldData)

@@ -7,7 +7,7 @@ ghost use Rattle.tx_trees.specs.ScriptData.{ScriptData};
 ghost use Rattle.world_core.specs.Actors.{AreStatesOf, IsLedTo, IsWorldOf, TookLetter};
 ghost use Rattle.tree_step.specs.Meant.{IsEmpty};
 ghost use Rattle.world_core.specs.Prepared.{ActorMayDo, MayTake, out_of};
-ghost use Rattle.world_core.specs.inside.Actors.{Acted, IsPlanFor, letters_made, with_entry, world_in};
+ghost use Rattle.world_core.specs.inside.Actors.{Acted, IsPlanFor, letters_made, with_last_entry, world_in};
 ghost use Rattle.pair_counters.specs.Numbers.{MOST_COUNT};
 
 use crate::actor::{ActorPlan, ActorState, actor_done, actor_plan};
@@ -166,7 +166,7 @@ fn finish(bag: &mut OrderedBag<Letter>, history: &mut History, stamp: Stamp, k: 
     requires waits { k < length bag.old.items }
     requires place { 0 < length history.old }
     ensures bag { bag.new.items ≡ remove bag.old.items k }
-    ensures history { IfSome (slice_get bag.old.items k) (λ l. history.new ≡ with_entry history.old l out stamp) }
+    ensures history { IfSome (slice_get bag.old.items k) (λ l. history.new ≡ with_last_entry history.old l out stamp) }
 {
     let StepOut { sent, acts } = out;
     let took = bag.take(k);

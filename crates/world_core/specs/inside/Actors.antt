@@ -35,8 +35,8 @@ abbrev pub entry_made : Letter → StepOut → Stamp → Entry
 entry_made l out stamp = record { stamp = stamp; actor = l.to; took = l; sent = out.sent; acts = out.acts }
 
 -- a history with it in its last place
-abbrev pub with_entry : List Entry → Letter → StepOut → Stamp → List Entry
-with_entry es l out stamp = slice_set es (length es - 1) (entry_made l out stamp)
+abbrev pub with_last_entry : List Entry → Letter → StepOut → Stamp → List Entry
+with_last_entry es l out stamp = slice_set es (length es - 1) (entry_made l out stamp)
 
 -- the messages that a step of actor a sends, each with its id
 abbrev pub letters_made : Stamp → ActorNo → ActorPlan → Scratch → List Letter

@@ -6,7 +6,7 @@ use Rattle.tv_base.proofs.ByPlace.{slice_get-old}
 use Rattle.tv_base.specs.declared.numbers.Stamp.{Stamp}
 use Rattle.letter_types.specs.declared.entries.Letter.{Letter}
 use Rattle.letter_types.specs.declared.entries.Entry.{Entry}
-use Rattle.world_core.specs.inside.Actors.{letters_made, with_entry, world_in}
+use Rattle.world_core.specs.inside.Actors.{letters_made, with_last_entry, world_in}
 use Rattle.world_core.proofs.Events.{if_some, is_here, may_act, may_take, Event, event_world, event_took, event_count}
 use Rattle.world_core.proofs.world.advance.Goals as goal
 
@@ -47,9 +47,9 @@ event c =
       stamp_is = omega (arith, ap (length {A = Entry}) c.items.ensures.items);
       bag = c.finish.ensures.bag ∙ ap (λ (ls : List Letter). remove ls c.args.k) sent
           ∙ remove-append_left w.bag more c.args.k c.requires.waits;
-      history = subst (λ (h : List Entry). c.finish.new.history ≡ with_entry h l out stamp)
+      history = subst (λ (h : List Entry). c.finish.new.history ≡ with_last_entry h l out stamp)
           (c.pass.ensures.history ∙ c.in_ok-push.ensures.ok)
-          (if_some (λ m. c.finish.new.history ≡ with_entry c.pass.new.flow.history m out stamp) (slice_get bag c.args.k) l
+          (if_some (λ m. c.finish.new.history ≡ with_last_entry c.pass.new.flow.history m out stamp) (slice_get bag c.args.k) l
           found c.finish.ensures.history);
     }
 
