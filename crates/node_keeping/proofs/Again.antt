@@ -1,4 +1,4 @@
--- A called letter is kept again: it comes to a place that was put last.
+-- A called message is deferred again: it comes to a place that was put last.
 use Rattle.std.proofs.Common.{◌≡◌, ℕ, Bool, true, false, List, [], ◌∷◌, ◌++◌, refl, ap, subst, sym, ◌∙◌, cond, Option, Some, None, MutBor}
 use Rattle.std.specs.Prelude.{IsSome}
 use Rattle.std.specs.List.Sorted.{IsStrictlySortedBy}
@@ -31,7 +31,7 @@ lent_here r x o is at = sym is ∙ ap (λ (r : Option (MutBor KeptLetter)). opti
 some_is : (o : Option KeptLetter) (x : KeptLetter) → o ≡ Some x → IsSome o
 some_is o x is = let P : Option KeptLetter → Type 0 = λ o. IsSome o in subst P (sym is) refl
 
--- a letter is put in the place of another
+-- a message is put in the place of another
 with_letter-by : (a : ℕ) (l : Letter) (x : KeptLetter) (e : ℕ × KeptLetter) (es : Arrived) (b : Bool)
     → cond b (Some e.1) (came a es) ≡ Some x
     → (came a es ≡ Some x → set_value (λ k. is_eq (nat_cmp a k)) es (record x { letter = l }) ≡ with_letter_at a l es)
@@ -73,7 +73,7 @@ finds_same a l x old new is set =
           some-same l x (came b old) (is_eq (nat_cmp a b)) (here b) (is_some-as (came b new) _ (set b) there);
     }
 
--- one letter more at the end changes nothing where a called one is found before it
+-- one message more at the end changes nothing if a called one is found before it
 first-by : (t : TreeNo) (k : SubNo) (e : KeptLetter) (xs ys : List KeptLetter) (b : Bool)
     → (IsSome (first_called t k xs) → first_called t k ys ≡ first_called t k xs)
     → IsSome (cond b (Some e.letter) (first_called t k xs))
@@ -134,7 +134,7 @@ last_put n l x (y ∷ ys) up =
     ∙ ap (λ (xs : List KeptLetter). y.1 ∷ xs)
     (last_put n l x ys (sorted_tail nat_cmp y.0 (keys_of (ys ++ (n, x) ∷ [])) up))
 
--- a letter was put last, and the called one was taken
+-- a message was put last, and the called one was taken
 pub record IsMoving (n : ℕ) (x : KeptLetter) (es mid : Arrived) : Type 0 where
   pub calls : IsSome (first_called x.tree x.sub (values_of es))
   pub taken : mid ≡ without_first x.tree x.sub (es ++ (n, x) ∷ [])

@@ -1,4 +1,4 @@
--- The test of each kind of letter says whether it is apt.
+-- The test of each kind of message says whether it is enabled.
 use Rattle.std.proofs.Common.{◌≡◌, ℕ, ◌==◌, ◌&&◌, ◌||◌, Bool, true, false, not, refl, arith, Option, Some, None}
 use Rattle.std.specs.Prelude.{nat_lt}
 use Rattle.tv_base.specs.declared.numbers.SubNo.{SubNo}
@@ -26,7 +26,7 @@ use Rattle.world_model.specs.Strict.{can_make_at, core_keeping, core_row, decide
 use Rattle.tree_step.specs.Due.{can_obey, is_due}
 use Rattle.node_keeping.specs.Apt.{acked_apt, apt_by, decide_apt, is_own, makes_by, release_apt, tree_apt, wake_apt}
 
--- what a letter asks for of a tree, by the tree's kind
+-- what a message asks for of a tree, by the tree's kind
 makes_kind : (s : ScriptData) (st : Node) (t : TreeNo) (body : Body) (kind : Option TreeKind) → tree_kind_at s t.0 ≡ kind
     → makes_by s st body kind ≡ (is_strict_at s t.0 || can_make_by s st body kind)
 makes_kind s st t body (Some Update) is = rw (is, is_strict_at) refl
@@ -122,7 +122,7 @@ asked_row_apt s p from c v k = order_test (has_strict s) true
 pub ask_apt : (s : ScriptData) (p from : ℕ) (c : Core) (e : ℕ) → true ≡ apt_by s p from c (Ask e)
 ask_apt s p from c e = order_test (has_strict s) true
 
--- a letter without a row of its own is apt, isn't kept, and changes nothing
+-- a message without a row of its own is enabled, isn't deferred, and changes nothing
 pub other_row : (s : ScriptData) (p from : ℕ) (c : Core) (body : Body) → is_own body ≡ false
     → (true ≡ apt_by s p from c body) × (core_keeping s c body ≡ None) × (core_row s p c from body ≡ still c)
 other_row s p from c (Root t) is = absurd (cc)
@@ -141,14 +141,14 @@ other_row s p from c (Order e what v) is = absurd (cc)
 other_row s p from c (Ask e) is = absurd (cc)
 other_row s p from c _ is = (order_test (has_strict s) true, refl, refl)
 
--- A letter that the script's coordinator has is apt just where it is so by this; any other isn't.
+-- A message that the script's coordinator has is enabled just if it is so by this; any other isn't.
 own_first : (a own b : Bool) → own ≡ true → (a && b) ≡ ((a && own) && b)
 own_first a own b is = grind arith
 
 other_first : (a own b : Bool) → own ≡ false → ((a && own) && b) ≡ false
 other_first a own b is = grind arith
 
--- what is tested of a letter once it is one that the script has
+-- what is tested of a message once it is one that the script has
 abbrev is_apt_there : ScriptData → ℕ → Core → Letter → Bool
 is_apt_there s p c l =
     is_named s p l.from.0 l.body

@@ -1,4 +1,4 @@
--- Letters that wait for one thing are woken, and are called from then on.
+-- Messages that wait for one thing are woken, and are called from then on.
 use Rattle.std.proofs.Common.{◌≡◌, ◌<◌, ℕ, Bool, true, false, ◌&&◌, ◌||◌, List, [], ◌∷◌, ◌++◌, refl, ap, sym, ◌∙◌, arith, cond, Option, Some, None}
 use Rattle.std.specs.Prelude.{IsSome}
 use Rattle.std.specs.BTreeSet.{IsKeyRangeOf}
@@ -12,23 +12,23 @@ use Rattle.std.specs.Ordering.{is_eq, is_gt, nat_cmp, ordering_then}
 use Rattle.std.proofs.lemmas.Bool.Decides.{nat_tests}
 use Rattle.tv_base.specs.declared.numbers.SubNo.{SubNo}
 use Rattle.tv_base.specs.declared.numbers.TreeNo.{TreeNo}
-use Rattle.letter_types.specs.declared.bodies.Body.{Body}
-use Rattle.letter_types.specs.declared.bodies.Body.TheVariants.{Wake, Show as Shows, Decide as Decides}
+use Rattle.letter_types.specs.declared.bodies.Body.TheVariants.{Wake}
 use Rattle.letter_types.specs.declared.entries.Outgoing.{Outgoing}
 use Rattle.letter_types.specs.declared.kept.KeptLetter.{KeptLetter}
 use Rattle.letter_types.specs.declared.kept.KeepReason.{KeepReason}
-use Rattle.letter_types.specs.declared.kept.KeepReason.TheVariants.{Called}
-use Rattle.letter_types.specs.Kept.{wakes, wakes_by, with_called}
+use Rattle.letter_types.specs.declared.kept.KeepReason.TheVariants.{ForShow, ForHolder, Called}
+use Rattle.letter_types.specs.Kept.{wakes, with_called}
 use Rattle.node_keeping.specs.declared.places.Key.{Key}
 use Rattle.node_keeping.specs.declared.places.Key.TheVariants.{Sub, Show, Holder}
 use Rattle.node_keeping.specs.declared.places.KeptPlace.{KeptPlace}
 use Rattle.node_keeping.specs.inside.Arrivals.{ArePlaced, Arrived, came, is_found, wake_of, wakes_in}
-use Rattle.node_keeping.specs.inside.Places.{HasNone, has_place, is_reason, is_this, is_why, key_of_why, key_order, place_by, place_order, woken_key}
+use Rattle.node_keeping.specs.inside.Places.{HasNone, has_place, is_reason, is_this, is_why, key_of_why, key_order, place_by, place_order}
+use Rattle.node_keeping.specs.Waits.{waits_alike}
 use Rattle.node_keeping.proofs.Finding.{each_came, part_is, part_of, places_of}
 use Rattle.node_keeping.proofs.Keeping.{Came-set, is_some-as}
 use Rattle.node_keeping.proofs.Orders.{is_eq-place, key_itself, same_key, same_number}
 
--- what letters wait for is no subtransaction
+-- what messages wait for is no subtransaction
 apart-sub : (t : TreeNo) (k : SubNo) (q : Key) → is_reason q ≡ true → is_eq (key_order (Sub t k) q) ≡ false
 apart-sub t k (Sub u l) reason = let no : false ≡ true = reason in cc
 apart-sub t k Show reason = refl
@@ -80,7 +80,7 @@ pub has_none : (q : Key) (next : ℕ) (ps part : List KeptPlace)
     → part ≡ [] → HasNone q next ps
 has_none q next ps part is empty a less = is.5 empty (place_by q a) (from-start q a, to-end q a next less)
 
--- where none waits, all stay as they are
+-- if none waits, all stay as they are
 unless-found : (q : Key) (next a : ℕ) (ps : List KeptPlace) (o : Option KeptLetter) → HasNone q next ps
     → has_place (place_by q a) ps ≡ is_found q o → (IsSome o → a < next) → is_found q o ≡ false
 unless-found q next a ps None none found before = refl
@@ -106,7 +106,7 @@ pub all_called : (q : Key) (next : ℕ) (es : Arrived) (ps : List KeptPlace) →
 all_called q next es ps kept reason none =
     stay-walk q es es reason (each_came es es kept.ascending (λ a there. refl)) (none-found q next es ps kept none)
 
--- a letter that waits is called
+-- a message that waits is called
 called-by : (q : Key) (a : ℕ) (x : KeptLetter) (e : ℕ × KeptLetter) (es : Arrived) (b : Bool)
     → cond b (Some e.1) (came a es) ≡ Some x → is_why q x.why ≡ true
     → (came a es ≡ Some x
@@ -206,11 +206,11 @@ kept_called q a next x es es' ps ps' kept reason is waits set came' up up' =
 abbrev nothing : Option Key
 nothing = None
 
--- a letter of any other body wakes none
-pub wakes_none : (b : Body) → woken_key b ≡ None → (why : KeepReason) → wakes_by b why ≡ false
-wakes_none (Shows v) is why = let no : Some Show ≡ nothing = is in cc
-wakes_none (Decides t v c) is why = let no : Some (Holder t) ≡ nothing = is in cc
-wakes_none _ is why = refl
+-- for its own Wake no other message waits
+pub none_alike : (r : KeepReason) → key_of_why r ≡ None → (why : KeepReason) → waits_alike r why ≡ false
+none_alike ForShow is why = let no : Some Show ≡ nothing = is in cc
+none_alike (ForHolder t) is why = let no : Some (Holder t) ≡ nothing = is in cc
+none_alike Called is why = refl
 
 pub none_called : (test : KeepReason → Bool) (xs : List KeptLetter) → ((why : KeepReason) → test why ≡ false)
     → with_called test xs ≡ xs

@@ -1,4 +1,4 @@
--- Kept letters by when they came: the last is kept, and the first called one is taken.
+-- Deferred messages by when they came: the last is deferred, and the first called one is taken.
 use Rattle.std.proofs.Common.{◌≡◌, ◌<◌, ℕ, Bool, true, false, List, [], ◌∷◌, ◌++◌, refl, ap, subst, sym, ◌∙◌, arith, cond, Option, Some, None}
 use Rattle.std.specs.Prelude.{IsSome}
 use Rattle.std.specs.BTreeMap.{insert_entry}
@@ -49,7 +49,7 @@ put_last n x (e ∷ es) before =
     ap (λ (r : Ordering). match_ordering r ((n, x) ∷ e ∷ es) ((e.0, x) ∷ es) (e ∷ insert_entry nat_cmp es n x)) behind
     ∙ ap (λ (es : Arrived). e ∷ es) (put_last n x es (tail-before n e es before))
 
--- the first called letter of a subtransaction came then
+-- the first called message of a subtransaction came then
 pub record IsFirstCalled (t : TreeNo) (k : SubNo) (a : ℕ) (es : Arrived) : Type 0 where
   pub letter : KeptLetter
   pub there : came a es ≡ Some letter
@@ -143,7 +143,7 @@ pub none_taken : (t : TreeNo) (k : SubNo) (es : Arrived) → called_at t k es �
 none_taken t k [] is = refl
 none_taken t k (e ∷ es) is = none-others-by t k e es (is_called_for t k e.1) refl is (none_taken t k es)
 
--- the letters without it
+-- the messages without it
 without-by : (t : TreeNo) (k : SubNo) (e : ℕ × KeptLetter) (es : Arrived) (b : Bool)
     → values_of (without_first t k es) ≡ without_called t k (values_of es)
     → values_of (cond b es (e ∷ without_first t k es))

@@ -1,4 +1,4 @@
--- The places with one key are those of the letters that it finds, in the order in which they came.
+-- The places with one key are those of the messages that it finds, in the order in which they came.
 use Rattle.std.proofs.Common.{◌≡◌, ◌<◌, ℕ, Bool, true, false, not, ◌&&◌, ◌||◌, List, [], ◌∷◌, refl, ap, subst, sym, ◌∙◌, arith, cond, Option, Some, None}
 use Rattle.std.specs.Prelude.{IsSome}
 use Rattle.std.specs.BTreeMap.Range.{range_contains}
@@ -22,7 +22,7 @@ use Rattle.node_keeping.specs.inside.Places.{has_place, key_order, place_order, 
 use Rattle.node_keeping.proofs.Orders.{is_eq-place, key_itself, number_itself, place_exact, place_total, same_key, same_number, same_place}
 use Rattle.node_keeping.proofs.Entries.{AllAfter}
 
--- the places of the letters that a key finds
+-- the places of the messages that a key finds
 abbrev pub places_of : Key → Arrived → List KeptPlace
 places_of q [] = []
 places_of q (e ∷ es) = cond (is_found q (Some e.1)) (place_by q e.0 ∷ places_of q es) (places_of q es)
@@ -65,7 +65,7 @@ sorted-places q (e ∷ es) up =
     sorted-by q e es (is_found q (Some e.1)) (sorted_head nat_cmp e.0 (keys_of es) up)
     (sorted-places q es (sorted_tail nat_cmp e.0 (keys_of es) up))
 
--- a place is one of them where its key is this and finds what came then
+-- a place is one of them if its key is this and finds what came then
 none-after : (a b : ℕ) (es : Arrived) → is_eq (nat_cmp a b) ≡ true → AllAfter b (keys_of es) → came a es ≡ None
 none-after a b [] same after = refl
 none-after a b (e ∷ es) same after =
@@ -182,7 +182,7 @@ nothing = None
 not-none : IsSome nothing → ⊥
 not-none some = let no : false ≡ true = some in cc
 
--- each letter is what came then
+-- each message is what came then
 pub each_came : (es all : Arrived) → IsStrictlySortedBy nat_cmp (keys_of es)
     → ((a : ℕ) → IsSome (came a es) → came a all ≡ came a es)
     → AllByRecursion (λ e. came e.0 all ≡ Some e.1) es

@@ -1,4 +1,4 @@
--- The places of kept letters stay right when a letter is kept or taken.
+-- The places of deferred messages stay right when a message is deferred or taken.
 use Rattle.std.proofs.Common.{◌≡◌, ◌+◌, ◌<◌, ℕ, Bool, true, false, not, ◌&&◌, ◌||◌, eqb, List, refl, ap, subst, sym, ◌∙◌, arith, cond, Option, Some, None}
 use Rattle.std.specs.Prelude.{IsSome}
 use Rattle.std.specs.List.Sorted.{IsStrictlySortedBy}
@@ -54,7 +54,7 @@ before-more n b x o false is before some = let less : b < n = before some in ome
 pub is_some-as : (o p : Option KeptLetter) → o ≡ p → IsSome o → IsSome p
 is_some-as o p is some = subst (λ (o : Option KeptLetter). IsSome o) is some
 
--- a letter is kept at the next arrival
+-- a message is deferred at the next arrival
 pub kept_more : (next : ℕ) (x : KeptLetter) (es es' : Arrived) (ps ps' : List KeptPlace) → ArePlaced next es ps
     → ArePlacesAdded next x.tree x.sub x.why ps ps' → Came-set next (Some x) es es'
     → IsStrictlySortedBy nat_cmp (keys_of es') → IsStrictlySortedBy place_order ps' → ArePlaced (next + 1) es' ps'
@@ -104,7 +104,7 @@ same_again a t k why old mid new free added taken = record {
       ∙ free p.key);
 }
 
--- a called letter is found by its subtransaction alone
+-- a called message is found by its subtransaction alone
 called-why : (why : KeepReason) → is_called why ≡ true → why ≡ Called
 called-why Called is = refl
 called-why ForShow is = let no : false ≡ true = is in cc
@@ -134,7 +134,7 @@ before-less : (n b : ℕ) (o : Option KeptLetter) (e : Bool) → (IsSome o → b
 before-less n b o true before some = let no : false ≡ true = some in cc
 before-less n b o false before some = before some
 
--- the first called letter of a subtransaction is taken
+-- the first called message of a subtransaction is taken
 pub kept_less : (next : ℕ) (t : TreeNo) (k : SubNo) (a : ℕ) (es es' : Arrived) (ps ps' : List KeptPlace)
     → ArePlaced next es ps → IsFirstCalled t k a es → ArePlacesTaken a t k Called ps ps' → Came-set a None es es'
     → IsStrictlySortedBy nat_cmp (keys_of es') → IsStrictlySortedBy place_order ps' → ArePlaced next es' ps'

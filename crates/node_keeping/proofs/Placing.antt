@@ -1,4 +1,4 @@
--- The places of a letter come and go.
+-- The places of a message come and go.
 use Rattle.std.proofs.Common.{◌≡◌, ℕ, Bool, true, false, not, ◌&&◌, ◌||◌, List, refl, ap, subst, sym, ◌∙◌, cond, Option, Some}
 use Rattle.std.specs.Ordering.{is_eq, nat_cmp}
 use Rattle.tv_base.specs.declared.numbers.SubNo.{SubNo}
@@ -45,7 +45,7 @@ undo_one true false h free = refl
 undo_one false true h free = refl
 undo_one false false h free = refl
 
--- a letter that waits for more than its Wake has two places
+-- a message that waits for more than its Wake has two places
 pub added_two : (a : ℕ) (t : TreeNo) (k : SubNo) (why : KeepReason) (q : Key) (old mid new : List KeptPlace)
     → key_of_why why ≡ Some q → Place-set (place_by (Sub t k) a) true old mid → Place-set (place_by q a) true mid new
     → ArePlacesAdded a t k why old new

@@ -1,4 +1,4 @@
--- A plan by the letter's body is a plan of the letter, if the script's coordinator has it.
+-- A plan by the message's body is a plan of the message, if the script's coordinator has it.
 use Rattle.std.proofs.Common.{◌≡◌, ◌&&◌, Bool, true, false, refl, sym, subst, ap, ◌∙◌, Option, Result}
 use Rattle.std.specs.Prelude.{IfOk}
 use Rattle.tv_base.specs.declared.numbers.NoMemory.{NoMemory}
@@ -22,11 +22,11 @@ use Rattle.tree_step.specs.declared.plan.Scratch.{Scratch}
 use Rattle.node_keeping.specs.Plans.{IsPlanBy, IsPlanOf, IsPlanWhere}
 use Rattle.node_keeping.specs.declared.node_plan.CoreChoice.{CoreChoice}
 use Rattle.node_keeping.specs.steps.ChosenStep.{ChosenStep}
-use Rattle.node_keeping.specs.Choices.{IsChoiceOfKind, IsChoiceOfTree, IsDueChoice, choice_meant}
+use Rattle.node_keeping.specs.Choices.{IsChoiceOfKind, IsChoiceOfTree, IsDueChoice, IsOwnChoice, choice_meant}
 use Rattle.node_keeping.specs.Apt.{IsOwnPlan, apt_by, makes_by, tree_apt}
 use Rattle.node_keeping.proofs.Aptness.{own_apt, root_apt, sub_apt}
 
--- a plan of a letter of this body, that is apt by this test
+-- a plan of a message of this body, that is enabled by this test
 abbrev pub IsPlanHere : ScriptData → Letter → NodeCore → Body → Bool → ChosenStep → Type 0
 IsPlanHere s l n body test plan =
     IsPlanBy test (core_keeping s (core_of n) body) (core_row s l.to.0 (core_of n) l.from.0 body) n plan
@@ -40,7 +40,7 @@ plan_one s l n body test plan is same planned =
 pub plan_result : (s : ScriptData) (l : Letter) (n : NodeCore) (x : Scratch) (body : Body) (test : Bool)
     (r : Result CoreChoice NoMemory) → l.body ≡ body → test ≡ apt_by s l.to.0 l.from.0 (core_of n) body
     → IfOk r (λ (c : CoreChoice). IsPlanHere s l n body test (choice_meant c x))
-    → IfOk r (λ (c : CoreChoice). IsOwnPlan s l n (choice_meant c x))
+    → IfOk r (IsOwnChoice s l n x)
 plan_result s l n x body test r is same planned =
     subst (λ (b : Body). IfOk r (λ (c : CoreChoice).
     IsPlanHere s l n b (apt_by s l.to.0 l.from.0 (core_of n) b) (choice_meant c x))) (sym is)
@@ -53,7 +53,7 @@ first_holds a b is = ap (λ (x : Bool). x && b) is
 pub first_fails : (a b : Bool) → a ≡ false → (a && b) ≡ false
 first_fails a b is = ap (λ (x : Bool). x && b) is
 
--- whether a letter is due, by its body
+-- whether a message is due, by its body
 pub due_body : (s : ScriptData) (l : Letter) (n : NodeCore) (body : Body) → l.body ≡ body
     → true ≡ is_due s l.to.0 (data_of n.parts) l.from.0 l.body → is_due s l.to.0 (data_of n.parts) l.from.0 body ≡ true
 due_body s l n body is due = sym (due ∙ ap (λ (b : Body). is_due s l.to.0 (data_of n.parts) l.from.0 b) is)
@@ -62,7 +62,7 @@ pub undue_body : (s : ScriptData) (l : Letter) (n : NodeCore) (body : Body) → 
     → false ≡ is_due s l.to.0 (data_of n.parts) l.from.0 l.body → is_due s l.to.0 (data_of n.parts) l.from.0 body ≡ false
 undue_body s l n body is due = sym (due ∙ ap (λ (b : Body). is_due s l.to.0 (data_of n.parts) l.from.0 b) is)
 
--- A letter that asks for a subtransaction of a tree.
+-- A message that asks for a subtransaction of a tree.
 pub unfree : (a b m : Bool) → false ≡ (a && b) → (a && (b && m)) ≡ false
 unfree true true m is = absurd (cc)
 unfree true false m is = refl
@@ -100,7 +100,7 @@ tree_plan s l n x t r free planned =
 
 pub root_plan : (s : ScriptData) (l : Letter) (n : NodeCore) (x : Scratch) (t : TreeNo) (r : Result CoreChoice NoMemory)
     → l.body ≡ Root t → IfOk r (IsChoiceOfTree s l t n x)
-    → IfOk r (λ (c : CoreChoice). IsOwnPlan s l n (choice_meant c x))
+    → IfOk r (IsOwnChoice s l n x)
 root_plan s l n x t r is planned =
     plan_result s l n x (Root t) (tree_apt s l.to.0 l.from.0 (core_of n) t (Root t)) r is
     (root_apt s l.to.0 l.from.0 (core_of n) t)
@@ -109,16 +109,16 @@ root_plan s l n x t r is planned =
 
 pub sub_plan : (s : ScriptData) (l : Letter) (n : NodeCore) (x : Scratch) (t : TreeNo) (k : SubNo) (v : Version)
     (r : Result CoreChoice NoMemory) → l.body ≡ SubLetter t k v → IfOk r (IsChoiceOfTree s l t n x)
-    → IfOk r (λ (c : CoreChoice). IsOwnPlan s l n (choice_meant c x))
+    → IfOk r (IsOwnChoice s l n x)
 sub_plan s l n x t k v r is planned =
     plan_result s l n x (SubLetter t k v) (tree_apt s l.to.0 l.from.0 (core_of n) t (SubLetter t k v)) r is
     (sub_apt s l.to.0 l.from.0 (core_of n) t k v)
     (subst (λ (b : Body). IfOk r
     (IsTreeChoice s l n x t b (tree_apt s l.to.0 l.from.0 (core_of n) t b) (tree_kind_at s t.0))) is planned)
 
--- a plan of a letter that the script's coordinator has
+-- a plan of a message that the script's coordinator has
 pub own_plan : (s : ScriptData) (l : Letter) (n : NodeCore) (x : Scratch) (r : Result CoreChoice NoMemory)
-    → suits_coordinator s l.body ≡ true → IfOk r (λ (c : CoreChoice). IsOwnPlan s l n (choice_meant c x))
+    → suits_coordinator s l.body ≡ true → IfOk r (IsOwnChoice s l n x)
     → IfOk r (λ (c : CoreChoice). IsPlanOf s l n (choice_meant c x))
 own_plan s l n x r own planned =
     subst (λ (b : Bool). IfOk r (λ (c : CoreChoice). IsPlanWhere b s l n (choice_meant c x)))

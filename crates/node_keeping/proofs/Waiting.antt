@@ -1,4 +1,4 @@
--- Which letters are kept, and how.
+-- Which messages are deferred, and how.
 use Rattle.std.proofs.Common.{◌≡◌, ℕ, ◌+◌, ◌<◌, suc, Bool, true, false, not, List, [], ◌∷◌, drop, length, get_or, refl, sym, subst, ap, ◌∙◌, arith, add-one, drop-cons, Option, Some, None}
 use Rattle.std.specs.Prelude.{if◌then◌else◌, nat_lt}
 use Rattle.std.specs.Option.{option_or}
@@ -59,7 +59,7 @@ met_passed t os i d ls r within found is so_far =
     so_far ∙ met_more t os i d ls within
     ∙ ap (λ (m : Option Met). option_or m (met_in t (op_marks (drop (i + 1) os)) ls)) (sym found ∙ is)
 
--- A subtransaction of an update tree that meets nothing isn't kept.
+-- A subtransaction of an update tree that meets nothing isn't deferred.
 pub meets_none : (s : ScriptData) (c : Core) (t : TreeNo) (body : Body) → meets s t (asked_ops s body) c ≡ None
     → kept_by_kind s c t body (Some Update) ≡ None
 meets_none s c t (Root u) none = rw none refl
@@ -98,13 +98,13 @@ raises_near turns v near = by (nat_lt turns.update.0 v.0) where
   by true = near
   by false = tt
 
--- A subtransaction of a read tree isn't kept.
+-- A subtransaction of a read tree isn't deferred.
 pub reads_free : (s : ScriptData) (c : Core) (t : TreeNo) (body : Body) → kept_by_kind s c t body (Some Read) ≡ None
 reads_free s c t (Root u) = refl
 reads_free s c t (SubLetter u k v) = refl
 reads_free s c t _ = refl
 
--- One of a strict tree is kept where it is a root that waits.
+-- One of a strict tree is deferred if it is a root that waits.
 root_by : (t : TreeNo) (c : Core) (born : Bool) → not born ≡ true
     → (if born then None else Some (root_waiting t c)) ≡ Some (kept_core (root_kept t c.node.turns) c)
 root_by t c true is = absurd (cc)

@@ -1,4 +1,4 @@
--- A walk over the places with one key, which are those of a subtransaction, finds its first called letter.
+-- A walk over the places with one key, which are those of a subtransaction, finds its first called message.
 use Rattle.std.proofs.Common.{◌≡◌, ℕ, Bool, true, false, ◌&&◌, ◌||◌, eqb, List, [], ◌∷◌, refl, ap, sym, ◌∙◌, cond, Option, Some, None}
 use Rattle.std.specs.List.{AllByRecursion}
 use Rattle.std.specs.Ordering.{is_eq, nat_cmp}
@@ -15,7 +15,7 @@ use Rattle.node_keeping.specs.inside.Arrivals.{ArePlaced, Arrived, called_at, ca
 use Rattle.node_keeping.specs.inside.Places.{finds, is_why, key_order, place_by}
 use Rattle.node_keeping.proofs.Finding.{each_came, part_is, part_of, places_of}
 
--- by its subtransaction a letter is found whatever it is kept for
+-- by its subtransaction a message is found whatever it is deferred for
 no-reason : (t : TreeNo) (k : SubNo) (why : KeepReason) → is_why (Sub t k) why ≡ false
 no-reason t k ForShow = refl
 no-reason t k (ForHolder h) = refl
@@ -54,7 +54,7 @@ called-walk t k (e ∷ es) all there =
     ∙ ap (λ (f : Bool). cond (is_called e.1.why && f) (Some e.0) (called_at t k es))
     (sub_finds e.1.tree e.1.sub e.1.why t k)
 
--- the first called letter is found by a walk over the places of its subtransaction
+-- the first called message is found by a walk over the places of its subtransaction
 pub called_found : (t : TreeNo) (k : SubNo) (next : ℕ) (es : Arrived) (ps part : List KeptPlace) → ArePlaced next es ps
     → part ≡ part_of (Sub t k) next ps → called_in es part ≡ called_at t k es
 called_found t k next es ps part kept is =

@@ -1,4 +1,4 @@
--- When a letter is apt, by its body.
+-- When a message is enabled, by its body.
 use Rattle.std.specs.Prelude.{ℕ, Bool, true, false, not, ◌==◌, ◌&&◌, ◌||◌, nat_lt, Option, Some, None}
 use Rattle.tv_base.specs.declared.numbers.SubNo.{SubNo}
 use Rattle.tv_base.specs.declared.numbers.TreeNo.{TreeNo}
@@ -26,7 +26,7 @@ use Rattle.nc_commit.specs.declared.decisions.Decision.{Decision}
 use Rattle.node_keeping.specs.Plans.{IsPlanBy, IsPlanWhere}
 use Rattle.node_keeping.specs.steps.ChosenStep.{ChosenStep}
 
--- whether a letter of this sender and body is apt at node p, where the script's kind of coordinator allows it
+-- whether a message of this sender and body is enabled at node p, if the script's kind of coordinator allows it
 abbrev pub apt_by : ScriptData → ℕ → ℕ → Core → Body → Bool
 apt_by s p from c body =
     (has_strict s || not (is_of_strict body))
@@ -34,11 +34,11 @@ apt_by s p from c body =
     && (is_new s c.node body && is_unheld body c.holds
     && (is_core_timely s c body && decides_near s c.node body && can_make_at s p c body)))
 
--- what a core does with a letter that the script's kind of coordinator allows is planned
+-- what a core does with a message that the script's kind of coordinator allows is planned
 abbrev pub IsOwnPlan : ScriptData → Letter → NodeCore → ChosenStep → Type 0
 IsOwnPlan s l n plan = IsPlanWhere (apt_by s l.to.0 l.from.0 (core_of n) l.body) s l n plan
 
--- a letter that asks for a subtransaction
+-- a message that asks for a subtransaction
 abbrev pub asks_a_sub : Body → Bool
 asks_a_sub (Root t) = true
 asks_a_sub (SubLetter t k v) = true
@@ -51,21 +51,21 @@ makes_by s st body (Some Read) = can_read s st body
 makes_by s st body (Some Strict) = true
 makes_by s st body None = false
 
--- a letter that asks for a subtransaction of tree t is apt
+-- a message that asks for a subtransaction of tree t is enabled
 abbrev pub tree_apt : ScriptData → ℕ → ℕ → Core → TreeNo → Body → Bool
 tree_apt s p from c t body =
     is_due s p c.node from body && (is_unheld body c.holds && makes_by s c.node body (tree_kind_at s t.0))
 
--- the plan of a subtransaction of tree t, of this kind, that is apt by this test
+-- the plan of a subtransaction of tree t, of this kind, that is enabled by this test
 abbrev pub IsKindPlan : ScriptData → Letter → TreeNo → Option TreeKind → Bool → NodeCore → ChosenStep → Type 0
 IsKindPlan s l t kind test n plan =
     IsPlanBy test (kept_by_kind s (core_of n) t l.body kind) (core_by_kind s l.to.0 l.from.0 t l.body kind (core_of n)) n plan
 
--- where it is known to be due: it is apt if it may be made
+-- if it is known to be due: it is enabled if it may be made
 abbrev pub IsPlanOfKind : ScriptData → Letter → TreeNo → Option TreeKind → NodeCore → ChosenStep → Type 0
 IsPlanOfKind s l t kind n plan = IsKindPlan s l t kind (makes_by s (data_of n.parts) l.body kind) n plan
 
--- a read tree is never kept
+-- a read tree is never deferred
 abbrev pub IsReadPlan : ScriptData → Letter → NodeCore → ChosenStep → Type 0
 IsReadPlan s l n plan =
     IsPlanBy (can_read s (data_of n.parts) l.body) None (read_core s l.to.0 l.from.0 l.body (core_of n)) n plan
@@ -79,7 +79,7 @@ IsPlanOfTree s l t n plan =
 abbrev pub decides_here : ScriptData → ℕ → ℕ → TreeNo → Bool
 decides_here s p from t = has_strict s && (visits (subs_at s t.0) p && nat_lt from s.nodes)
 
--- a decision on tree t is apt
+-- a decision on tree t is enabled
 abbrev pub decide_apt : ScriptData → ℕ → ℕ → Core → TreeNo → Version → Bool → Bool
 decide_apt s p from c t v commit =
     decides_here s p from t
@@ -92,19 +92,19 @@ decide_apt_at s l d n = decide_apt s l.to.0 l.from.0 (core_of n) d.tree d.versio
 abbrev pub acks_here : ScriptData → ℕ → ℕ → TreeNo → Bool
 acks_here s p from t = has_strict s && ((home_of s t.0 == p) && nat_lt from s.nodes)
 
--- it is apt
+-- it is enabled
 abbrev pub acked_apt : ScriptData → ℕ → ℕ → Core → TreeNo → Version → Bool
 acked_apt s p from c t v = acks_here s p from t && is_near c.node v
 
--- that marks of tree t go is apt
+-- that marks of tree t go is enabled
 abbrev pub release_apt : ScriptData → ℕ → TreeNo → Bool
 release_apt s p t = has_strict s && visits (subs_at s t.0) p
 
--- a Wake is apt
+-- a Wake is enabled
 abbrev pub wake_apt : ScriptData → ℕ → TreeNo → SubNo → Bool
 wake_apt s p t k = has_strict s && (node_of s t.0 k.0 == p)
 
--- the letters that have a row of their own, or a test
+-- the messages that have a row of their own, or a test
 abbrev pub is_own : Body → Bool
 is_own (Root t) = true
 is_own (SubLetter t k v) = true

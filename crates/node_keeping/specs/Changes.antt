@@ -1,10 +1,10 @@
--- How a node with kept letters changes in a step, and when it may.
+-- How a node with deferred messages changes in a step, and when it may.
 use Rattle.std.specs.Prelude.{◌≡◌, ⊤, List, [], ◌∷◌, ◌++◌, IfOk, IsSome, OnErr, OnOk, Option, Result}
 use Rattle.tv_base.specs.declared.numbers.NoMemory.{NoMemory}
 use Rattle.tv_base.specs.declared.numbers.Version.{Version}
 use Rattle.letter_types.specs.declared.entries.StepOut.{StepOut}
 use Rattle.letter_types.specs.declared.kept.KeptLetter.{KeptLetter}
-use Rattle.letter_types.specs.Kept.{first_called, wakes_by, with_called, without_called}
+use Rattle.letter_types.specs.Kept.{first_called, with_called, without_called}
 use Rattle.letter_types.specs.Steps.{Out, made}
 use Rattle.node_keeping.specs.Again.{kept_again}
 use Rattle.pair_counters.specs.Rows.{counts_of}
@@ -15,21 +15,23 @@ use Rattle.tree_step.specs.CoreChanges.{MayDoCore, after_core_change}
 use Rattle.tree_step.specs.Core.{IsApart, core_of}
 use Rattle.tree_step.specs.Raising.{RaisesNear, raised_by}
 use Rattle.node_keeping.specs.steps.Keep.{Keep, New, Again}
-use Rattle.node_keeping.specs.steps.KeptChange.{KeptChange, Stay, LetGo, Call}
 use Rattle.node_keeping.specs.steps.KeepingStep.{KeepingStep, Still, Keeps, Does}
+use Rattle.node_keeping.specs.declared.node_plan.KeptPlan.{KeptPlan}
+use Rattle.node_keeping.specs.declared.node_plan.KeptPlan.TheVariants.{Stay, LetGo, Call}
 use Rattle.node_keeping.specs.declared.state.KeepingParts.{KeepingParts}
 use Rattle.node_keeping.specs.State.{keeping_of}
+use Rattle.node_keeping.specs.Waits.{waits_alike}
 
--- the kept letters where one is kept
+-- the deferred messages if one more is deferred
 abbrev pub kept_with : Keep → List KeptLetter → List KeptLetter
 kept_with (New x) kept = kept ++ x ∷ []
 kept_with (Again t k why) kept = kept_again t k why kept
 
--- and where one is done
-abbrev pub kept_after : KeptChange → List KeptLetter → List KeptLetter
+-- and if one is done
+abbrev pub kept_after : KeptPlan → List KeptLetter → List KeptLetter
 kept_after Stay kept = kept
 kept_after (LetGo t k) kept = without_called t k kept
-kept_after (Call body) kept = with_called (wakes_by body) kept
+kept_after (Call why) kept = with_called (waits_alike why) kept
 
 -- a core that raises its update version, if it must
 abbrev pub raised_core : Option Version → Core → Core
@@ -43,7 +45,7 @@ keeping_step_row (Keeps keep raises out) n =
 keeping_step_row (Does step change) n =
     made (record { core = after_core_change step n.core; kept = kept_after change n.kept }) step.parts.out
 
--- what is kept again is there
+-- what is deferred again is there
 abbrev pub MayBeKept : Keep → List KeptLetter → Type 0
 MayBeKept (New x) kept = ⊤
 MayBeKept (Again t k why) kept = IsSome (first_called t k kept)
@@ -53,7 +55,7 @@ pub record IsSettled (n : KeepingParts) : Type 0 where
   pub window : IsInWindow n.core.parts
   pub apart : IsApart (core_of n.core)
 
--- a node may keep a letter: what is raised is near, and what is kept again is there
+-- a node may defer a message: what is raised is near, and what is deferred again is there
 pub record MayKeepLetter (keep : Keep) (raises : Option Version) (n : KeepingParts) : Type 0 where
   pub settled : IsSettled n
   pub near : RaisesNear raises n.core.parts.turns

@@ -2,6 +2,7 @@ pub mod State
 pub mod Changes
 pub mod Meant
 pub mod Again
+pub mod Waits
 pub mod inside
 pub mod steps
 pub mod Plans

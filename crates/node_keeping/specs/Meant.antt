@@ -1,44 +1,29 @@
 -- What a plan of a node and a scratch mean: a step.
 use Rattle.std.specs.Prelude.{Ok, Option, Some, None}
-use Rattle.letter_types.specs.declared.bodies.Body.{Body}
 use Rattle.letter_types.specs.declared.entries.Letter.{Letter}
 use Rattle.letter_types.specs.Steps.{Out}
 use Rattle.world_model.specs.Keeping.{KeepingNode}
 use Rattle.tree_step.specs.Meant.{core_meant, out_in}
 use Rattle.tree_step.specs.declared.plan.Scratch.{Scratch}
 use Rattle.node_keeping.specs.steps.Keep.{Keep, New, Again}
-use Rattle.node_keeping.specs.steps.KeptChange.{KeptChange}
-use Rattle.node_keeping.specs.steps.KeptChange as changes
 use Rattle.node_keeping.specs.steps.KeepingStep.{KeepingStep}
 use Rattle.node_keeping.specs.steps.KeepingStep as steps
 use Rattle.node_keeping.specs.declared.node_plan.KeepPlan.{KeepPlan}
-use Rattle.node_keeping.specs.declared.node_plan.KeptPlan.{KeptPlan}
-use Rattle.node_keeping.specs.declared.node_plan.KeptPlan.TheVariants as plans
 use Rattle.node_keeping.specs.declared.node_plan.NodePlan.{NodePlan}
 use Rattle.node_keeping.specs.declared.node_plan.NodePlan.TheVariants as nodes
 use Rattle.node_keeping.specs.declared.state.KeepingParts.{KeepingParts}
 use Rattle.node_keeping.specs.Changes.{IsKeepingDone, IsKeepingStepOf}
 
--- how a letter is kept: one that came now, or the called one once more
+-- how a message is deferred: one that came now, or the called one once more
 abbrev pub keep_meant : KeepPlan → Option Letter → Keep
 keep_meant k (Some l) = New (record { letter = l; tree = k.tree; sub = k.sub; why = k.why })
 keep_meant k None = Again k.tree k.sub k.why
-
--- what a letter calls that was done
-abbrev pub calls_meant : Option Body → KeptChange
-calls_meant (Some body) = changes.Call body
-calls_meant None = changes.Stay
-
-abbrev pub kept_meant : KeptPlan → Option Body → KeptChange
-kept_meant plans.Stay calls = changes.Stay
-kept_meant (plans.LetGo t k) calls = changes.LetGo t k
-kept_meant plans.Call calls = calls_meant calls
 
 -- the step
 abbrev pub node_meant : NodePlan → Scratch → KeepingStep
 node_meant nodes.Still x = steps.Still (out_in x)
 node_meant (nodes.Keeps k) x = steps.Keeps (keep_meant k x.letter) k.raises (out_in x)
-node_meant (nodes.Does p k) x = steps.Does (core_meant p x) (kept_meant k x.calls)
+node_meant (nodes.Does p k) x = steps.Does (core_meant p x) k
 
 -- a plan and a scratch are this row of a node, and the node may do it
 abbrev pub IsPlanned : Out KeepingNode → KeepingParts → NodePlan → Scratch → Type 0

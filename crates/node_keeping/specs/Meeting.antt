@@ -1,4 +1,4 @@
--- How a letter is kept.
+-- How a message is deferred.
 use Rattle.std.specs.Prelude.{if◌then◌else◌, Bool, false, not, nat_lt, List, [], ◌∷◌, ◌++◌, map, Option, Some, None}
 use Rattle.tv_base.specs.declared.numbers.SubNo.{SubNo}
 use Rattle.tv_base.specs.declared.numbers.TreeNo.{TreeNo}
@@ -17,7 +17,7 @@ use Rattle.world_model.specs.Node.{Node}
 use Rattle.world_model.specs.Strict.{is_born_now}
 use Rattle.node_keeping.specs.steps.CoreKept.{CoreKept}
 
--- the subtransaction that a letter asks for, 0 for a root
+-- the subtransaction that a message asks for, 0 for a root
 abbrev pub asked_sub : Body → SubNo
 asked_sub (SubLetter t k v) = k
 asked_sub _ = record { 0 = 0 }

@@ -1,5 +1,4 @@
 pub mod Keep
-pub mod KeptChange
 pub mod KeepingStep
 pub mod CoreKept
 pub mod ChosenStep

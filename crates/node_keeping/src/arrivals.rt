@@ -1,4 +1,4 @@
-// Kept letters by when they came, with their places.
+// Deferred messages by when they came, with their places.
 ghost use Rattle.std.specs.Prelude.{◌≡◌, ◌+◌, ◌^◌, ◌<◌, [], ◌∷◌, ◌++◌, IfErr, OnErr, OnOk, IsSome};
 ghost use Rattle.std.specs.List.Sorted.{IsStrictlySortedBy};
 ghost use Rattle.std.specs.Map.{keys_of, values_of};
@@ -12,7 +12,7 @@ use letter_types::{Body, KeepReason, KeptLetter, Letter, LetterId};
 use std::collections::{BTreeMap, BTreeSet};
 use tv_base::{ActorNo, NoMemory, Stamp, SubNo, TreeNo};
 
-/// When the first called letter of this subtransaction came.
+/// When the first called message of this subtransaction came.
 pub(crate) fn called(
     letters: &BTreeMap<u64, KeptLetter>,
     places: &BTreeSet<KeptPlace>,
@@ -33,7 +33,7 @@ pub(crate) fn called(
     None
 }
 
-/// Whether the letter that came then is called.
+/// Whether the message that came then is called.
 fn is_called(letters: &BTreeMap<u64, KeptLetter>, arrival: u64) -> bool
     ensures { result ≡ is_called_now (came arrival letters.now.entries) }
 {
@@ -46,7 +46,7 @@ fn is_called(letters: &BTreeMap<u64, KeptLetter>, arrival: u64) -> bool
     }
 }
 
-/// The first called letter of this subtransaction.
+/// The first called message of this subtransaction.
 pub(crate) fn called_letter<'a>(
     letters: &'a BTreeMap<u64, KeptLetter>,
     places: &BTreeSet<KeptPlace>,
@@ -62,7 +62,7 @@ pub(crate) fn called_letter<'a>(
     Some(&kept.letter)
 }
 
-/// Keeps a letter that came last. It comes back where no memory is found, and then what is kept is as it was.
+/// Defers a message that came last. It comes back if memory runs out, and then what is deferred is as it was.
 pub(crate) fn insert(
     letters: &mut BTreeMap<u64, KeptLetter>,
     places: &mut BTreeSet<KeptPlace>,
@@ -91,7 +91,7 @@ pub(crate) fn insert(
     }
 }
 
-/// Takes the first called letter of this subtransaction away, if there is one.
+/// Takes the first called message of this subtransaction away, if there is one.
 pub(crate) fn take_called(
     letters: &mut BTreeMap<u64, KeptLetter>,
     places: &mut BTreeSet<KeptPlace>,
@@ -110,7 +110,7 @@ pub(crate) fn take_called(
     Some(kept.letter)
 }
 
-/// Lets the first called letter of this subtransaction go, if there is one.
+/// Lets the first called message of this subtransaction go, if there is one.
 pub(crate) fn let_called_go(
     letters: &mut BTreeMap<u64, KeptLetter>,
     places: &mut BTreeSet<KeptPlace>,
@@ -125,8 +125,8 @@ pub(crate) fn let_called_go(
     take_called(letters, places, next, tree, sub);
 }
 
-/// Keeps the first called letter of this subtransaction last, for this reason. Where no memory is found what is kept
-/// is as it was.
+/// Defers the first called message of this subtransaction again, last, for this reason. If memory runs out, what is
+/// deferred is as it was.
 pub(crate) fn insert_again(
     letters: &mut BTreeMap<u64, KeptLetter>,
     places: &mut BTreeSet<KeptPlace>,
@@ -156,7 +156,7 @@ pub(crate) fn insert_again(
     Ok(())
 }
 
-/// Stands at a letter's place until the letter comes there.
+/// Stands at a message's place until the message comes there.
 fn no_letter() -> Letter {
     let stamp = Stamp(0);
     Letter {
@@ -167,7 +167,7 @@ fn no_letter() -> Letter {
     }
 }
 
-/// Puts this letter in the place of the one that came then.
+/// Puts this message in the place of the one that came then.
 fn put_letter(letters: &mut BTreeMap<u64, KeptLetter>, arrival: u64, letter: Letter)
     requires { IsSome (came arrival letters.old.entries) }
     ensures put { letters.new.entries ≡ with_letter_at arrival letter letters.old.entries }

@@ -4,18 +4,18 @@ ghost use Rattle.tree_step.specs.Meant.{core_meant, out_in};
 ghost use Rattle.tree_step.specs.Raising.{raised_by};
 ghost use Rattle.tree_step.specs.CoreChanges.{MayDoCore};
 ghost use Rattle.node_keeping.specs.Changes.{MayDoKeeping, MayBeKept, MayKeepLetter, kept_after, kept_with};
-ghost use Rattle.node_keeping.specs.Meant.{IsNodeDone, keep_meant, kept_meant, node_meant};
+ghost use Rattle.node_keeping.specs.Meant.{IsNodeDone, keep_meant, node_meant};
 
 use crate::kept::KeptLetters;
 use crate::node_plan::{KeepPlan, KeptPlan, NodePlan};
 use crate::state::KeepingParts;
-use letter_types::{Body, Boxed, KeptLetter, Letter};
+use letter_types::{KeptLetter, Letter};
 use node_versions::Turns;
 use std::alloc::Global;
 use tree_step::{Plan, Scratch, do_plan};
 use tv_base::{NoMemory, Version};
 
-/// Keeps a letter: the one that came, or the called one once more. Where no memory is found what is kept is as it was.
+/// Defers a message: the one that came, or the called one once more. If memory runs out, what is deferred is as it was.
 fn keep_letter(
     kept: &mut KeptLetters,
     keep: KeepPlan,
@@ -49,7 +49,7 @@ fn raise_by(turns: &mut Turns, raises: Option<Version>)
     }
 }
 
-/// A letter is kept, and then the update version raised. Where no memory is found the node is as it was.
+/// A message is deferred, and then the update version raised. If memory runs out, the node is as it was.
 fn do_keep(node: &mut KeepingParts, keep: KeepPlan, scratch: &mut Scratch) -> Result<(), NoMemory>
     requires { MayKeepLetter (keep_meant keep scratch.old.letter) keep.raises node.old }
     ensures done { OnOk result (IsNodeDone (NodePlan.Keeps keep) scratch.old node.old node.new) }
@@ -62,22 +62,18 @@ fn do_keep(node: &mut KeepingParts, keep: KeepPlan, scratch: &mut Scratch) -> Re
     Ok(())
 }
 
-/// Some letters are called, or one goes. Needs no memory.
-fn change_kept(kept: &mut KeptLetters, plan: KeptPlan, calls: &Option<Boxed<Body>>)
-    ensures { kept.new ≡ kept_after (kept_meant plan calls.now) kept.old }
+/// Some deferred messages are called, or one goes. Needs no memory.
+fn change_kept(kept: &mut KeptLetters, plan: KeptPlan)
+    ensures { kept.new ≡ kept_after plan kept.old }
 {
     match plan {
         KeptPlan::Stay => {}
         KeptPlan::LetGo { tree, sub } => kept.let_called_go(tree, sub),
-        KeptPlan::Call => {
-            if let Some(body) = calls {
-                kept.call(body.get());
-            }
-        }
+        KeptPlan::Call(why) => kept.call(why),
     }
 }
 
-/// The core does its step, and then the kept letters change. Where no memory is found the node is as it was.
+/// The core does its step, and then the deferred messages change. If memory runs out, the node is as it was.
 #[inline(always)]
 fn do_row(
     alloc: Global,
@@ -92,11 +88,11 @@ fn do_row(
     ensures out { out_in scratch.new ≡ out_in scratch.old }
 {
     do_plan(alloc, &mut node.core, plan, scratch)?;
-    change_kept(&mut node.kept, kept, &scratch.calls);
+    change_kept(&mut node.kept, kept);
     Ok(())
 }
 
-/// Does what is planned; what goes out stays in the scratch. Where no memory is found the node is as it was.
+/// Does what is planned; what goes out stays in the scratch. If memory runs out, the node is as it was.
 #[inline(always)]
 pub fn do_node(
     alloc: Global,

@@ -1,9 +1,7 @@
-// Whether a letter is apt, as far as its operations don't decide.
+// Whether a message is enabled, as far as its operations don't decide.
 ghost use Rattle.std.specs.Prelude.{◌≡◌, is_some};
-ghost use Rattle.std.specs.Option.{option_copied};
 ghost use Rattle.tree_home.specs.HeldAnswers.{held_answers, held_in};
 ghost use Rattle.tree_home.specs.Homes.{Gets};
-ghost use Rattle.tx_trees.specs.ScriptData.{node_of, sub_at};
 ghost use Rattle.world_model.specs.Epochs.{suits_coordinator};
 ghost use Rattle.world_model.specs.Strict.{is_unheld};
 ghost use Rattle.tree_step.specs.Core.{core_of};
@@ -14,11 +12,11 @@ use letter_types::{Body, Letter};
 use nc_commit::{Decision, may_apply_decision};
 use script_parts::children::visits;
 use tree_home::Homes;
-use tree_step::{NodeCore, Request, is_due, is_near, is_strict};
+use tree_step::{NodeCore, Request, is_due, is_near, is_strict, node_of};
 use tv_base::{ActorNo, NodeNo, SubNo, TreeNo, Version};
-use tx_trees::{Script, Sub};
+use tx_trees::Script;
 
-/// Whether a letter is none that only the other kind of coordinator has, which the script doesn't run.
+/// Whether a message is none that only the other kind of coordinator has, which the script doesn't run.
 pub fn suits_coordinator(script: &Script, body: &Body) -> bool
     ensures { result ≡ suits_coordinator script.now body.now }
 {
@@ -59,7 +57,7 @@ fn is_unheld(homes: &Homes, body: &Body) -> bool
     }
 }
 
-/// Whether a letter that asks for a subtransaction is one that the node takes, and the answer of a root's tree isn't
+/// Whether a message that asks for a subtransaction is one that the node takes, and the answer of a root's tree isn't
 /// held.
 pub fn is_free(core: &NodeCore, letter: &Letter, script: &Script) -> bool
     ensures { result ≡ is_free_at script.now letter.now core.now.parts }
@@ -67,8 +65,8 @@ pub fn is_free(core: &NodeCore, letter: &Letter, script: &Script) -> bool
     is_due(&core.parts, letter, script) && is_unheld(&core.parts.homes, &letter.body)
 }
 
-/// Whether the answer that a notice completes, where its tree is strict, is of a version in which the home counts,
-/// whatever values the notice brings. It is so where the tree isn't strict, or the notice completes none.
+/// Whether the answer that a notice completes, if its tree is strict, is of a version in which the home counts,
+/// whatever values the notice brings. It is so if the tree isn't strict, or the notice completes none.
 pub fn decides_near(core: &NodeCore, script: &Script, request: Request) -> bool
     ensures { (values : Gets) → result ≡ answers_near script.now request values core.now.parts }
 {
@@ -81,8 +79,8 @@ pub fn decides_near(core: &NodeCore, script: &Script, request: Request) -> bool
     }
 }
 
-/// Whether the script has strict trees, this one has a subtransaction at the letter's addressee, and a node sent the
-/// letter.
+/// Whether the script has strict trees, this one has a subtransaction at the message's addressee, and a node sent the
+/// message.
 fn decides_here(letter: &Letter, script: &Script, tree: TreeNo) -> bool
     ensures { result ≡ decides_here script.now letter.now.to.0 letter.now.from.0 tree }
 {
@@ -91,8 +89,8 @@ fn decides_here(letter: &Letter, script: &Script, tree: TreeNo) -> bool
         && letter.from.0 < script.nodes()
 }
 
-/// Whether a decision is apt: its tree is strict and has a subtransaction here, its version is one that the node counts
-/// in, and what it applies can be applied.
+/// Whether a decision is enabled: its tree is strict and has a subtransaction here, its version is one that the node
+/// counts in, and what it applies can be applied.
 pub fn decide_apt(core: &NodeCore, letter: &Letter, script: &Script, decision: Decision) -> bool
     ensures { result ≡ decide_apt_at script.now letter.now decision core.now }
 {
@@ -101,14 +99,14 @@ pub fn decide_apt(core: &NodeCore, letter: &Letter, script: &Script, decision: D
         && may_apply_decision(&core.parts.items, decision, script, NodeNo(letter.to.0))
 }
 
-/// Whether the script has strict trees, this one is at home at the letter's addressee, and a node sent the letter.
+/// Whether the script has strict trees, this one is at home at the message's addressee, and a node sent the message.
 fn acks_here(letter: &Letter, script: &Script, tree: TreeNo) -> bool
     ensures { result ≡ acks_here script.now letter.now.to.0 letter.now.from.0 tree }
 {
     script.has_strict() && script.home_of(tree) == letter.to.0 && letter.from.0 < script.nodes()
 }
 
-/// Whether an acknowledgement is apt.
+/// Whether an acknowledgement is enabled.
 pub fn acked_apt(
     core: &NodeCore,
     letter: &Letter,
@@ -121,31 +119,15 @@ pub fn acked_apt(
     acks_here(letter, script, tree) && is_near(&core.parts.turns, version)
 }
 
-/// Whether it is apt that a tree's marks go at a node: the script has strict trees, and the tree a subtransaction there.
+/// Whether it is enabled that a tree's marks go at a node: the script has strict trees, and the tree a subtransaction
+/// there.
 pub fn release_apt(script: &Script, at: ActorNo, tree: TreeNo) -> bool
     ensures { result ≡ release_apt script.now at.0 tree }
 {
     script.has_strict() && visits(script.subs_of(tree), NodeNo(at.0))
 }
 
-/// A subtransaction of the script. None exactly where it isn't there.
-fn find_sub(script: &Script, tree: TreeNo, sub: SubNo) -> Option<&Sub>
-    ensures { option_copied result ≡ sub_at script.now tree.0 sub.0 }
-{
-    script.subs_of(tree).get(sub.0 as usize)
-}
-
-/// The node of a subtransaction; where it isn't there, the number of nodes, which is no node.
-fn node_of(script: &Script, tree: TreeNo, sub: SubNo) -> u8
-    ensures { result ≡ node_of script.now tree.0 sub.0 }
-{
-    match find_sub(script, tree, sub) {
-        Some(found) => found.node.0,
-        None => script.nodes(),
-    }
-}
-
-/// Whether a Wake is apt: the script has strict trees, and the subtransaction is at the node.
+/// Whether a Wake is enabled: the script has strict trees, and the subtransaction is at the node.
 pub fn wake_apt(script: &Script, at: ActorNo, tree: TreeNo, sub: SubNo) -> bool
     ensures { result ≡ wake_apt script.now at.0 tree sub }
 {

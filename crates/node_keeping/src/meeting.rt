@@ -1,4 +1,4 @@
-// Which letters are kept, and how.
+// Which messages are deferred, and how.
 ghost use Rattle.std.specs.Prelude.{◌≡◌, ◌++◌, ◌∷◌, [], IfOk, OnOk};
 ghost use Rattle.world_model.specs.Strict.{is_born_now, meets};
 ghost use Rattle.world_model.specs.Asked.{asked_ops};
@@ -12,7 +12,7 @@ use crate::node_plan::KeepPlan;
 use letter_types::{Act, Acts, Body, KeepReason, Letter};
 use nc_locks::{Locks, Met, Mode};
 use node_versions::Turns;
-use tree_step::{NodeCore, asked_ops, asked_version};
+use tree_step::{NodeCore, asked_ops, asked_version, is_above};
 use tv_base::{NoMemory, SubNo, TreeNo, Version};
 use tx_trees::{Script, SubOp};
 
@@ -28,7 +28,7 @@ fn met_by_marks(locks: &Locks, tree: TreeNo, ops: &[SubOp]) -> Option<Met>
     None
 }
 
-/// What a subtransaction of an update tree meets: nothing where there is no strict tree.
+/// What a subtransaction of an update tree meets: nothing if there is no strict tree.
 pub fn meets(core: &NodeCore, letter: &Letter, script: &Script, tree: TreeNo) -> Option<Met>
     ensures { result ≡ meets script.now tree (asked_ops script.now letter.now.body) (core_of core.now) }
 {
@@ -38,7 +38,7 @@ pub fn meets(core: &NodeCore, letter: &Letter, script: &Script, tree: TreeNo) ->
     met_by_marks(&core.locks, tree, asked_ops(letter, script))
 }
 
-/// The subtransaction that a letter asks for, 0 for a root.
+/// The subtransaction that a message asks for, 0 for a root.
 fn asked_sub(letter: &Letter) -> SubNo
     ensures { result ≡ asked_sub letter.now.body }
 {
@@ -52,7 +52,7 @@ fn asked_sub(letter: &Letter) -> SubNo
 fn raises_to(turns: &Turns, version: Version) -> Option<Version>
     ensures { result ≡ raises_to turns.now version }
 {
-    if turns.update.0 < version.0 {
+    if is_above(turns, version) {
         return Some(version);
     }
     None
@@ -82,7 +82,7 @@ fn push_parked(acts: &mut Acts, raises: Option<Version>, act: Act) -> Result<(),
 
 /// Plans that a subtransaction of an update tree that meets a lock is parked for its holder. The node raises its update
 /// version before, if it must.
-pub fn parked(
+pub fn plan_parked(
     turns: &Turns,
     letter: &Letter,
     tree: TreeNo,
@@ -117,7 +117,7 @@ fn is_born_now(core: &NodeCore) -> bool
     turns.read.0 < turns.update.0 && turns.update.0 - turns.read.0 == 1
 }
 
-/// Whether a letter that asks a strict tree's subtransaction for its vote is a root that has to wait.
+/// Whether a message that asks a strict tree's subtransaction for its vote is a root that has to wait.
 pub fn waits_for_show(core: &NodeCore, letter: &Letter) -> bool
     ensures { result ≡ waits_for_show (data_of core.now.parts) letter.now.body }
 {
@@ -128,7 +128,7 @@ pub fn waits_for_show(core: &NodeCore, letter: &Letter) -> bool
 }
 
 /// Plans that the root of a strict tree that isn't born yet waits until the node shows a version.
-pub fn root_waiting(turns: &Turns, tree: TreeNo, acts: &mut Acts) -> Result<KeepPlan, NoMemory>
+pub fn plan_waiting(turns: &Turns, tree: TreeNo, acts: &mut Acts) -> Result<KeepPlan, NoMemory>
     requires { acts.old ≡ [] }
     ensures { IfOk result (λ keep. kept_by_plan keep acts.new ≡ root_kept tree turns.now) }
 {

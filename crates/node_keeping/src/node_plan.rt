@@ -1,11 +1,11 @@
-// What a node is to do with a letter: a plan, whose rest lies in a scratch.
+// What a node is to do with a message: a plan, whose rest lies in a scratch.
 use letter_types::KeepReason;
 use std::mem::size_of;
 use tree_step::Plan;
 use tv_base::{SubNo, TreeNo, Version};
 
-/// How a letter is kept, last of all: the one in the scratch, which came now; or, where none is there, the called letter of
-/// this subtransaction once more.
+/// How a message is deferred, last of all: the one in the scratch, which came now; or, if none is there, the called
+/// message of this subtransaction once more.
 #[derive(Clone, Copy)]
 pub struct KeepPlan {
     pub tree: TreeNo,
@@ -15,10 +15,10 @@ pub struct KeepPlan {
     pub raises: Option<Version>,
 }
 
-/// What a core is to do with a letter. What takes memory lies in a scratch.
+/// What a core is to do with a message. What takes memory lies in a scratch.
 #[derive(Clone, Copy)]
 pub enum CoreChoice {
-    /// The letter isn't enabled: nothing.
+    /// The message isn't enabled: nothing.
     Still,
     /// It is deferred: it can't be done yet. The acts are in the scratch.
     Keeps(KeepPlan),
@@ -26,23 +26,23 @@ pub enum CoreChoice {
     Does(Plan),
 }
 
-/// What becomes of the kept letters where a letter is done.
+/// What becomes of the deferred messages if a message is done.
 #[derive(Clone, Copy)]
 pub enum KeptPlan {
     /// All stay.
     Stay,
-    /// The called letter of this subtransaction goes.
+    /// The called message of this subtransaction goes.
     LetGo { tree: TreeNo, sub: SubNo },
-    /// What the letter in the scratch wakes is called from now on.
-    Call,
+    /// The messages that wait for this are called from now on.
+    Call(KeepReason),
 }
 
-/// What a node is to do with a letter.
+/// What a node is to do with a message.
 #[derive(Clone, Copy)]
 pub enum NodePlan {
     /// Nothing.
     Still,
-    /// The letter is kept.
+    /// The message is deferred.
     Keeps(KeepPlan),
     /// The core does its step.
     Does { plan: Plan, kept: KeptPlan },

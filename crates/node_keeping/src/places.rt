@@ -1,16 +1,16 @@
-// By what kept letters are found, and when they came.
+// By what deferred messages are found, and when they came.
 ghost use Rattle.std.specs.Prelude.{◌≡◌, OnErr, OnOk};
 ghost use Rattle.std.specs.List.Sorted.{IsStrictlySortedBy};
-ghost use Rattle.node_keeping.specs.inside.Places.{ArePlacesAdded, ArePlacesSame, ArePlacesTaken, IsFree, key_of_why, place_order, woken_key};
+ghost use Rattle.node_keeping.specs.inside.Places.{ArePlacesAdded, ArePlacesSame, ArePlacesTaken, IsFree, key_of_why, place_order};
 
-use letter_types::{Body, KeepReason};
+use letter_types::KeepReason;
 use std::collections::BTreeSet;
 use tv_base::{NoMemory, SubNo, TreeNo};
 
-/// By what a kept letter is found.
+/// By what a deferred message is found.
 #[derive(Clone, Copy, PartialEq, Eq, PartialOrd, Ord)]
 pub(crate) enum Key {
-    /// By its subtransaction, whatever it is kept for.
+    /// By its subtransaction, whatever it is deferred for.
     Sub(TreeNo, SubNo),
     /// By the version that is to be shown.
     Show,
@@ -19,8 +19,8 @@ pub(crate) enum Key {
 }
 
 impl Key {
-    /// The key of what a kept letter waits for, but for its Wake.
-    fn of_why(why: KeepReason) -> Option<Key>
+    /// The key of what a deferred message waits for, if that isn't its Wake.
+    pub(crate) fn of_why(why: KeepReason) -> Option<Key>
         ensures { result ≡ key_of_why why }
     {
         match why {
@@ -29,27 +29,16 @@ impl Key {
             KeepReason::Called => None,
         }
     }
-
-    /// The key of what a letter of this body wakes.
-    pub(crate) fn woken_by(body: &Body) -> Option<Key>
-        ensures { result ≡ woken_key body.now }
-    {
-        match body {
-            Body::Show { .. } => Some(Key::Show),
-            Body::Decide { tree, .. } => Some(Key::Holder(*tree)),
-            _ => None,
-        }
-    }
 }
 
-/// A kept letter by a key, and by when it came.
+/// A deferred message by a key, and by when it came.
 #[derive(Clone, Copy, PartialEq, Eq, PartialOrd, Ord)]
 pub(crate) struct KeptPlace {
     pub(crate) key: Key,
     pub(crate) arrival: u64,
 }
 
-/// Adds the places of a letter that came then. Where no memory is found the same places are as before.
+/// Adds the places of a message that came then. If memory runs out, the same places are as before.
 pub(crate) fn add_places(
     places: &mut BTreeSet<KeptPlace>,
     arrival: u64,
@@ -79,7 +68,7 @@ pub(crate) fn add_places(
     }
 }
 
-/// Takes the places of a letter that came then away.
+/// Takes the places of a message that came then away.
 pub(crate) fn take_places(
     places: &mut BTreeSet<KeptPlace>,
     arrival: u64,

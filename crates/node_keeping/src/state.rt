@@ -1,8 +1,8 @@
-// A node and the letters that it keeps.
+// A node and the messages that it defers.
 use crate::kept::KeptLetters;
 use tree_step::NodeCore;
 
-/// A node: its core, and the letters that it keeps.
+/// A node: its core, and the messages that it defers.
 #[derive(Drop)]
 pub struct KeepingParts {
     pub core: NodeCore,

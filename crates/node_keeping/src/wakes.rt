@@ -1,5 +1,5 @@
-// Which kept letters are woken, and that they are called from then on.
-ghost use Rattle.std.specs.Prelude.{◌≡◌, ◌<◌, ◌++◌, length, IfOk, IfNone, IfSome, OnOk, true};
+// Which deferred messages are woken, and that they are called from then on.
+ghost use Rattle.std.specs.Prelude.{◌≡◌, ◌<◌, ◌++◌, length, IfNone, IfSome, OnOk, true};
 ghost use Rattle.std.specs.Map.{values_of};
 ghost use Rattle.letter_types.specs.Kept.{wakes, with_called};
 ghost use Rattle.node_keeping.specs.inside.Arrivals.{ArePlaced, CallSame, came, wake_of};
@@ -7,31 +7,29 @@ ghost use Rattle.node_keeping.specs.inside.Places.{HasNone, has_place, is_reason
 
 use crate::places::{KeptPlace, Key};
 use letter_types::{Body, KeepReason, KeptLetter, Letters, Outgoing};
-use std::alloc::Global;
 use std::collections::{BTreeMap, BTreeSet};
 use tv_base::NoMemory;
 
-/// A Wake for each letter that waits for this, in the order in which they came.
-pub(crate) fn wakes_of(
-    alloc: Global,
+/// Adds a Wake for each message that waits for this behind the messages to be sent, in the order in which they came.
+pub(crate) fn push_wakes(
     letters: &BTreeMap<u64, KeptLetter>,
     places: &BTreeSet<KeptPlace>,
     next: u64,
     key: Key,
-) -> Result<Letters, NoMemory>
+    sent: &mut Letters,
+) -> Result<(), NoMemory>
     requires kept { ArePlaced next letters.now.entries places.now.keys }
     requires reason { is_reason key ≡ true }
-    ensures { IfOk result (λ sent. sent ≡ wakes (is_why key) (values_of letters.now.entries)) }
+    ensures { OnOk result (sent.new ≡ sent.old ++ wakes (is_why key) (values_of letters.now.entries)) }
 {
-    let mut sent = Letters::new(alloc);
     let first = KeptPlace { key, arrival: 0 };
     for place in places.range(first..KeptPlace { key, arrival: next }) {
-        push_wake(letters, place.arrival, &mut sent)?;
+        push_wake(letters, place.arrival, sent)?;
     }
-    Ok(sent)
+    Ok(())
 }
 
-/// Adds the Wake of the letter that came then. Where no memory is found the letters to be sent are as before.
+/// Adds the Wake of the message that came then. If memory runs out, the messages to be sent are as before.
 fn push_wake(
     letters: &BTreeMap<u64, KeptLetter>,
     arrival: u64,
@@ -51,7 +49,7 @@ fn push_wake(
     Ok(())
 }
 
-/// Each letter that waits for this is called from now on.
+/// Each message that waits for this is called from now on.
 pub(crate) fn call_all(
     letters: &mut BTreeMap<u64, KeptLetter>,
     places: &mut BTreeSet<KeptPlace>,
@@ -68,7 +66,7 @@ pub(crate) fn call_all(
     }
 }
 
-/// When the first letter with this key came, of those that came before the next.
+/// When the first message with this key came, of those that came before the next.
 fn first_arrival(places: &BTreeSet<KeptPlace>, key: Key, next: u64) -> Option<u64>
     ensures none { IfNone result (HasNone key next places.now.keys) }
     ensures some { IfSome result (λ arrival. has_place (place_by key arrival) places.now.keys ≡ true) }
@@ -80,7 +78,7 @@ fn first_arrival(places: &BTreeSet<KeptPlace>, key: Key, next: u64) -> Option<u6
     Some(place.arrival)
 }
 
-/// The letter that came then, and waits for this, is called from now on.
+/// The message that came then, and waits for this, is called from now on.
 fn call_one(
     letters: &mut BTreeMap<u64, KeptLetter>,
     places: &mut BTreeSet<KeptPlace>,

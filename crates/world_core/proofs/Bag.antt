@@ -1,4 +1,4 @@
--- Letter k of the bag is the one that its id finds, and taking it out by place or by id is the same.
+-- Message k of the bag is the one that its id finds, and taking it out by place or by id is the same.
 use Rattle.std.proofs.Common.{◌≡◌, ℕ, suc, zero, ◌+◌, ◌≤◌, Bool, true, false, List, [], ◌∷◌, Some, refl, sym, ap, subst, arith}
 use Rattle.std.specs.Prelude.{slice_get}
 use Rattle.std.specs.List.{remove}
@@ -8,7 +8,7 @@ use Rattle.letter_types.proofs.Ids.{same_id-self}
 use Rattle.world_model.specs.Counts.{tally, one_if}
 use Rattle.world_model.proofs.Gone.{of_id}
 
--- the letter at a place, by its id
+-- the message at a place, by its id
 pub record Found (xs : List Letter) (k : ℕ) (l : Letter) : Type 0 where
   pub found : find_id l.id xs ≡ Some l
   pub left : drop_id l.id xs ≡ remove xs k

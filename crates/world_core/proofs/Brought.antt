@@ -1,5 +1,5 @@
--- The letter that another brings to its node, as a Wake does, is addressed to the node, and asks for what it is kept
--- as.
+-- The message that another brings to its node, as a Wake does, is addressed to the node, and asks for what it is
+-- deferred as.
 use Rattle.std.proofs.Common.{◌≡◌, ℕ, ◌==◌, ◌&&◌, Bool, true, false, List, [], ◌∷◌, refl, sym, ap, ◌∙◌, subst, arith, cond, Some, None}
 use Rattle.std.proofs.lemmas.Bool.Decides.{nat_tests}
 use Rattle.tv_base.specs.declared.numbers.SubNo.{SubNo}
@@ -11,7 +11,7 @@ use Rattle.letter_types.specs.declared.kept.KeptLetter.{KeptLetter}
 use Rattle.letter_types.specs.Kept.{brought, first_called, is_called, is_called_for}
 use Rattle.world_model.specs.Keeping.{AreKeptAt, AsksFor, IsKeptAt}
 
--- a called letter of subtransaction k of tree t that node p keeps
+-- a called message of subtransaction k of tree t that node p defers
 pub record IsCalledAt (p : ℕ) (t : TreeNo) (k : SubNo) (r : Letter) : Type 0 where
   pub to : r.to.0 ≡ p
   pub asks : AsksFor t k r.body
@@ -45,7 +45,7 @@ called_at p t k [] r kept at = let no : None ≡ Some r = at in cc
 called_at p t k (x ∷ xs) r kept at =
     called_by p t k x xs r (is_called_for t k x) kept.0 refl (called_at p t k xs r kept.1) at
 
--- what a letter of this body brings to the letter's addressee is addressed to it too
+-- what a message of this body brings to the message's addressee is addressed to it too
 brought_by : (kept : List KeptLetter) (l r : Letter) (b : Body) → AreKeptAt l.to.0 kept → brought kept l b ≡ Some r
     → r.to.0 ≡ l.to.0
 brought_by kept l r (Wake t k) at is = (called_at l.to.0 t k kept r at is).to
@@ -58,7 +58,7 @@ pub brought_to : (kept : List KeptLetter) (l r : Letter) → AreKeptAt l.to.0 ke
     → r.to.0 ≡ l.to.0
 brought_to kept l r at is = brought_by kept l r l.body at is
 
--- a letter asks for one subtransaction
+-- a message asks for one subtransaction
 pub one_tree : (t u : TreeNo) (k j : SubNo) (b : Body) → AsksFor t k b → AsksFor u j b → t ≡ u
 one_tree t u k j (Root v) asks other = sym asks.0 ∙ other.0
 one_tree t u k j (SubLetter v i w) asks other = sym asks.0 ∙ other.0

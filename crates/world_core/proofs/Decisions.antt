@@ -27,7 +27,7 @@ ready_from s p from n ready lt = record {
   apart = ready.apart;
 }
 
--- what a decision that is apt says
+-- what a decision that is enabled says
 pub record IsDecision (s : ScriptData) (p from : ℕ) (c : Core) (t : TreeNo) (v : Version) (commit : Bool) : Type 0 where
   pub there : 0 < length (subs_at s t.0)
   pub sent : from < s.nodes
@@ -62,7 +62,7 @@ is_decision s p from c t v commit apt =
       can = all.4;
     }
 
--- what an acknowledgement that is apt says
+-- what an acknowledgement that is enabled says
 pub record IsAck (s : ScriptData) (from : ℕ) (c : Core) (v : Version) : Type 0 where
   pub sent : from < s.nodes
   pub near : in_window c.node.turns.low.0 v.0 ≡ true

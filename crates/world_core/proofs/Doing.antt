@@ -1,6 +1,6 @@
 -- A step of an actor that was planned and done is its row.
 use Rattle.std.proofs.Common.{◌≡◌, ◌<◌, ℕ, List, length, get_or, refl, ap, ◌∙◌, subst, sym, Result, Ok, Err}
-use Rattle.std.specs.Prelude.{MatchResult, slice_set}
+use Rattle.std.specs.Prelude.{IfOk, MatchResult, OnErr, slice_set}
 use Rattle.std.proofs.lemmas.List.{set-get_or}
 use Rattle.std.proofs.lemmas.Option.{slice_get_read}
 use Rattle.tv_base.specs.declared.numbers.NoMemory.{NoMemory}
@@ -45,7 +45,7 @@ may_do s l (Client k) (NodeStep p) x is = absurd is
 may_do s l (Client k) (CoordinatorStep p) x is = absurd is
 may_do s l (Client k) (RestartStep p) x is = absurd is
 
--- an actor made its row of a letter, is of the script still, and this goes out
+-- an actor made its row of a message, is of the script still, and this goes out
 pub record IsRow (s : ScriptData) (l : Letter) (old new : ActorState) (out : StepOut) : Type 0 where
   pub row : made (actor_data new) out ≡ actor_row s l.to.0 (actor_data old) l
   pub script : IsFor s new
@@ -135,7 +135,7 @@ out_is (ClientStep p) x (Restarting c) new out done = absurd done
 -- the actor at a place did it, and the others stay
 pub acted_at : (a : ℕ) (p : ActorPlan) (x : Scratch) (old : List ActorState) (before after : ActorState) (r : Result StepOut NoMemory)
     → a < length old → before ≡ get_or old a before → MatchResult r (IsActorDone p x before after) (λ _. after ≡ before)
-    → MatchResult r (Acted a p x old (slice_set old a after)) (λ _. slice_set old a after ≡ old)
+    → IfOk r (Acted a p x old (slice_set old a after))
 acted_at a p x old before after (Ok out) lt at done = record {
   before = before;
   after = after;
@@ -143,5 +143,12 @@ acted_at a p x old before after (Ok out) lt at done = record {
   set = refl;
   done = done;
 }
-acted_at a p x old before after (Err e) lt at same =
+acted_at a p x old before after (Err e) lt at same = tt
+
+-- or found no memory, and all stay
+pub stays_at : (a : ℕ) (p : ActorPlan) (x : Scratch) (old : List ActorState) (before after : ActorState) (r : Result StepOut NoMemory)
+    → before ≡ get_or old a before → MatchResult r (IsActorDone p x before after) (λ _. after ≡ before)
+    → OnErr r (slice_set old a after ≡ old)
+stays_at a p x old before after (Ok out) at done = tt
+stays_at a p x old before after (Err e) at same =
     ap (λ (st : ActorState). slice_set old a st) (same ∙ at) ∙ set-get_or old a before

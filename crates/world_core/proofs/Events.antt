@@ -20,7 +20,7 @@ use Rattle.world_model.specs.Tables.{ActorData}
 use Rattle.world_model.specs.Taking.{CountsBelow, IsAddressed, MOST_COUNTED}
 use Rattle.world_core.specs.Actors.{IsWorldOf, TookLetter, WorldData}
 use Rattle.world_core.specs.Prepared.{IsActorStepOf, ActorMayDo, MayTake, out_of}
-use Rattle.world_core.specs.inside.Actors.{Acted, entry_made}
+use Rattle.world_core.specs.inside.Actors.{Acted, entry_made, letters_made, with_last_entry}
 use Rattle.world_core.proofs.Doing.{is_row, may_do, out_is}
 use Rattle.world_core.proofs.Worlds.{Took, below, entry_of, next_world}
 
@@ -36,7 +36,7 @@ pub is_here : (s : ScriptData) (w : WorldData) (k : ℕ) (l : Letter) → IsWorl
     → slice_get w.bag k ≡ Some l → l.to.0 < length w.actors
 is_here s w k l world valid at = omega (arith, below s w k l world valid at, world.count)
 
--- a state there may take the letter, while the history is short
+-- a state there may take the message, while the history is short
 state_may : (s : ScriptData) (w : WorldData) (m : ℕ) (l : Letter) (st : ActorState) → IsWorldOf s w → IsValid s
     → MOST_COUNTED * length w.history + 1 ≤ m → l.to.0 < s.nodes + 2
     → slice_get w.actors l.to.0 ≡ Some st → MayTake s l m st
@@ -80,8 +80,8 @@ pub record Event (s : ScriptData) (w : WorldData) (k : ℕ) (l : Letter) (p : Ac
   pub step : IfSome (slice_get w.actors l.to.0) (λ st. IsActorStepOf s l st p z)
   pub acted : Acted l.to.0 p z w.actors next.actors out
   pub stamp_is : stamp.0 ≡ length w.history + 1
-  pub bag : next.bag ≡ remove w.bag k ++ sealed stamp.0 l.to.0 0 (out_of p z).sent
-  pub history : next.history ≡ slice_set (w.history ++ x ∷ []) (length (w.history ++ x ∷ []) - 1) (entry_made l out stamp)
+  pub bag : next.bag ≡ remove w.bag k ++ letters_made stamp l.to p z
+  pub history : next.history ≡ with_last_entry (w.history ++ x ∷ []) l out stamp
 
 -- the actor made its row
 took_by : (s : ScriptData) (w : WorldData) (k : ℕ) (l : Letter) (p : ActorPlan) (z : Scratch) (out : StepOut) (stamp : Stamp) (x : Entry) (next : WorldData)

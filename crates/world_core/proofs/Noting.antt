@@ -42,7 +42,7 @@ note_far s l n t k v notice is due far =
     (due_body s l n (Done t k v notice) is due)
     ∙ far)
 
--- one that is apt
+-- one that is enabled
 pub note_plan : (s : ScriptData) (l : Letter) (n : NodeCore) (t : TreeNo) (k : SubNo) (v : Version) (notice : Notice)
     (from : ℕ) (q : CoreStep) → l.body ≡ Done t k v notice
     → true ≡ is_due s l.to.0 (data_of n.parts) l.from.0 l.body

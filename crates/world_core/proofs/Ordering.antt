@@ -79,7 +79,7 @@ still_done s p n q x ready made empty =
     })
     refl ready.apart)
 
--- a letter that is apt and isn't kept, and a step is its row
+-- a message that is enabled and isn't deferred, and a step is its row
 pub own_done : (s : ScriptData) (l : Letter) (n : NodeCore) (body : Body) (o : Out Core) (q : CoreStep)
     → l.body ≡ body → true ≡ apt_by s l.to.0 l.from.0 (core_of n) body → core_keeping s (core_of n) body ≡ None
     → o ≡ core_row s l.to.0 (core_of n) l.from.0 body → IsCoreStepOf o n q → IsOwnPlan s l n (Does q)
@@ -87,7 +87,7 @@ own_done s l n body o q is apt free row step =
     plan_one s l n body true (Does q) is apt
     (record { apt = refl; free = free; step = subst (λ (x : Out Core). IsCoreStepOf x n q) row step })
 
--- Orders leave open trees as they are, and none is kept.
+-- Orders leave open trees as they are, and none is deferred.
 order_homes : (s : ScriptData) (what : What) (v : Version) (answer : Body) (st : Node)
     → (ordered_row s what v answer st).state.homes ≡ st.homes
 order_homes s whats.Turn v answer st = refl
@@ -228,7 +228,7 @@ ask_plan s l n e d x q is ready later step made =
     (ask_apt s l.to.0 l.from.0 (core_of n) e) refl (asked_done s (core_of n) e later)
     (of_parts_step row n d x (Some e) q made step refl ready.apart)
 
--- a letter without a row of its own
+-- a message without a row of its own
 pub other_plan : (s : ScriptData) (l : Letter) (n : NodeCore) (q : Plan) (x : Scratch) → IsCoreReady s l.to.0 n
     → is_own l.body ≡ false → q ≡ plan_of doings.Still None → IsEmpty x → IsOwnPlan s l n (Does (core_meant q x))
 other_plan s l n q x ready own made empty =

@@ -1,4 +1,4 @@
--- A node's row of a letter, by what it brings.
+-- A node's row of a message, by what it brings.
 use Rattle.std.proofs.Common.{◌≡◌, ℕ, ◌==◌, ◌&&◌, Bool, true, false, List, [], ◌∷◌, ◌++◌, refl, sym, ap, ◌∙◌, subst, Option, Some, None}
 use Rattle.std.specs.Prelude.{if◌then◌else◌, IsSome}
 use Rattle.std.proofs.lemmas.Bool.{eq-eqb}
@@ -25,7 +25,7 @@ use Rattle.node_keeping.specs.Changes.{MayBeKept, kept_with}
 use Rattle.world_core.specs.inside.Bringing.{done_out, keep_by, kept_out}
 use Rattle.world_core.proofs.Brought.{called_at, one_sub, one_tree}
 
--- a core keeps a letter as what it asks for
+-- a core defers a message as what it asks for
 parked_asks : (t : TreeNo) (k : SubNo) (raises : Bool) (v : Version) (met : Option Met)
     (c : Core) (kept : CoreKeeping) (b : Body) → AsksFor t k b
     → parked_if t k raises v met c ≡ Some kept → AsksFor kept.tree kept.sub b
@@ -64,7 +64,7 @@ kept_asks s c (Root t) kept is = root_asks s c t (tree_kind_at s t.0) kept is
 kept_asks s c (SubLetter t k v) kept is = sub_asks s c t k v (tree_kind_at s t.0) kept is
 kept_asks s c _ kept is = let no : None ≡ Some kept = is in cc
 
--- what was brought is kept again, where it was called
+-- what was brought is deferred again, if it was called
 again_kept : (p : ℕ) (t u : TreeNo) (k j : SubNo) (why : KeepReason) (r : Letter) (kept : List KeptLetter) → AreKeptAt p kept
     → first_called u j kept ≡ Some r → AsksFor t k r.body
     → kept_with (keep_by r t k why (Wake u j)) kept
@@ -118,7 +118,7 @@ pub may_keep : (l r : Letter) (t : TreeNo) (k : SubNo) (why : KeepReason) (kept 
     → MayBeKept (keep_by l t k why l.body) kept
 may_keep l r t k why kept at is asks = may_by l.to.0 l r t k why kept l.body at is asks
 
--- the row, by whether what is brought is apt, and is kept
+-- the row, by whether what is brought is enabled, and is deferred
 abbrev row_by : ScriptData → ℕ → Letter → Letter → KeepingNode → Bool → Option CoreKeeping → Out KeepingNode
 row_by s p l r n test kept = if test then kept_row s p l r n kept else still n
 

@@ -1,4 +1,4 @@
--- The last letters of a list taken out again.
+-- The last messages of a list taken out again.
 use Rattle.std.proofs.Common.{◌≡◌, ℕ, suc, ◌<◌, ◌≤◌, ◌∙◌, List, length, take, drop, arith}
 use Rattle.std.specs.List.{remove}
 use Rattle.std.proofs.lemmas.List.{length-take-le, take-append-le, take-take}

@@ -102,7 +102,7 @@ others_by s past e a false true is at lt ne = by (is_lossy s) refl where
       restarting_is s (e ∷ past) a is at loses ∙ ap RestartingData same ∙ sym (restarting_is s past a is at loses)
 others_by s past e a false false is at lt ne = let no : (e.actor.0 == client_of s) ≡ false = grind (arith, nat_tests) in rw (is, at, no) refl
 
--- the addressee of a letter made its row of it, this goes out, and the other actors stay
+-- the addressee of a message made its row of it, this goes out, and the other actors stay
 pub record Took (s : ScriptData) (l : Letter) (old new : List ActorState) (out : StepOut) : Type 0 where
   pub before : ActorState
   pub after : ActorState

@@ -1,4 +1,4 @@
--- The actors' states by their tables, and what a world keeps.
+-- The actors' states by their tables, and what a world has.
 use Rattle.std.specs.Prelude.{ℕ, ◌+◌, ◌≡◌, List, [], ◌∷◌, ◌++◌, length, reverse, Some, slice_get}
 use Rattle.client_rows.specs.Kept.{IsKeptOf}
 use Rattle.letter_types.specs.declared.entries.Letter.{Letter}
@@ -7,7 +7,7 @@ use Rattle.node_keeping.specs.State.{keeping_of}
 use Rattle.tree_step.specs.Node.{IsOf}
 use Rattle.tx_trees.specs.ScriptData.{ScriptData}
 use Rattle.world_model.specs.Tables.{ActorData, NodeData, CoordinatorData, RestartingData, ClientData}
-use Rattle.world_model.specs.Runs.{IsStepRun, actor_in, in_flight}
+use Rattle.world_model.specs.Runs.{IsStepRun, actor_after, actor_in, in_flight}
 use Rattle.world_core.specs.declared.actor.ActorState.{ActorState}
 use Rattle.world_core.specs.declared.actor.ActorState.TheVariants.{Node, Coordinator, Restarting, Client}
 
@@ -46,6 +46,10 @@ pub record IsWorldOf (s : ScriptData) (w : WorldData) : Type 0 where
   pub actors : AreStatesOf s (reverse w.history) w.actors
   pub bag : w.bag ≡ in_flight s (reverse w.history)
 
--- letter k of the bag was taken: there is one entry more, and it took this letter
+-- an actor's state in a world is the one to which its own entries lead
+abbrev pub IsLedTo : ScriptData → WorldData → ℕ → ActorState → Type 0
+IsLedTo s w a st = actor_data st ≡ actor_after s w.history a
+
+-- message k of the bag was taken: there is one entry more, and it took this message
 abbrev pub TookLetter : ℕ → WorldData → WorldData → Type 0
 TookLetter k old new = (e : Entry) × (new.history ≡ old.history ++ e ∷ []) × (slice_get old.bag k ≡ Some e.took)

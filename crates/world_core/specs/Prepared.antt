@@ -25,17 +25,17 @@ use Rattle.world_core.specs.declared.actor.ActorState.TheVariants.{Node, Coordin
 use Rattle.world_core.specs.declared.actor.ActorPlan.{ActorPlan}
 use Rattle.world_core.specs.declared.actor.ActorPlan.TheVariants.{Node as NodeStep, Coordinator as CoordinatorStep, Restarting as RestartStep, Client as ClientStep}
 
--- an actor may take a letter: it is addressed to it, of its script, and the numbers that it counts are small
+-- an actor may take a message: it is addressed to it, of its script, and the numbers that it counts are small
 pub record MayTake (s : ScriptData) (l : Letter) (m : ℕ) (st : ActorState) : Type 0 where
   pub addressed : IsAddressed s l (actor_data st)
   pub script : IsFor s st
   pub small : CountsBelow m (actor_data st)
 
--- what a node is to do with a letter is planned: its row of the node's table
+-- what a node is to do with a message is planned: its row of the node's table
 abbrev pub IsLetterPlan : ScriptData → Letter → KeepingParts → NodePlan → Scratch → Type 0
 IsLetterPlan s l n p x = IsPlanned (keeping_row s l.to.0 (keeping_of n) l) n p x
 
--- what an actor does with a letter: its row of its table
+-- what an actor does with a message: its row of its table
 abbrev pub row_at : ScriptData → Letter → ActorState → Out ActorData
 row_at s l st = actor_row s l.to.0 (actor_data st) l
 
@@ -46,7 +46,7 @@ out_of (CoordinatorStep p) x = p.out
 out_of (RestartStep p) x = p.out
 out_of (ClientStep p) x = p.out
 
--- a step that is planned is the row of this letter in the actor's table, and the actor may do it
+-- a step that is planned is the row of this message in the actor's table, and the actor may do it
 abbrev pub IsActorStepOf : ScriptData → Letter → ActorState → ActorPlan → Scratch → Type 0
 IsActorStepOf s l (Node n) (NodeStep p) x = IsLetterPlan s l n p x
 IsActorStepOf s l (Coordinator c) (CoordinatorStep p) x = IsCoordinatorStep (coordinator_table c l) c p

@@ -1,23 +1,21 @@
 // The actors as one, and their steps.
 ghost use Rattle.std.specs.Prelude.{◌≡◌, ◌<◌, ◌+◌, [], IfOk, MatchResult, OnOk, OnErr};
-ghost use Rattle.letter_types.specs.Steps.{made};
 ghost use Rattle.node_keeping.specs.Changes.{MayDoKeeping};
 ghost use Rattle.node_keeping.specs.Meant.{IsNodeDone, node_meant};
 ghost use Rattle.tree_step.specs.Meant.{IsEmpty, out_in};
 ghost use Rattle.world_model.specs.Tables.{start_coordination};
-ghost use Rattle.world_model.specs.Taking.{CountsBelow, IsAddressed};
 ghost use Rattle.world_core.specs.Actors.{actor_data, IsFor, IsStateOf};
-ghost use Rattle.world_core.specs.Prepared.{ActorMayDo, IsActorDone, IsActorStepOf, MayTake, out_of, row_at};
+ghost use Rattle.world_core.specs.Prepared.{ActorMayDo, IsActorDone, IsActorStepOf, MayTake, out_of};
 ghost use Rattle.pair_counters.specs.Numbers.{MOST_COUNT};
 
 use crate::node::NodeState;
 use advance_coord::{Coordinator, CoordinatorPrepared};
 use client_rows::{Client, ClientPrepared};
 use coord_restart::{RestartPrepared, Restarting};
-use letter_types::{Acts, Boxed, Letter, Letters, Step, StepOut, copy_acts, copy_letters};
+use letter_types::{Boxed, Letter, Letters, StepOut};
 use node_keeping::NodePlan;
 use std::alloc::Global;
-use tree_step::{Scratch, new_scratch, take_out, wipe};
+use tree_step::{Scratch, take_out, wipe};
 use tv_base::{ActorNo, NoMemory, NodeNo};
 use tx_trees::Script;
 
@@ -59,7 +57,7 @@ pub enum ActorPlan {
 }
 
 impl ActorPlan {
-    /// The letters that go out.
+    /// The messages that go out.
     pub fn sent<'a>(&'a self, scratch: &'a Scratch) -> &'a Letters
         ensures { result.now ≡ (out_of self.now scratch.now).sent }
     {
@@ -70,21 +68,9 @@ impl ActorPlan {
             ActorPlan::Client(prepared) => &prepared.out().sent,
         }
     }
-
-    /// What is done, act by act.
-    fn acts<'a>(&'a self, scratch: &'a Scratch) -> &'a Acts
-        ensures { result.now ≡ (out_of self.now scratch.now).acts }
-    {
-        match self {
-            ActorPlan::Node(_) => &scratch.acts,
-            ActorPlan::Coordinator(prepared) => &prepared.get().out().acts,
-            ActorPlan::Restarting(prepared) => &prepared.get().out().acts,
-            ActorPlan::Client(prepared) => &prepared.out().acts,
-        }
-    }
 }
 
-/// The coordinator of a script as a run begins: one that may forget where a row of the script makes it.
+/// The coordinator of a script as a run begins: one that may forget if a row of the script makes it.
 fn start_coordination(alloc: Global, script: &Script) -> ActorState
     ensures start { actor_data result ≡ start_coordination script.now }
     ensures script { IsFor script.now result }
@@ -114,9 +100,9 @@ impl ActorState {
     }
 }
 
-/// Plans what an actor does with a letter that is addressed to it: its row of its table. A letter that isn't apt changes
-/// and sends nothing. It changes nothing but the scratch, and takes all memory that the step needs, but for what a node
-/// takes to open a tree at its home, for locks, held answers and noes, and to keep a letter.
+/// Plans what an actor does with a message that is addressed to it: its row of its table. A message that isn't enabled
+/// changes and sends nothing. It changes nothing but the scratch, and takes all memory that the step needs, but for
+/// what a node takes to open a tree at its home, for locks, held answers and negative votes, and to defer a message.
 pub fn actor_plan(
     alloc: Global,
     state: &ActorState,
@@ -166,7 +152,7 @@ fn node_acts(
     Ok(take_out(alloc, scratch))
 }
 
-/// Does a step that was planned for this actor, and gives what goes out; then the scratch is empty. Where a node finds no
+/// Does a step that was planned for this actor, and gives what goes out; then the scratch is empty. If a node finds no
 /// memory, it is as it was; the coordinator and the client need none.
 #[inline(always)]
 pub fn actor_done(
@@ -186,51 +172,24 @@ pub fn actor_done(
         },
         ActorPlan::Coordinator(prepared) => match state {
             ActorState::Coordinator(coordinator) => {
-                wipe(alloc, scratch);
+                wipe(scratch);
                 Ok(coordinator.done(prepared.into_inner()))
             }
             _ => unreachable!(),
         },
         ActorPlan::Restarting(prepared) => match state {
             ActorState::Restarting(restarting) => {
-                wipe(alloc, scratch);
+                wipe(scratch);
                 Ok(restarting.done(prepared.into_inner()))
             }
             _ => unreachable!(),
         },
         ActorPlan::Client(prepared) => match state {
             ActorState::Client(client) => {
-                wipe(alloc, scratch);
+                wipe(scratch);
                 Ok(client.done(prepared))
             }
             _ => unreachable!(),
         },
     }
-}
-
-/// What an actor does with a letter that is addressed to it, planned and done: its row of its table. A letter that isn't
-/// apt changes and sends nothing. What goes out is given, and an equal copy kept. If memory runs out, the actor is as it
-/// was.
-pub fn actor_step(
-    alloc: Global,
-    state: &mut ActorState,
-    letter: &Letter,
-    script: &Script,
-) -> Result<Step, NoMemory>
-    requires addressed { IsAddressed script.now letter.now (actor_data state.old) }
-    requires script { IsFor script.now state.old }
-    requires small { CountsBelow MOST_COUNT (actor_data state.old) }
-    ensures row { IfOk result (λ step. made (actor_data state.new) step.given ≡ row_at script.now letter.now state.old) }
-    ensures kept { IfOk result (λ step. step.kept ≡ step.given) }
-    ensures script { OnOk result (IsFor script.now state.new) }
-    ensures err { OnErr result (state.new ≡ state.old) }
-{
-    let mut scratch = new_scratch(alloc);
-    let plan = actor_plan(alloc, state, letter, script, &mut scratch)?;
-    let kept = StepOut {
-        sent: copy_letters(alloc, plan.sent(&scratch))?,
-        acts: copy_acts(alloc, plan.acts(&scratch))?,
-    };
-    let given = actor_done(alloc, state, plan, &mut scratch)?;
-    Ok(Step { given, kept })
 }

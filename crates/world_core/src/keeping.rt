@@ -1,5 +1,5 @@
-// What a node does with a letter, planned.
-ghost use Rattle.std.specs.Prelude.{◌≡◌, ◌++◌, [], IfOk, None, OnOk, Some};
+// What a node does with a message, planned.
+ghost use Rattle.std.specs.Prelude.{◌≡◌, [], IfOk, None, OnOk};
 ghost use Rattle.letter_types.specs.Steps.{still};
 ghost use Rattle.world_model.specs.Keeping.{AsksFor};
 ghost use Rattle.tree_step.specs.CoreChanges.{MayDoCore};
@@ -10,21 +10,19 @@ ghost use Rattle.node_keeping.specs.Choices.{kept_by_plan};
 ghost use Rattle.node_keeping.specs.Meant.{IsPlanned, keep_meant};
 ghost use Rattle.node_keeping.specs.State.{IsKeepingReady, keeping_of};
 ghost use Rattle.tree_step.specs.Meant.{IsEmpty, core_meant};
-ghost use Rattle.world_model.specs.Epochs.{plain_order};
-ghost use Rattle.world_core.specs.inside.Bringing.{IsBroughtBy, IsDonePlan, IsKeptPlan, IsWakingPlan, keep_as, waking_order};
+ghost use Rattle.world_core.specs.inside.Bringing.{IsBroughtBy, IsDonePlan, IsKeptPlan, IsWakingPlan, keep_as, reason_of_order, woken_reason};
 ghost use Rattle.world_core.specs.Prepared.{IsLetterPlan};
 
 use crate::orders::is_obeyed_now;
-use crate::plan::plan_core;
-use letter_types::{Acts, Body, Boxed, Letter, Letters, What};
+use crate::plan::choose_core;
+use letter_types::{Body, KeepReason, Letter, What};
 use node_keeping::{CoreChoice, KeepPlan, KeepingParts, KeptPlan, NodePlan};
 use std::alloc::Global;
-use std::mem;
-use tree_step::{NodeCore, Plan, Scratch, wipe};
+use tree_step::{NodeCore, Plan, Scratch};
 use tv_base::{NoMemory, Version};
 use tx_trees::Script;
 
-/// A copy of a letter.
+/// A copy of a message.
 fn copy_letter(alloc: Global, letter: &Letter) -> Result<Letter, NoMemory>
     ensures { IfOk result (λ copy. copy ≡ letter.now) }
 {
@@ -37,18 +35,18 @@ fn copy_letter(alloc: Global, letter: &Letter) -> Result<Letter, NoMemory>
     })
 }
 
-/// Leaves nothing but the acts in a scratch.
-fn leave_acts(alloc: Global, scratch: &mut Scratch)
+/// Leaves no messages to be sent in a scratch, and none to be deferred.
+fn leave_acts(scratch: &mut Scratch)
     ensures acts { scratch.new.acts ≡ scratch.old.acts }
     ensures none_sent { scratch.new.sent ≡ [] }
     ensures no_letter { scratch.new.letter ≡ None }
 {
-    let acts = mem::replace(&mut scratch.acts, Acts::new(alloc));
-    wipe(alloc, scratch);
-    scratch.acts = acts;
+    scratch.sent.clear();
+    scratch.letter = None;
 }
 
-/// Puts a copy of a letter that is kept into the scratch, unless it is a Wake: then what it called is kept again.
+/// Puts a copy of a message that is deferred into the scratch, unless it is a Wake: then what it called is deferred
+/// again.
 fn put_kept(
     alloc: Global,
     letter: &Letter,
@@ -70,7 +68,7 @@ fn put_kept(
     }
 }
 
-/// Plans that what a letter brought is kept, with the acts in the scratch.
+/// Plans that what a message brought is deferred, with the acts in the scratch.
 fn plan_keep(
     alloc: Global,
     node: &KeepingParts,
@@ -89,107 +87,72 @@ fn plan_keep(
 {
     let _ = node;
     let _ = brought;
-    leave_acts(alloc, scratch);
+    leave_acts(scratch);
     put_kept(alloc, letter, keep, scratch)?;
     Ok(NodePlan::Keeps(keep))
 }
 
-/// Adds these letters behind the others.
-fn push_all(sent: &mut Letters, more: Letters) -> Result<(), NoMemory>
-    ensures { OnOk result (sent.new ≡ sent.old ++ more) }
-{
-    for letter in more.into_vec() {
-        sent.push(letter)?;
-    }
-    Ok(())
-}
-
-/// A copy of a body, behind a pointer.
-fn copy_body(alloc: Global, body: &Body) -> Result<Boxed<Body>, NoMemory>
-    ensures { IfOk result (λ copy. copy ≡ body.now) }
-{
-    let copy = body.copy(alloc)?;
-    Ok(Boxed::new(alloc, copy)?)
-}
-
-/// Puts Wakes behind the letters in the scratch, and a copy of what wakes.
-fn put_wakes(
-    alloc: Global,
-    body: &Body,
-    wakes: Letters,
-    scratch: &mut Scratch,
-) -> Result<(), NoMemory>
-    ensures { OnOk result
-        (scratch.new ≡ record scratch.old { sent = scratch.old.sent ++ wakes; calls = Some body.now }) }
-{
-    let copy = copy_body(alloc, body)?;
-    push_all(&mut scratch.sent, wakes)?;
-    scratch.calls = Some(copy);
-    Ok(())
-}
-
-/// Plans that a letter is done, and that what it wakes is called: behind its other letters the node sends a Wake for
-/// each.
+/// Plans that a message is done, and that the deferred messages that it wakes, if any, are called: behind its other
+/// messages the node sends a Wake for each.
 #[inline(always)]
 fn plan_waking(
-    alloc: Global,
     node: &KeepingParts,
-    body: &Body,
+    woken: Option<KeepReason>,
     plan: Plan,
     scratch: &mut Scratch,
 ) -> Result<NodePlan, NoMemory>
     requires { MayDoCore (core_meant plan scratch.old) node.now.core }
-    ensures { IfOk result (IsWakingPlan body.now (core_meant plan scratch.old) node.now scratch.new) }
+    ensures { IfOk result (IsWakingPlan woken (core_meant plan scratch.old) node.now scratch.new) }
 {
-    if node.kept.count() == 0 {
+    let Some(why) = woken else {
         return Ok(NodePlan::Does {
             plan,
             kept: KeptPlan::Stay,
         });
-    }
-    let wakes = node.kept.wakes(alloc, body)?;
-    if wakes.items().is_empty() {
-        return Ok(NodePlan::Does {
-            plan,
-            kept: KeptPlan::Stay,
-        });
-    }
-    put_wakes(alloc, body, wakes, scratch)?;
+    };
+    node.kept.push_wakes(why, &mut scratch.sent)?;
     Ok(NodePlan::Does {
         plan,
-        kept: KeptPlan::Call,
+        kept: KeptPlan::Call(why),
     })
 }
 
-/// The order of a coordinator that remembers.
-fn plain_order(what: What, version: Version) -> Body
-    ensures { result ≡ plain_order what version }
+/// What the deferred messages wait for that an order of a coordinator that forgets wakes: a version to be shown, if it
+/// is an order to show one, and takes effect. Any other wakes none.
+fn woken_by_order(core: &NodeCore, epoch: u64, what: What, version: Version) -> Option<KeepReason>
+    ensures { result ≡ reason_of_order epoch what version (core_of core.now) }
 {
     match what {
-        What::Turn => Body::Turn { version },
-        What::Show => Body::Show { version },
-        What::Sweep => Body::Sweep { version },
+        What::Show => {
+            if is_obeyed_now(core, epoch, What::Show, version) {
+                Some(KeepReason::ForShow)
+            } else {
+                None
+            }
+        }
+        _ => None,
     }
 }
 
-/// A letter that wakes just what an order of a coordinator that forgets wakes: the order for which it stands, if it takes
-/// effect; else the order itself, which wakes nothing.
-fn waking_order(core: &NodeCore, epoch: u64, what: What, version: Version) -> Body
-    ensures { result ≡ waking_order epoch what version (core_of core.now) }
+/// What the deferred messages wait for that a message of this body wakes: a version to be shown, or a transaction's
+/// locks to be freed. None if it wakes no message.
+fn woken_by(core: &NodeCore, body: &Body) -> Option<KeepReason>
+    ensures { result ≡ woken_reason (core_of core.now) body.now }
 {
-    if is_obeyed_now(core, epoch, what, version) {
-        return plain_order(what, version);
-    }
-    Body::Order {
-        epoch,
-        what,
-        version,
+    match body {
+        Body::Show { .. } => Some(KeepReason::ForShow),
+        Body::Decide { tree, .. } => Some(KeepReason::ForHolder(*tree)),
+        Body::Order {
+            epoch,
+            what,
+            version,
+        } => woken_by_order(core, *epoch, *what, *version),
+        _ => None,
     }
 }
 
-/// Plans that what a letter brought is done.
+/// Plans that what a message brought is done.
 fn plan_does(
-    alloc: Global,
     node: &KeepingParts,
     letter: &Letter,
     brought: &Letter,
@@ -211,32 +174,30 @@ fn plan_does(
                 sub: *sub,
             },
         }),
-        Body::Order {
-            epoch,
-            what,
-            version,
-        } => {
-            let body = waking_order(&node.core, *epoch, *what, *version);
-            plan_waking(alloc, node, &body, plan, scratch)
+        _ => {
+            let woken = woken_by(&node.core, &letter.body);
+            plan_waking(node, woken, plan, scratch)
         }
-        _ => plan_waking(alloc, node, &letter.body, plan, scratch),
     }
 }
 
 /// A step that changes and sends nothing.
-fn still(alloc: Global, node: &KeepingParts, scratch: &mut Scratch) -> NodePlan
+fn still(node: &KeepingParts, scratch: &mut Scratch) -> NodePlan
     requires { IsSettled node.now }
     ensures { IsPlanned (still (keeping_of node.now)) node.now result scratch.new }
 {
     let _ = node;
-    wipe(alloc, scratch);
+    scratch.sent.clear();
+    scratch.acts.clear();
     NodePlan::Still
 }
 
-/// Plans what a node does with a letter, its row of the node's table (docs/ALGORITHM.md, "Nodes with strict trees"):
-/// nothing where what it brings isn't apt, or where it is a Wake that calls none; else what it brought is kept, or is done.
-/// It changes nothing but the scratch, which gets all that takes memory.
-pub fn plan_letter(
+/// Plans what a node does with a message, its row of the node's table (docs/ALGORITHM.md, "Nodes with strict trees"):
+/// nothing if what it brings isn't enabled, or if it is a Wake that calls none; else what it brought is deferred, or is
+/// done. It changes nothing but the scratch, which gets what the step stages and sends. Memory to open a transaction,
+/// for locks, a held answer, a negative vote or a deferred message is taken at the head of `do_node`: if there is none,
+/// nothing has changed, or what has is taken back.
+pub(crate) fn plan_letter(
     alloc: Global,
     node: &KeepingParts,
     letter: &Letter,
@@ -248,11 +209,11 @@ pub fn plan_letter(
     ensures { IfOk result (λ plan. IsLetterPlan script.now letter.now node.now plan scratch.new) }
 {
     let Some(brought) = node.kept.brought(letter) else {
-        return Ok(still(alloc, node, scratch));
+        return Ok(still(node, scratch));
     };
-    match plan_core(alloc, &node.core, brought, script, scratch)? {
-        CoreChoice::Still => Ok(still(alloc, node, scratch)),
+    match choose_core(alloc, &node.core, brought, script, scratch)? {
+        CoreChoice::Still => Ok(still(node, scratch)),
         CoreChoice::Keeps(keep) => plan_keep(alloc, node, letter, brought, keep, scratch),
-        CoreChoice::Does(plan) => plan_does(alloc, node, letter, brought, plan, scratch),
+        CoreChoice::Does(plan) => plan_does(node, letter, brought, plan, scratch),
     }
 }

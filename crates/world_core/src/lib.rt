@@ -1,5 +1,5 @@
-//! What a node does with any letter, put together of its steps: which letter is brought, what is planned of it, what is
-//! kept and what is woken; the actors' states and steps; and the world that runs a script one letter at a time.
+//! What a node does with any message, put together of its steps: which message is brought, what is planned of it, what
+//! is deferred and what is woken; the actors' states and steps; and the world that runs a script one message at a time.
 #![tactic(auto)]
 
 mod actor;
@@ -7,11 +7,11 @@ mod keeping;
 mod node;
 mod orders;
 mod plan;
+mod public;
 mod trees;
 mod world;
 
-pub use actor::{ActorPlan, ActorState, actor_done, actor_plan, actor_step};
-pub use keeping::plan_letter;
+pub use actor::{ActorPlan, ActorState, actor_done, actor_plan};
 pub use node::NodeState;
-pub use plan::plan_core;
+pub use public::actor_step;
 pub use world::World;

@@ -1,4 +1,4 @@
-// A node's state: its core and the letters that it keeps, and what its type always has of them.
+// A node's state: its core and the messages that it defers, and what its type always has of them.
 ghost use Rattle.std.specs.Prelude.{◌≡◌, ◌<◌, ◌^◌, length, IfOk, OnErr, OnOk, unsigned_abs};
 ghost use Rattle.std.specs.List.{AllByRecursion};
 ghost use Rattle.commute_ops.specs.Ops.{value_start};
@@ -79,8 +79,8 @@ fn items_at(
 
 impl NodeState {
     /// Node `node` as a run of the script begins: the first versions, each of its items in version 0 with its initial
-    /// value, nothing counted, no tree's notices gathered and no answer held, no lock and no letter kept, and no epoch but
-    /// the first heard of.
+    /// value, nothing counted, no tree's notices gathered and no answer held, no lock and no message deferred, and no
+    /// epoch but the first heard of.
     pub fn start(alloc: Global, script: &Script, node: NodeNo) -> Result<NodeState, NoMemory>
         ensures start { IfOk result (λ n. keeping_of n ≡ start_keeping script.now node.0) }
         ensures script { IfOk result (λ n. IsOf script.now n.core.parts) }
@@ -142,14 +142,14 @@ impl NodeState {
         &self.node.core.locks
     }
 
-    /// The letters that the node keeps until it can do them.
+    /// The messages that the node defers until it can do them.
     pub fn kept(&self) -> &KeptLetters
         ensures { result.now ≡ self.now.kept }
     {
         &self.node.kept
     }
 
-    /// Plans what the node does with a letter: its row of the node's table. It changes nothing but the scratch.
+    /// Plans what the node does with a message: its row of the node's table. It changes nothing but the scratch.
     pub(crate) fn plan(
         &self,
         alloc: Global,
@@ -167,8 +167,8 @@ impl NodeState {
         plan_letter(alloc, &self.node, letter, script, scratch)
     }
 
-    /// Does what was planned; what goes out stays in the scratch. It may need memory to open a tree at its home, for locks,
-    /// for held answers and noes, and to keep a letter; where it finds none, the node is as it was.
+    /// Does what was planned; what goes out stays in the scratch. It may need memory to open a tree at its home, for
+    /// locks, for held answers and negative votes, and to defer a message; if it finds none, the node is as it was.
     pub(crate) fn act(
         &mut self,
         alloc: Global,

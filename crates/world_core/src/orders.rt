@@ -1,12 +1,12 @@
-// What a core does with the coordinator's letters, and with letters that have no row of their own.
+// What a core does with the coordinator's messages, and with messages that have no row of their own.
 ghost use Rattle.std.specs.Prelude.{◌≡◌, false, IfOk, None};
 ghost use Rattle.letter_types.specs.declared.bodies.Body.TheVariants.{Ask, AskAsked, AskDone, Numbers, Order};
 ghost use Rattle.world_model.specs.Epochs.{plain_order, is_obeyed_now};
 ghost use Rattle.tree_step.specs.Core.{IsCoreReady, core_of};
 ghost use Rattle.tree_step.specs.Meant.{IsEmpty};
 ghost use Rattle.tree_step.specs.declared.plan.Doing.TheVariants.{Still};
-ghost use Rattle.node_keeping.specs.Apt.{IsOwnPlan, is_own};
-ghost use Rattle.node_keeping.specs.Choices.{choice_meant};
+ghost use Rattle.node_keeping.specs.Apt.{is_own};
+ghost use Rattle.node_keeping.specs.Choices.{IsOwnChoice};
 ghost use Rattle.world_core.specs.inside.Own.{is_of_tree};
 ghost use Rattle.world_core.specs.inside.Stays.{plan_of};
 
@@ -36,8 +36,8 @@ struct RoundVersion {
     round: u64,
 }
 
-/// The plan in which a node's parts do this, locks, noes and held answers stay, and the node hears of this epoch, if of
-/// one.
+/// The plan in which a node's parts do this, locks, negative votes and held answers stay, and the node hears of this
+/// epoch, if of one.
 fn plan_of(doing: Doing, epoch: Option<u64>) -> Plan
     ensures { result ≡ plan_of doing epoch }
 {
@@ -56,12 +56,12 @@ pub(crate) fn still_plan() -> Plan
     plan_of(Doing::Still, None)
 }
 
-/// A letter without a row of its own, which changes and sends nothing.
+/// A message without a row of its own, which changes and sends nothing.
 fn choose_other(core: &NodeCore, letter: &Letter, script: &Script, scratch: &Scratch) -> CoreChoice
     requires ready { IsCoreReady script.now letter.now.to.0 core.now }
     requires other { is_own letter.now.body ≡ false }
     requires empty { IsEmpty scratch.now }
-    ensures { IsOwnPlan script.now letter.now core.now (choice_meant result scratch.now) }
+    ensures { IsOwnChoice script.now letter.now core.now scratch.now result }
 {
     let _ = core;
     let _ = letter;
@@ -82,7 +82,7 @@ fn choose_plain(
     requires ready { IsCoreReady script.now letter.now.to.0 core.now }
     requires body { letter.now.body ≡ plain_order what version }
     requires empty { IsEmpty scratch.old }
-    ensures { IfOk result (λ choice. IsOwnPlan script.now letter.now core.now (choice_meant choice scratch.new)) }
+    ensures { IfOk result (IsOwnChoice script.now letter.now core.now scratch.new) }
 {
     let _ = letter;
     if !can_obey(&core.parts.turns, what, version) {
@@ -105,7 +105,7 @@ fn choose_order(
     requires ready { IsCoreReady script.now letter.now.to.0 core.now }
     requires body { letter.now.body ≡ Order order.epoch order.what order.version }
     requires empty { IsEmpty scratch.old }
-    ensures { IfOk result (λ choice. IsOwnPlan script.now letter.now core.now (choice_meant choice scratch.new)) }
+    ensures { IfOk result (IsOwnChoice script.now letter.now core.now scratch.new) }
 {
     let _ = letter;
     let EpochOrder {
@@ -123,8 +123,8 @@ fn choose_order(
     Ok(CoreChoice::Does(plan_of(doing, Some(epoch))))
 }
 
-/// Whether an order of a coordinator that forgets takes effect: it isn't of an epoch before the node's, and wasn't obeyed
-/// before.
+/// Whether an order of a coordinator that forgets takes effect: it isn't of an epoch before the node's, and wasn't
+/// obeyed before.
 pub(crate) fn is_obeyed_now(core: &NodeCore, epoch: u64, what: What, version: Version) -> bool
     ensures { result ≡ is_obeyed_now epoch what version (core_of core.now) }
 {
@@ -143,7 +143,8 @@ fn numbers(epoch: u64, turns: &Turns) -> Body
     }
 }
 
-/// A coordinator that has forgotten asks for a node's versions: it is told, unless it asks in an epoch before the node's.
+/// A coordinator that has forgotten asks for a node's versions: it is told, unless it asks in an epoch before the
+/// node's.
 fn choose_ask(
     core: &NodeCore,
     letter: &Letter,
@@ -154,7 +155,7 @@ fn choose_ask(
     requires ready { IsCoreReady script.now letter.now.to.0 core.now }
     requires body { letter.now.body ≡ Ask epoch }
     requires empty { IsEmpty scratch.old }
-    ensures { IfOk result (λ choice. IsOwnPlan script.now letter.now core.now (choice_meant choice scratch.new)) }
+    ensures { IfOk result (IsOwnChoice script.now letter.now core.now scratch.new) }
 {
     let _ = letter;
     if epoch >= core.epoch {
@@ -177,7 +178,7 @@ fn choose_done_row(
     requires ready { IsCoreReady script.now letter.now.to.0 core.now }
     requires body { letter.now.body ≡ AskDone asked.version asked.round }
     requires empty { IsEmpty scratch.old }
-    ensures { IfOk result (λ choice. IsOwnPlan script.now letter.now core.now (choice_meant choice scratch.new)) }
+    ensures { IfOk result (IsOwnChoice script.now letter.now core.now scratch.new) }
 {
     let _ = letter;
     let RoundVersion { version, round } = asked;
@@ -197,7 +198,7 @@ fn choose_asked_row(
     requires ready { IsCoreReady script.now letter.now.to.0 core.now }
     requires body { letter.now.body ≡ AskAsked asked.version asked.round }
     requires empty { IsEmpty scratch.old }
-    ensures { IfOk result (λ choice. IsOwnPlan script.now letter.now core.now (choice_meant choice scratch.new)) }
+    ensures { IfOk result (IsOwnChoice script.now letter.now core.now scratch.new) }
 {
     let _ = letter;
     let RoundVersion { version, round } = asked;
@@ -205,7 +206,7 @@ fn choose_asked_row(
     Ok(CoreChoice::Does(plan_of(doing, None)))
 }
 
-/// What a core does with a letter of a coordinator that the script has, or with one that has no row of its own.
+/// What a core does with a message of a coordinator that the script has, or with one that has no row of its own.
 pub(crate) fn choose_advancing(
     alloc: Global,
     core: &NodeCore,
@@ -216,13 +217,13 @@ pub(crate) fn choose_advancing(
     requires ready { IsCoreReady script.now letter.now.to.0 core.now }
     requires other { is_of_tree letter.now.body ≡ false }
     requires empty { IsEmpty scratch.old }
-    ensures { IfOk result (λ choice. IsOwnPlan script.now letter.now core.now (choice_meant choice scratch.new)) }
+    ensures { IfOk result (IsOwnChoice script.now letter.now core.now scratch.new) }
 {
-    match &letter.body {
-        Body::Turn { version } => choose_plain(core, letter, script, What::Turn, *version, scratch),
-        Body::Show { version } => choose_plain(core, letter, script, What::Show, *version, scratch),
+    match letter.body {
+        Body::Turn { version } => choose_plain(core, letter, script, What::Turn, version, scratch),
+        Body::Show { version } => choose_plain(core, letter, script, What::Show, version, scratch),
         Body::Sweep { version } => {
-            choose_plain(core, letter, script, What::Sweep, *version, scratch)
+            choose_plain(core, letter, script, What::Sweep, version, scratch)
         }
         Body::Order {
             epoch,
@@ -230,25 +231,19 @@ pub(crate) fn choose_advancing(
             version,
         } => {
             let order = EpochOrder {
-                epoch: *epoch,
-                what: *what,
-                version: *version,
+                epoch,
+                what,
+                version,
             };
             choose_order(core, letter, script, order, scratch)
         }
-        Body::Ask { epoch } => choose_ask(core, letter, script, *epoch, scratch),
+        Body::Ask { epoch } => choose_ask(core, letter, script, epoch, scratch),
         Body::AskDone { version, round } => {
-            let asked = RoundVersion {
-                version: *version,
-                round: *round,
-            };
+            let asked = RoundVersion { version, round };
             choose_done_row(alloc, core, letter, script, asked, scratch)
         }
         Body::AskAsked { version, round } => {
-            let asked = RoundVersion {
-                version: *version,
-                round: *round,
-            };
+            let asked = RoundVersion { version, round };
             choose_asked_row(alloc, core, letter, script, asked, scratch)
         }
         _ => Ok(choose_other(core, letter, script, scratch)),

@@ -1,4 +1,5 @@
-// Which letter goes to which step of a core.
+// Which step of a core a message goes to. A function `choose_..` asks first whether the message is enabled and whether
+// it has to be deferred, and gives a choice; a function `plan_..` gives the plan of a message of which that is known.
 ghost use Rattle.std.specs.Prelude.{◌≡◌, [], IfOk, IsTrue, Some};
 ghost use Rattle.letter_types.specs.declared.bodies.Body.TheVariants.{Decide, Decided, Done, Release, Wake};
 ghost use Rattle.tx_trees.specs.declared.parts.TreeKind.TheVariants.{Strict, Update};
@@ -9,9 +10,10 @@ ghost use Rattle.tree_step.specs.Core.{IsCoreReady, core_of};
 ghost use Rattle.tree_step.specs.Meant.{IsEmpty};
 ghost use Rattle.tree_step.specs.Node.{data_of};
 ghost use Rattle.node_keeping.specs.Plans.{IsPlanOf};
-ghost use Rattle.node_keeping.specs.Apt.{asks_a_sub, IsOwnPlan, IsReadPlan};
-ghost use Rattle.node_keeping.specs.Choices.{IsChoiceOfKind, IsChoiceOfTree, IsDueChoice, choice_meant};
+ghost use Rattle.node_keeping.specs.Apt.{asks_a_sub, IsReadPlan};
+ghost use Rattle.node_keeping.specs.Choices.{IsChoiceOfKind, IsChoiceOfTree, IsDueChoice, IsOwnChoice, choice_meant};
 ghost use Rattle.tree_step.specs.AtNode.{IsDueAt, IsUnheldAt};
+ghost use Rattle.world_core.specs.inside.Own.{from_node};
 
 use crate::orders::{choose_advancing, still_plan};
 use crate::trees::{plan_read_tree, plan_update_tree};
@@ -19,13 +21,13 @@ use letter_types::{Body, Letter, Notice};
 use nc_commit::Decision;
 use nc_locks::Met;
 use node_keeping::{
-    CoreChoice, acked_apt, decide_apt, decides_near, is_free, meets, parked, release_apt,
-    root_waiting, suits_coordinator, waits_for_show, wake_apt,
+    CoreChoice, acked_apt, decide_apt, decides_near, is_free, meets, plan_parked, plan_waiting,
+    release_apt, suits_coordinator, waits_for_show, wake_apt,
 };
 use std::alloc::Global;
 use strict_step::{Acknowledgement, plan_acked, plan_decide, plan_note, plan_release, plan_vote};
 use tree_step::{NodeCore, Request, Scratch, is_due, kind_of};
-use tv_base::{NoMemory, NodeNo, SubNo, TreeNo};
+use tv_base::{NoMemory, NodeNo, SubNo, TreeNo, Version};
 use tx_trees::{Script, TreeKind};
 use update_step::can_update;
 
@@ -34,6 +36,48 @@ use update_step::can_update;
 struct NoticeHere<'a> {
     request: Request,
     notice: &'a Notice,
+}
+
+/// The notice that a message brings of a subtransaction of this version.
+fn notice_here<'a>(
+    letter: &Letter,
+    tree: TreeNo,
+    sub: SubNo,
+    version: Version,
+    notice: &'a Notice,
+) -> NoticeHere<'a>
+    ensures request { result.request ≡ record { tree = tree; sub = sub; version = version; from = from_node letter.now } }
+    ensures notice { result.notice.now ≡ notice.now }
+{
+    let request = Request {
+        tree,
+        sub,
+        version,
+        from: NodeNo(letter.from.0),
+    };
+    NoticeHere { request, notice }
+}
+
+/// A decision on a strict transaction of this version.
+fn decision_on(tree: TreeNo, version: Version, commit: bool) -> Decision
+    ensures { result ≡ record { tree = tree; version = version; commit = commit } }
+{
+    Decision {
+        tree,
+        version,
+        commit,
+    }
+}
+
+/// The acknowledgement that a message is, of a decision on a strict transaction of this version.
+fn acknowledged(letter: &Letter, tree: TreeNo, version: Version) -> Acknowledgement
+    ensures { result ≡ record { tree = tree; version = version; from = from_node letter.now } }
+{
+    Acknowledgement {
+        tree,
+        version,
+        from: NodeNo(letter.from.0),
+    }
 }
 
 /// A subtransaction of an update tree that meets a lock, and whose operations may be made: it is parked.
@@ -56,12 +100,11 @@ fn choose_parked(
     ensures { IfOk result (IsChoiceOfKind script.now letter.now tree (Some Update) core.now scratch.new) }
 {
     let _ = script;
-    let keep = parked(&core.parts.turns, letter, tree, met, &mut scratch.acts)?;
+    let keep = plan_parked(&core.parts.turns, letter, tree, met, &mut scratch.acts)?;
     Ok(CoreChoice::Keeps(keep))
 }
 
-/// A subtransaction of an update tree: where its operations may be made it is parked, if it meets a lock, and else it
-/// is done.
+/// A subtransaction of an update tree: if its operations may be made, it is parked if it meets a lock, and else done.
 fn choose_update(
     alloc: Global,
     core: &NodeCore,
@@ -91,7 +134,7 @@ fn choose_update(
     Ok(CoreChoice::Does(plan))
 }
 
-/// A subtransaction of a read tree, which is never kept.
+/// A subtransaction of a read tree, which is never deferred.
 fn choose_read(
     alloc: Global,
     core: &NodeCore,
@@ -131,7 +174,7 @@ fn choose_strict(
     ensures { IfOk result (IsChoiceOfKind script.now letter.now tree (Some Strict) core.now scratch.new) }
 {
     if waits_for_show(core, letter) {
-        let keep = root_waiting(&core.parts.turns, tree, &mut scratch.acts)?;
+        let keep = plan_waiting(&core.parts.turns, tree, &mut scratch.acts)?;
         return Ok(CoreChoice::Keeps(keep));
     }
     let plan = plan_vote(alloc, core, letter, script, tree, scratch)?;
@@ -167,7 +210,7 @@ fn choose_kind(
     }
 }
 
-/// A letter that asks for a subtransaction of a tree.
+/// A message that asks for a subtransaction of a tree.
 #[inline(always)]
 fn choose_tree(
     alloc: Global,
@@ -205,7 +248,7 @@ fn choose_note(
     requires from { noted.request.from.0 ≡ letter.now.from.0 }
     requires empty { IsEmpty scratch.old }
     // What is planned.
-    ensures { IfOk result (λ choice. IsOwnPlan script.now letter.now core.now (choice_meant choice scratch.new)) }
+    ensures { IfOk result (IsOwnChoice script.now letter.now core.now scratch.new) }
 {
     let NoticeHere { request, notice } = noted;
     if !is_due(&core.parts, letter, script) {
@@ -232,7 +275,7 @@ fn choose_decide(
     requires body { letter.now.body ≡ Decide decision.tree decision.version decision.commit }
     requires empty { IsEmpty scratch.old }
     // What is planned.
-    ensures { IfOk result (λ choice. IsOwnPlan script.now letter.now core.now (choice_meant choice scratch.new)) }
+    ensures { IfOk result (IsOwnChoice script.now letter.now core.now scratch.new) }
 {
     if !decide_apt(core, letter, script, decision) {
         return Ok(CoreChoice::Still);
@@ -256,7 +299,7 @@ fn choose_acked(
     requires from { acked.from.0 ≡ letter.now.from.0 }
     requires empty { IsEmpty scratch.old }
     // What is planned.
-    ensures { IfOk result (λ choice. IsOwnPlan script.now letter.now core.now (choice_meant choice scratch.new)) }
+    ensures { IfOk result (IsOwnChoice script.now letter.now core.now scratch.new) }
 {
     if !acked_apt(core, letter, script, acked.tree, acked.version) {
         return Ok(CoreChoice::Still);
@@ -278,7 +321,7 @@ fn choose_release(
     requires body { letter.now.body ≡ Release tree }
     requires empty { IsEmpty scratch.old }
     // What is planned.
-    ensures { IfOk result (λ choice. IsOwnPlan script.now letter.now core.now (choice_meant choice scratch.new)) }
+    ensures { IfOk result (IsOwnChoice script.now letter.now core.now scratch.new) }
 {
     if !release_apt(script, letter.to, tree) {
         return Ok(CoreChoice::Still);
@@ -301,7 +344,7 @@ fn choose_wake(
     requires body { letter.now.body ≡ Wake tree sub }
     requires empty { IsEmpty scratch.now }
     // What is planned.
-    ensures { IsOwnPlan script.now letter.now core.now (choice_meant result scratch.now) }
+    ensures { IsOwnChoice script.now letter.now core.now scratch.now result }
 {
     let _ = core;
     let _ = scratch;
@@ -311,7 +354,7 @@ fn choose_wake(
     CoreChoice::Does(still_plan())
 }
 
-/// What a core does with a letter that the script's kind of coordinator allows.
+/// What a core does with a message that the script's kind of coordinator allows.
 #[inline(always)]
 fn choose_own(
     alloc: Global,
@@ -322,7 +365,7 @@ fn choose_own(
 ) -> Result<CoreChoice, NoMemory>
     requires ready { IsCoreReady script.now letter.now.to.0 core.now }
     requires empty { IsEmpty scratch.old }
-    ensures { IfOk result (λ choice. IsOwnPlan script.now letter.now core.now (choice_meant choice scratch.new)) }
+    ensures { IfOk result (IsOwnChoice script.now letter.now core.now scratch.new) }
 {
     match &letter.body {
         Body::Root { tree } => choose_tree(alloc, core, letter, script, *tree, scratch),
@@ -333,13 +376,7 @@ fn choose_own(
             version,
             notice,
         } => {
-            let request = Request {
-                tree: *tree,
-                sub: *sub,
-                version: *version,
-                from: NodeNo(letter.from.0),
-            };
-            let noted = NoticeHere { request, notice };
+            let noted = notice_here(letter, *tree, *sub, *version, notice);
             choose_note(alloc, core, letter, script, noted, scratch)
         }
         Body::Decide {
@@ -347,19 +384,11 @@ fn choose_own(
             version,
             commit,
         } => {
-            let decision = Decision {
-                tree: *tree,
-                version: *version,
-                commit: *commit,
-            };
+            let decision = decision_on(*tree, *version, *commit);
             choose_decide(alloc, core, letter, script, decision, scratch)
         }
         Body::Decided { tree, version } => {
-            let acked = Acknowledgement {
-                tree: *tree,
-                version: *version,
-                from: NodeNo(letter.from.0),
-            };
+            let acked = acknowledged(letter, *tree, *version);
             choose_acked(alloc, core, letter, script, acked, scratch)
         }
         Body::Release { tree } => choose_release(core, letter, script, *tree, scratch),
@@ -368,9 +397,9 @@ fn choose_own(
     }
 }
 
-/// Plans what a core does with a letter: nothing where it isn't apt; else it keeps the letter where it has to, and does
-/// its row where not (docs/ALGORITHM.md, "Nodes with strict trees"). It changes nothing but the scratch.
-pub fn plan_core(
+/// Plans what a core does with a message: nothing if it isn't enabled; else it defers the message if it has to, and
+/// does its row if not (docs/ALGORITHM.md, "Nodes with strict trees"). It changes nothing but the scratch.
+pub(crate) fn choose_core(
     alloc: Global,
     core: &NodeCore,
     letter: &Letter,

@@ -19,7 +19,7 @@ use tv_base::{NoMemory, TreeNo};
 use tx_trees::{Script, SubOp};
 use update_step::plan_update;
 
-/// Plans a subtransaction of a read tree. None exactly where its operations may not be made.
+/// Plans a subtransaction of a read tree. None exactly if its operations may not be made.
 pub(crate) fn plan_read_tree(
     alloc: Global,
     core: &NodeCore,
@@ -43,7 +43,7 @@ pub(crate) fn plan_read_tree(
     Ok(Some(plan))
 }
 
-/// Adds the marks that operations of an update tree take: none where there is no strict tree.
+/// Adds the marks that operations of an update tree take: none if there is no strict tree.
 fn push_marks(wanted: &mut WantedLocks, script: &Script, ops: &[SubOp]) -> Result<(), NoMemory>
     requires { wanted.old ≡ [] }
     ensures { OnOk result (wanted.new ≡ marks_of script.now ops.now) }
@@ -57,7 +57,7 @@ fn push_marks(wanted: &mut WantedLocks, script: &Script, ops: &[SubOp]) -> Resul
     Ok(())
 }
 
-/// Plans a subtransaction of an update tree: where there are strict trees it marks its items. None exactly where its
+/// Plans a subtransaction of an update tree: if there are strict trees it marks its items. None exactly if its
 /// operations may not be made.
 pub(crate) fn plan_update_tree(
     alloc: Global,

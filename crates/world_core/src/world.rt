@@ -1,14 +1,13 @@
-// A world: all actors, the letters in flight, and the history so far.
-ghost use Rattle.std.specs.Prelude.{◌≡◌, ◌<◌, ◌≤◌, ◌+◌, ◌-◌, ◌^◌, ◌++◌, [], length, slice_get, slice_set, take, IfOk, IfSome, MatchResult, OnOk, OnErr, Some};
+// A world: all actors, the messages in flight, and the history so far.
+ghost use Rattle.std.specs.Prelude.{◌≡◌, ◌<◌, ◌≤◌, ◌+◌, ◌++◌, [], length, slice_get, take, IfOk, IfSome, OnOk, OnErr, Some};
 ghost use Rattle.std.specs.List.{remove};
 ghost use Rattle.letter_types.specs.Letters.{sealed};
 ghost use Rattle.tv_base.specs.declared.numbers.TheConstants.{MOST_ENTRIES};
 ghost use Rattle.tx_trees.specs.ScriptData.{ScriptData};
-ghost use Rattle.world_model.specs.Runs.{actor_after};
-ghost use Rattle.world_core.specs.Actors.{AreStatesOf, actor_data, IsWorldOf, TookLetter};
+ghost use Rattle.world_core.specs.Actors.{AreStatesOf, IsLedTo, IsWorldOf, TookLetter};
 ghost use Rattle.tree_step.specs.Meant.{IsEmpty};
 ghost use Rattle.world_core.specs.Prepared.{ActorMayDo, MayTake, out_of};
-ghost use Rattle.world_core.specs.inside.Actors.{Acted, entry_made, IsPlanFor, world_of};
+ghost use Rattle.world_core.specs.inside.Actors.{Acted, IsPlanFor, letters_made, with_last_entry, world_in};
 ghost use Rattle.pair_counters.specs.Numbers.{MOST_COUNT};
 
 use crate::actor::{ActorPlan, ActorState, actor_done, actor_plan};
@@ -21,13 +20,19 @@ use tree_step::{Scratch, new_scratch, wipe};
 use tv_base::{ActorNo, NoMemory, Stamp};
 use tx_trees::Script;
 
-/// All actors of a script, the letters in flight in order of their ids, and the history so far.
+/// What an event of a world changes: the actors, the messages in flight, and the history.
 #[derive(Drop)]
-pub struct World {
-    alloc: Global,
+struct Flow {
     actors: Vec<ActorState>,
     bag: OrderedBag<Letter>,
     history: History,
+}
+
+/// All actors of a script, the messages in flight in order of their ids, and the history so far.
+#[derive(Drop)]
+pub struct World {
+    alloc: Global,
+    flow: Flow,
     // used again by each step, and empty between steps
     scratch: Scratch,
 }
@@ -35,10 +40,11 @@ pub struct World {
 impl Model for World {
     ghost use Rattle.tree_step.specs.Meant.{IsEmpty};
     ghost use Rattle.world_core.specs.Actors.{WorldData};
+    ghost use Rattle.world_core.specs.inside.Actors.{world_in};
 
     ghost Value = { WorldData };
 
-    ghost view = { λ w. record { actors = w.actors.items; bag = w.bag.items; history = w.history } };
+    ghost view = { λ w. world_in w.flow };
 
     ghost invariant = { λ w. IsEmpty w.scratch };
 }
@@ -67,7 +73,7 @@ fn first_actors(alloc: Global, script: &Script) -> Result<Vec<ActorState>, NoMem
     Ok(actors)
 }
 
-/// Takes the last letters out of the bag, so that so many are left.
+/// Takes the last messages out of the bag, so that this many are left.
 fn take_back(bag: &mut OrderedBag<Letter>, left: usize)
     ensures { bag.new.items ≡ take left bag.old.items }
 {
@@ -77,7 +83,7 @@ fn take_back(bag: &mut OrderedBag<Letter>, left: usize)
     }
 }
 
-/// Equal letters go to the end of the bag, each with its id. Where no memory is found the bag has what it had.
+/// Equal messages go to the end of the bag, each with its id. If memory runs out, the bag has what it had.
 fn send(
     alloc: Global,
     bag: &mut OrderedBag<Letter>,
@@ -118,7 +124,7 @@ fn state_at(actors: &Vec<ActorState>, actor: ActorNo) -> &ActorState
     &actors[actor.0 as usize]
 }
 
-/// Plans what the addressee of a letter does with it.
+/// Plans what the addressee of a message does with it.
 fn plan(
     alloc: Global,
     script: &Script,
@@ -146,22 +152,21 @@ fn act(
 ) -> Result<StepOut, NoMemory>
     requires here { actor.0 < length actors.old.items }
     requires may { IfSome (slice_get actors.old.items actor.0) (ActorMayDo plan scratch.old) }
-    ensures acted { MatchResult result (Acted actor.0 plan scratch.old actors.old.items actors.new.items)
-        (λ _. actors.new.items ≡ actors.old.items) }
+    ensures acted { IfOk result (Acted actor.0 plan scratch.old actors.old.items actors.new.items) }
     ensures empty { OnOk result (IsEmpty scratch.new) }
+    ensures err { OnErr result (actors.new.items ≡ actors.old.items) }
 {
     let place = actor.0 as usize;
     let state = &mut actors[place];
     actor_done(alloc, state, plan, scratch)
 }
 
-/// Takes letter `k` out of the bag, and puts the entry in the last place of the history.
+/// Takes message `k` out of the bag, and puts the entry in the last place of the history.
 fn finish(bag: &mut OrderedBag<Letter>, history: &mut History, stamp: Stamp, k: usize, out: StepOut)
     requires waits { k < length bag.old.items }
     requires place { 0 < length history.old }
     ensures bag { bag.new.items ≡ remove bag.old.items k }
-    ensures history { IfSome (slice_get bag.old.items k) (λ l. history.new
-        ≡ slice_set history.old (length history.old - 1) (entry_made l out stamp)) }
+    ensures history { IfSome (slice_get bag.old.items k) (λ l. history.new ≡ with_last_entry history.old l out stamp) }
 {
     let StepOut { sent, acts } = out;
     let took = bag.take(k);
@@ -180,38 +185,36 @@ fn finish(bag: &mut OrderedBag<Letter>, history: &mut History, stamp: Stamp, k: 
     mem::forget(placeholder);
 }
 
-/// Sends an equal copy of what goes out, and lets the actor do its step. Where no memory is found both are as they were.
+/// Sends an equal copy of what goes out, and lets the actor do its step. If memory runs out, both are as they were.
 fn pass(
     alloc: Global,
-    actors: &mut Vec<ActorState>,
-    bag: &mut OrderedBag<Letter>,
+    flow: &mut Flow,
     stamp: Stamp,
     actor: ActorNo,
     plan: ActorPlan,
     scratch: &mut Scratch,
 ) -> Result<StepOut, NoMemory>
-    requires here { actor.0 < length actors.old.items }
-    requires may { IfSome (slice_get actors.old.items actor.0) (ActorMayDo plan scratch.old) }
-    requires room { length (out_of plan scratch.old).sent ≤ bag.old.room }
-    ensures acted { MatchResult result (Acted actor.0 plan scratch.old actors.old.items actors.new.items)
-        (λ _. actors.new.items ≡ actors.old.items) }
-    ensures sent { OnOk result (bag.new.items
-        ≡ bag.old.items ++ sealed stamp.0 actor.0 0 (out_of plan scratch.old).sent) }
+    requires here { actor.0 < length flow.old.actors.items }
+    requires may { IfSome (slice_get flow.old.actors.items actor.0) (ActorMayDo plan scratch.old) }
+    requires room { length (out_of plan scratch.old).sent ≤ flow.old.bag.room }
+    ensures acted { IfOk result (Acted actor.0 plan scratch.old flow.old.actors.items flow.new.actors.items) }
+    ensures sent { OnOk result (flow.new.bag.items ≡ flow.old.bag.items ++ letters_made stamp actor plan scratch.old) }
+    ensures history { flow.new.history ≡ flow.old.history }
     ensures empty { OnOk result (IsEmpty scratch.new) }
-    ensures same_bag { OnErr result (bag.new.items ≡ bag.old.items) }
+    ensures err { OnErr result (world_in flow.new ≡ world_in flow.old) }
 {
-    let before = bag.len();
-    send(alloc, bag, stamp, actor, plan.sent(scratch))?;
-    match act(alloc, actors, actor, plan, scratch) {
+    let before = flow.bag.len();
+    send(alloc, &mut flow.bag, stamp, actor, plan.sent(scratch))?;
+    match act(alloc, &mut flow.actors, actor, plan, scratch) {
         Ok(out) => Ok(out),
         Err(refused) => {
-            take_back(bag, before);
+            take_back(&mut flow.bag, before);
             Err(refused)
         }
     }
 }
 
-/// Makes room for the letters of one step, if it sends any.
+/// Makes room for the messages of one step, if it sends any.
 fn make_room(bag: &mut OrderedBag<Letter>, room: usize) -> Result<(), NoMemory>
     ensures items { bag.new.items ≡ bag.old.items }
     ensures ok { OnOk result (room ≤ bag.new.room) }
@@ -223,45 +226,39 @@ fn make_room(bag: &mut OrderedBag<Letter>, room: usize) -> Result<(), NoMemory>
     Ok(())
 }
 
-/// One event over the parts of a world.
+/// One event of a world. If memory runs out, what it changes is as it was.
 fn advance(
     alloc: Global,
     script: &Script,
-    actors: &mut Vec<ActorState>,
-    bag: &mut OrderedBag<Letter>,
-    history: &mut History,
+    flow: &mut Flow,
     scratch: &mut Scratch,
     k: usize,
 ) -> Result<Stamp, NoMemory>
     // What the caller knows.
-    requires waits { k < length bag.old.items }
-    requires world { IsWorldOf script.now (world_of actors.old.items bag.old.items history.old) }
+    requires waits { k < length flow.old.bag.items }
+    requires world { IsWorldOf script.now (world_in flow.old) }
     requires empty { IsEmpty scratch.old }
     // What came.
-    ensures world { OnOk result (IsWorldOf script.now (world_of actors.new.items bag.new.items history.new)) }
-    ensures took { OnOk result (TookLetter k (world_of actors.old.items bag.old.items history.old)
-        (world_of actors.new.items bag.new.items history.new)) }
-    ensures stamp { IfOk result (λ stamp. stamp.0 ≡ length history.new) }
+    ensures world { OnOk result (IsWorldOf script.now (world_in flow.new)) }
+    ensures took { OnOk result (TookLetter k (world_in flow.old) (world_in flow.new)) }
+    ensures stamp { IfOk result (λ stamp. stamp.0 ≡ length flow.new.history) }
     ensures empty { OnOk result (IsEmpty scratch.new) }
-    // What running out of memory leaves.
-    ensures same_actors { OnErr result (actors.new.items ≡ actors.old.items) }
-    ensures same_bag { OnErr result (bag.new.items ≡ bag.old.items) }
-    ensures same_history { OnErr result (history.new ≡ history.old) }
+    ensures err { OnErr result (world_in flow.new ≡ world_in flow.old) }
 {
     let _valid = script.nodes();
-    let stamp = Stamp(history.items().len() as u64 + 1);
-    let letter = bag.at(k);
+    let stamp = Stamp(flow.history.items().len() as u64 + 1);
+    let letter = flow.bag.at(k);
     let actor = letter.to;
-    let plan = plan(alloc, script, actors, letter, scratch)?;
-    make_room(bag, plan.sent(scratch).items().len())?;
-    history.push(placeholder(alloc, stamp))?;
-    match pass(alloc, actors, bag, stamp, actor, plan, scratch) {
+    let plan = plan(alloc, script, &flow.actors, letter, scratch)?;
+    make_room(&mut flow.bag, plan.sent(scratch).items().len())?;
+    flow.history.push(placeholder(alloc, stamp))?;
+    match pass(alloc, flow, stamp, actor, plan, scratch) {
         Ok(out) => {
-            finish(bag, history, stamp, k, out);
+            finish(&mut flow.bag, &mut flow.history, stamp, k, out);
             Ok(stamp)
         }
         Err(refused) => {
-            let _placeholder = history.pop();
+            let _placeholder = flow.history.pop();
             Err(refused)
         }
     }
@@ -277,41 +274,43 @@ impl World {
         let mut bag = OrderedBag::new(alloc);
         bag.put(go(client))?;
         let actors = first_actors(alloc, script)?;
-        Ok(World {
-            alloc,
+        let flow = Flow {
             actors,
             bag,
             history: History::new(alloc),
+        };
+        Ok(World {
+            alloc,
+            flow,
             scratch: new_scratch(alloc),
         })
     }
 
-    /// How many letters are in flight.
+    /// How many messages are in flight.
     pub fn waiting(&self) -> usize
         ensures { result ≡ length self.now.bag }
     {
-        self.bag.len()
+        self.flow.bag.len()
     }
 
-    /// Letter `k` of those in flight, in order of their ids.
+    /// Message `k` of those in flight, in order of their ids.
     pub fn letter(&self, k: usize) -> &Letter
         requires { k < length self.now.bag }
         ensures { slice_get self.now.bag k ≡ Some result.now }
     {
-        self.bag.at(k)
+        self.flow.bag.at(k)
     }
 
     /// The state of an actor. In a world of a script it is the one to which this actor's own entries lead.
     pub fn actor(&self, actor: ActorNo) -> &ActorState
         requires { actor.0 < length self.now.actors }
         ensures here { slice_get self.now.actors actor.0 ≡ Some result.now }
-        ensures leads { (s : ScriptData) → IsWorldOf s self.now
-            → actor_data result.now ≡ actor_after s self.now.history actor.0 }
+        ensures leads { (s : ScriptData) → IsWorldOf s self.now → IsLedTo s self.now actor.0 result.now }
     {
-        state_at(&self.actors, actor)
+        state_at(&self.flow.actors, actor)
     }
 
-    /// One event: letter `k` of those in flight is taken by its addressee, whose step is appended to the history, and
+    /// One event: message `k` of those in flight is taken by its addressee, whose step is appended to the history, and
     /// what it sends goes to the end. Gives the stamp of the new entry. If memory runs out, the world is as it was.
     /// Either way it stays a world of its script, whose history goes step by step by the tables: every law of runs is
     /// of it too.
@@ -325,17 +324,9 @@ impl World {
         ensures stamp { IfOk result (λ stamp. stamp.0 ≡ length self.new.history) }
         ensures err { OnErr result (self.new ≡ self.old) }
     {
-        let result = advance(
-            self.alloc,
-            script,
-            &mut self.actors,
-            &mut self.bag,
-            &mut self.history,
-            &mut self.scratch,
-            k,
-        );
+        let result = advance(self.alloc, script, &mut self.flow, &mut self.scratch, k);
         if result.is_err() {
-            wipe(self.alloc, &mut self.scratch);
+            wipe(&mut self.scratch);
         }
         result
     }
@@ -345,14 +336,14 @@ impl World {
         ensures history { result.now ≡ self.now.history }
         ensures few { length self.now.history ≤ MOST_ENTRIES }
     {
-        let _count = self.history.items();
-        &self.history
+        let _count = self.flow.history.items();
+        &self.flow.history
     }
 
     /// The history, by value.
     pub fn into_history(self) -> History
         ensures { result ≡ self.history }
     {
-        self.history
+        self.flow.history
     }
 }

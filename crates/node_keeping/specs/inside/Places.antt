@@ -1,12 +1,10 @@
--- Places: a key by which a kept letter is found, with the number of its arrival.
+-- Places: a key by which a deferred message is found, with the number of its arrival.
 use Rattle.std.specs.Prelude.{◌≡◌, ◌<◌, ℕ, Bool, true, false, not, ◌&&◌, ◌||◌, List, Option, Some, None}
 use Rattle.std.specs.List.{list_any}
 use Rattle.std.specs.declared.cmp.Ordering.{Ordering}
 use Rattle.std.specs.Ordering.{nat_cmp, is_eq}
 use Rattle.tv_base.specs.declared.numbers.SubNo.{SubNo}
 use Rattle.tv_base.specs.declared.numbers.TreeNo.{TreeNo}
-use Rattle.letter_types.specs.declared.bodies.Body.{Body}
-use Rattle.letter_types.specs.declared.bodies.Body.TheVariants as body
 use Rattle.letter_types.specs.declared.kept.KeepReason.{KeepReason}
 use Rattle.letter_types.specs.declared.kept.KeepReason.TheVariants.{ForShow, ForHolder, Called}
 use Rattle.node_keeping.specs.declared.places.Key.{Key}
@@ -30,13 +28,13 @@ place_by q a = record { key = q; arrival = a }
 abbrev pub has_place : KeptPlace → List KeptPlace → Bool
 has_place p ps = list_any (λ a. is_eq (place_order p a)) ps
 
--- the key of what a kept letter waits for, but for its Wake
+-- the key of what a deferred message waits for, but for its Wake
 abbrev pub key_of_why : KeepReason → Option Key
 key_of_why ForShow = Some Show
 key_of_why (ForHolder h) = Some (Holder h)
 key_of_why Called = None
 
--- a letter kept for this reason is found by this key
+-- a message deferred for this reason is found by this key
 abbrev pub is_this : Option Key → Key → Bool
 is_this None q = false
 is_this (Some k) q = is_eq (key_order k q)
@@ -44,20 +42,14 @@ is_this (Some k) q = is_eq (key_order k q)
 abbrev pub is_why : Key → KeepReason → Bool
 is_why q why = is_this (key_of_why why) q
 
--- the key is one of what letters wait for
+-- the key is one of what messages wait for
 abbrev pub is_reason : Key → Bool
 is_reason (Sub t k) = false
 is_reason _ = true
 
--- a letter is found by its subtransaction and by what it waits for
+-- a message is found by its subtransaction and by what it waits for
 abbrev pub finds : TreeNo → SubNo → KeepReason → Key → Bool
 finds t k why q = is_eq (key_order (Sub t k) q) || is_why q why
-
--- the key of what a letter of this body wakes
-abbrev pub woken_key : Body → Option Key
-woken_key (body.Show v) = Some Show
-woken_key (body.Decide t v commit) = Some (Holder t)
-woken_key _ = None
 
 -- nothing came then
 abbrev pub IsFree : ℕ → List KeptPlace → Type 0
@@ -67,7 +59,7 @@ IsFree a ps = (q : Key) → has_place (place_by q a) ps ≡ false
 abbrev pub HasNone : Key → ℕ → List KeptPlace → Type 0
 HasNone q next ps = (a : ℕ) → a < next → has_place (place_by q a) ps ≡ false
 
--- the place is one of the letter that came then
+-- the place is one of the message that came then
 abbrev pub is_place_of : ℕ → TreeNo → SubNo → KeepReason → KeptPlace → Bool
 is_place_of a t k why p = finds t k why p.key && is_eq (nat_cmp a p.arrival)
 

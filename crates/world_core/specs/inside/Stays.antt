@@ -1,5 +1,5 @@
--- A step in which a core stays as it is but for its node and the epoch of which it has heard. Private code alone cites these
--- definitions.
+-- A step in which a core stays as it is but for its node and the epoch of which it has heard. Private code alone cites
+-- these definitions.
 use Rattle.std.specs.Prelude.{ℕ, [], Option, None}
 use Rattle.letter_types.specs.Steps.{Out}
 use Rattle.tree_step.specs.steps.Change.{Still}
@@ -15,7 +15,8 @@ use Rattle.tree_step.specs.declared.plan.HoldPlan.TheVariants as hold_plans
 use Rattle.tree_step.specs.declared.plan.Plan.{Plan}
 use Rattle.tree_step.specs.declared.plan.VotePlan.TheVariants as vote_plans
 
--- a step of a node's parts, in which locks, noes and held answers stay, and the node hears of this epoch, if of one
+-- a step of a node's parts, in which locks, negative votes and held answers stay, and the node hears of this epoch, if
+-- of one
 abbrev pub of_parts : PartsStep → Option ℕ → CoreStep
 of_parts p epoch = record (core_step_of p votes.Stay holds.Stay) { epoch = epoch }
 

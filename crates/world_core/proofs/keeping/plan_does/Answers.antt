@@ -1,6 +1,6 @@
-use Rattle.std.proofs.Common.{ap, subst, ◌∙◌}
+use Rattle.std.proofs.Common.{Option, ap, subst, ◌∙◌}
 use Rattle.std.specs.Prelude.{IfOk}
-use Rattle.letter_types.specs.declared.bodies.Body.{Body}
+use Rattle.letter_types.specs.declared.kept.KeepReason.{KeepReason}
 use Rattle.letter_types.specs.Steps.{Out}
 use Rattle.world_model.specs.Keeping.{KeepingNode}
 use Rattle.tree_step.specs.CoreChanges.{core_step_row}
@@ -9,8 +9,8 @@ use Rattle.tree_step.specs.Meant.{core_meant}
 use Rattle.node_keeping.specs.Meant.{IsPlanned}
 use Rattle.node_keeping.specs.State.{keeping_of}
 use Rattle.node_keeping.specs.declared.node_plan.NodePlan.{NodePlan}
-use Rattle.world_core.specs.inside.Bringing.{waking_out}
-use Rattle.world_core.proofs.Woken.{itself_done, not_order, not_wake, order_done, wake_done}
+use Rattle.world_core.specs.inside.Bringing.{waking_out, woken_for}
+use Rattle.world_core.proofs.Woken.{not_wake, wake_done, waking_done}
 use Rattle.world_core.proofs.keeping.plan_does.Goals as goal
 
 pub returns-in-Wake : goal.returns-in-Wake
@@ -24,24 +24,14 @@ returns-in-Wake c =
       may = c.requires.may;
     }
 
-pub returns-in-Order : goal.returns-in-Order
-returns-in-Order c =
-    let n = c.args.node.now in
-    let o = core_step_row (core_meant c.args.plan c.args.scratch.now) (core_of n.core) in
-    subst (λ (out : Out KeepingNode). IfOk c.plan_waking.result
-    (λ (p : NodePlan). IsPlanned out n p c.plan_waking.new.scratch))
-    (ap (λ (b : Body). waking_out b (keeping_of n) o) c.waking_order-body.ensures
-    ∙ order_done c.in-Order.epoch c.in-Order.what c.in-Order.version c.args.letter.now c.args.brought.now (keeping_of n)
-    o c.in-Order.is c.requires.brought.brings)
-    c.plan_waking.ensures
-
 pub returns-in_default : goal.returns-in_default
 returns-in_default c =
     let n = c.args.node.now in
     let l = c.args.letter.now in
     let o = core_step_row (core_meant c.args.plan c.args.scratch.now) (core_of n.core) in
-    subst (λ (out : Out KeepingNode). IfOk c.plan_waking-in_default.result
-    (λ (p : NodePlan). IsPlanned out n p c.plan_waking-in_default.new.scratch))
-    (itself_done l c.args.brought.now (keeping_of n) o (not_wake l.body c.in_default.not-Wake)
-    (not_order l.body c.in_default.not-Order) c.requires.brought.brings)
-    c.plan_waking-in_default.ensures
+    subst (λ (out : Out KeepingNode). IfOk c.plan_waking.result
+    (λ (p : NodePlan). IsPlanned out n p c.plan_waking.new.scratch))
+    (ap (λ (r : Option KeepReason). waking_out (woken_for r) (keeping_of n) o) c.woken_by-woken.ensures
+    ∙ waking_done l c.args.brought.now (keeping_of n) o (not_wake l.body c.in_default.not-Wake)
+    c.requires.brought.brings)
+    c.plan_waking.ensures

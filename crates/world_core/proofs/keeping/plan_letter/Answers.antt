@@ -14,8 +14,8 @@ use Rattle.world_core.proofs.Brought.{brought_to}
 use Rattle.world_core.proofs.Rows.{does_row, keeps_row, kept_asks}
 use Rattle.world_core.proofs.keeping.plan_letter.Goals as goal
 
-pub plan_core-requires-clause-ready : goal.plan_core-requires-clause-ready
-plan_core-requires-clause-ready c =
+pub choose_core-requires-clause-ready : goal.choose_core-requires-clause-ready
+choose_core-requires-clause-ready c =
     let n = c.args.node.now in
     subst (λ (p : ℕ). IsCoreReady c.args.script.now p n.core)
     (sym (brought_to n.kept c.args.letter.now c.in-Some.brought.now c.requires.ready.kept (sym c.in-Some.ensures)))
@@ -24,9 +24,9 @@ plan_core-requires-clause-ready c =
 pub plan_keep-requires-clause-asks : goal.plan_keep-requires-clause-asks
 plan_keep-requires-clause-asks c =
     let core = core_of c.args.node.now.core in
-    let plan = rw c.in-Keeps.is at c.in_ok-plan_core.ensures in
+    let plan = rw c.in-Keeps.is at c.in_ok-choose_core.ensures in
     kept_asks c.args.script.now core c.in-Some.brought.now.body
-    (kept_core (kept_by_plan c.in-Keeps.keep c.plan_core.new.scratch.acts) core) plan.kept
+    (kept_core (kept_by_plan c.in-Keeps.keep c.choose_core.new.scratch.acts) core) plan.kept
 
 pub returns-in-Keeps : goal.returns-in-Keeps
 returns-in-Keeps c =
@@ -34,9 +34,9 @@ returns-in-Keeps c =
     let l = c.args.letter.now in
     let r = c.in-Some.brought.now in
     let s = c.args.script.now in
-    let k = kept_by_plan c.in-Keeps.keep c.plan_core.new.scratch.acts in
+    let k = kept_by_plan c.in-Keeps.keep c.choose_core.new.scratch.acts in
     let to = brought_to n.kept l r c.requires.ready.kept (sym c.in-Some.ensures) in
-    let plan = rw c.in-Keeps.is at c.in_ok-plan_core.ensures in
+    let plan = rw c.in-Keeps.is at c.in_ok-choose_core.ensures in
     subst (λ (o : Out KeepingNode). IfOk c.plan_keep.result (λ (p : NodePlan). IsPlanned o n p c.plan_keep.new.scratch))
     (keeps_row s l.to.0 (keeping_of n) l r (kept_core k (core_of n.core)) (sym c.in-Some.ensures)
     to plan.apt plan.kept) c.plan_keep.ensures
@@ -47,9 +47,9 @@ returns-in-Does c =
     let l = c.args.letter.now in
     let r = c.in-Some.brought.now in
     let s = c.args.script.now in
-    let done = core_meant c.in-Does.plan c.plan_core.new.scratch in
+    let done = core_meant c.in-Does.plan c.choose_core.new.scratch in
     let to = brought_to n.kept l r c.requires.ready.kept (sym c.in-Some.ensures) in
-    let plan = rw c.in-Does.is at c.in_ok-plan_core.ensures in
+    let plan = rw c.in-Does.is at c.in_ok-choose_core.ensures in
     subst (λ (o : Out KeepingNode). IfOk c.plan_does.result (λ (p : NodePlan). IsPlanned o n p c.plan_does.new.scratch))
     (does_row s l.to.0 (keeping_of n) l r (core_step_row done (core_of n.core)) (sym c.in-Some.ensures)
     to plan.apt plan.free plan.step.row) c.plan_does.ensures

@@ -15,5 +15,5 @@ returns c =
     let near = asked_near c.args.script.now l.to.0 l.from.0 (data_of n.parts) l.body n.parts.turns.update root
     c.requires.due in
     parked_plan c.args.script.now n c.args.tree l.body c.args.met
-    (kept_by_plan c.in_ok-keep.keep c.parked.new.acts) _ c.requires.can c.requires.asks c.requires.met near
+    (kept_by_plan c.in_ok-keep.keep c.plan_parked.new.acts) _ c.requires.can c.requires.asks c.requires.met near
     c.in_ok-keep.ensures

@@ -7,7 +7,7 @@ use Rattle.world_core.proofs.plan.choose_strict.Goals as goal
 pub returns-then-waits_for_show : goal.returns-then-waits_for_show
 returns-then-waits_for_show c =
     waiting_plan c.args.script.now c.args.core.now c.args.tree c.args.letter.now.body
-    (kept_by_plan c.in_ok-keep.keep c.root_waiting.new.acts) (sym c.if-waits_for_show.ensures)
+    (kept_by_plan c.in_ok-keep.keep c.plan_waiting.new.acts) (sym c.if-waits_for_show.ensures)
     c.in_ok-keep.ensures
 
 pub returns : goal.returns

@@ -2,7 +2,7 @@ use Rattle.std.proofs.Common.{sym}
 use Rattle.tree_step.specs.Core.{core_of}
 use Rattle.node_keeping.proofs.Aptness.{other_unapt}
 use Rattle.node_keeping.proofs.Planned.{own_plan}
-use Rattle.world_core.proofs.plan.plan_core.Goals as goal
+use Rattle.world_core.proofs.plan.choose_core.Goals as goal
 
 pub returns-then-not-suits_coordinator : goal.returns-then-not-suits_coordinator
 returns-then-not-suits_coordinator c =
