@@ -1,6 +1,5 @@
 // Entries.
-ghost use Rattle.std.specs.Prelude.{◌≡◌, length, IfOk, IfSome, IsNone};
-ghost use Rattle.letter_types.specs.declared.entries.Entry.{Entry};
+ghost use Rattle.std.specs.Prelude.{◌≡◌, IfOk, IfSome, IsNone};
 ghost use Rattle.history_text.specs.Printable.{BeginsWithNone};
 ghost use Rattle.history_reader.specs.inside.Heard.{IsHeard, IsFirstEntry};
 

@@ -1,5 +1,5 @@
 // The line that begins an entry, and the lines of letters and acts.
-ghost use Rattle.std.specs.Prelude.{◌≡◌, IfOk};
+ghost use Rattle.std.specs.Prelude.{IfOk};
 ghost use Rattle.history_text.specs.Printable.{IsAct, IsSent};
 ghost use Rattle.history_text.specs.Exact.{IsReadBack};
 ghost use Rattle.history_text.specs.Parts.{parts_at};

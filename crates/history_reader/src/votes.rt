@@ -1,7 +1,6 @@
 // Rows, votes, notices and answers.
 ghost use Rattle.std.specs.Prelude.{◌∷◌, true, codes, IfOk, slice_get};
-ghost use Rattle.std.specs.List.{AllByRecursion};
-ghost use Rattle.history_text.specs.Printable.{HasStrictness, IsRow, IsWord};
+ghost use Rattle.history_text.specs.Printable.{HasStrictness, IsRow};
 ghost use Rattle.history_text.specs.Exact.{IsReadBack};
 ghost use Rattle.history_text.specs.Words.{HasTree};
 ghost use Rattle.history_reader.specs.inside.BodyWords.{AreLineWords, IsAnswer, IsAnswerRead, IsNotice, IsNoticeRead, IsVote, answer_words, notice_words, number_words, vote_words};

@@ -1,4 +1,4 @@
-ghost use Rattle.std.specs.Prelude.{◌≡◌, ◌+◌, ◌++◌, ◌∷◌, ◌<◌, ◌≤◌, [], drop, is_some, length, IfOk, IfSome, OnOk, OnErr, Some, IsTrue};
+ghost use Rattle.std.specs.Prelude.{◌≡◌, ◌+◌, ◌++◌, ◌∷◌, ◌≤◌, [], drop, is_some, length, IfOk, IfSome, OnOk, OnErr, Some, IsTrue};
 ghost use Rattle.arrayvec.specs.ArrayVec.{array_vec_len};
 ghost use Rattle.item_versions.specs.inside.InPlace.{raised_from};
 ghost use Rattle.item_versions.specs.Item.{IsHeld, held_in_place, entry_in_place, value_in_place, seen, below, above, applied_to_all, touched, collected, may_apply_above, may_touch, holds, has_room, has_bag, put_value, CanCollect};

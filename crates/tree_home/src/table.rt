@@ -1,5 +1,5 @@
 // Open trees in places of a table, with the places by tree number.
-ghost use Rattle.std.specs.Prelude.{ℕ, ◌≡◌, ◌≢◌, ◌+◌, ◌<◌, ◌≤◌, [], length, IsSome, IsTrue, OnErr, OnOk, Some, None, slice_get, slice_index};
+ghost use Rattle.std.specs.Prelude.{ℕ, ◌≡◌, ◌≢◌, ◌<◌, ◌≤◌, [], length, IsSome, IsTrue, OnErr, OnOk, Some, None, slice_get, slice_index};
 ghost use Rattle.std.specs.Option.{option_copied};
 ghost use Rattle.tree_home.specs.Maps.{AreAscending, by_tree, put_at};
 ghost use Rattle.tree_home.specs.Homes.{misses, misses_of, new_tree, noted, noted_of};

@@ -8,11 +8,11 @@ use Rattle.letter_types.specs.declared.entries.Letter.{Letter}
 use Rattle.letter_types.specs.declared.entries.StepOut.{StepOut}
 use Rattle.letter_types.specs.Steps.{made}
 use Rattle.client_rows.specs.Kept.{Kept, IsKeptOf}
-use Rattle.node_keeping.specs.Changes.{keeping_step_row}
-use Rattle.node_keeping.specs.Meant.{node_meant}
-use Rattle.node_keeping.specs.State.{keeping_of}
-use Rattle.node_keeping.specs.declared.node_plan.NodePlan.{NodePlan}
-use Rattle.node_keeping.specs.declared.node_plan.NodePlan.TheVariants.{Still as StillPlan, Keeps as KeepsPlan, Does as DoesPlan}
+use Rattle.node_machine.specs.Changes.{keeping_step_row}
+use Rattle.node_machine.specs.Meant.{node_meant}
+use Rattle.node_machine.specs.State.{keeping_of}
+use Rattle.node_machine.specs.declared.node_plan.NodePlan.{NodePlan}
+use Rattle.node_machine.specs.declared.node_plan.NodePlan.TheVariants.{Still as StillPlan, Keeps as KeepsPlan, Does as DoesPlan}
 use Rattle.tree_step.specs.Meant.{out_in}
 use Rattle.tree_step.specs.declared.plan.Scratch.{Scratch}
 use Rattle.tx_trees.specs.ScriptData.{ScriptData}

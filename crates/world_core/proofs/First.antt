@@ -5,8 +5,8 @@ use Rattle.std.proofs.lemmas.Bool.Decides.{nat_tests}
 use Rattle.tv_base.proofs.ByPlace.{slice_get_split}
 use Rattle.letter_types.specs.declared.entries.Entry.{Entry}
 use Rattle.letter_types.specs.Letters.{go}
-use Rattle.node_keeping.specs.State.{keeping_of}
-use Rattle.node_keeping.specs.declared.state.KeepingParts.{KeepingParts}
+use Rattle.node_machine.specs.State.{keeping_of}
+use Rattle.node_machine.specs.declared.state.KeepingParts.{KeepingParts}
 use Rattle.tree_step.specs.Node.{IsOf}
 use Rattle.tx_trees.specs.ScriptData.{ScriptData, client_of}
 use Rattle.world_model.specs.Keeping.{start_keeping}

@@ -7,10 +7,3 @@ pub mod Worlds
 pub mod Leads
 pub mod Events
 pub mod TakenBack
-pub mod Ordering
-pub mod Decisions
-pub mod Noting
-pub mod Behind
-pub mod Brought
-pub mod Rows
-pub mod Woken

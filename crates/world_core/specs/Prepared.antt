@@ -9,14 +9,12 @@ use Rattle.tx_trees.specs.ScriptData.{ScriptData}
 use Rattle.advance_coord.specs.Changes.{MayKeep, IsCoordinatorStepOf as IsCoordinatorStep, after_coordinator_change as coordinator_after}
 use Rattle.coord_restart.specs.RestartChanges.{MayTakeUp, IsRestartStepOf as IsRestartStep, after_restart_change as restarting_after}
 use Rattle.client_rows.specs.Changes.{IsClientStepOf as IsClientStep, after_client_change as client_after}
-use Rattle.node_keeping.specs.Changes.{MayDoKeeping, keeping_step_row}
-use Rattle.node_keeping.specs.Meant.{IsPlanned, node_meant}
-use Rattle.node_keeping.specs.State.{keeping_of}
-use Rattle.node_keeping.specs.declared.node_plan.NodePlan.{NodePlan}
-use Rattle.node_keeping.specs.declared.state.KeepingParts.{KeepingParts}
+use Rattle.node_machine.specs.Changes.{MayDoKeeping, keeping_step_row}
+use Rattle.node_machine.specs.Meant.{node_meant}
+use Rattle.node_machine.specs.State.{keeping_of}
+use Rattle.node_machine.specs.Letters.{IsLetterPlan}
 use Rattle.tree_step.specs.Meant.{out_in}
 use Rattle.tree_step.specs.declared.plan.Scratch.{Scratch}
-use Rattle.world_model.specs.Keeping.{keeping_row}
 use Rattle.world_model.specs.Tables.{ActorData, actor_row, client_table, coordinator_table, restarting_table}
 use Rattle.world_model.specs.Taking.{IsAddressed, CountsBelow}
 use Rattle.world_core.specs.Actors.{IsFor, actor_data}
@@ -30,10 +28,6 @@ pub record MayTake (s : ScriptData) (l : Letter) (m : ℕ) (st : ActorState) : T
   pub addressed : IsAddressed s l (actor_data st)
   pub script : IsFor s st
   pub small : CountsBelow m (actor_data st)
-
--- what a node is to do with a message is planned: its row of the node's table
-abbrev pub IsLetterPlan : ScriptData → Letter → KeepingParts → NodePlan → Scratch → Type 0
-IsLetterPlan s l n p x = IsPlanned (keeping_row s l.to.0 (keeping_of n) l) n p x
 
 -- what an actor does with a message: its row of its table
 abbrev pub row_at : ScriptData → Letter → ActorState → Out ActorData

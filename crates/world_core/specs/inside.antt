@@ -1,5 +1,1 @@
 pub mod Actors
-pub mod Stays
-pub mod Bringing
-pub mod Own
-pub mod Planned

@@ -1,7 +1,7 @@
 // The actors as one, and their steps.
 ghost use Rattle.std.specs.Prelude.{◌≡◌, ◌<◌, ◌+◌, [], IfOk, MatchResult, OnOk, OnErr};
-ghost use Rattle.node_keeping.specs.Changes.{MayDoKeeping};
-ghost use Rattle.node_keeping.specs.Meant.{IsNodeDone, node_meant};
+ghost use Rattle.node_machine.specs.Changes.{MayDoKeeping};
+ghost use Rattle.node_machine.specs.Meant.{IsNodeDone, node_meant};
 ghost use Rattle.tree_step.specs.Meant.{IsEmpty, out_in};
 ghost use Rattle.world_model.specs.Tables.{start_coordination};
 ghost use Rattle.world_core.specs.Actors.{actor_data, IsFor, IsStateOf};
@@ -13,11 +13,11 @@ use advance_coord::{Coordinator, CoordinatorPrepared};
 use client_rows::{Client, ClientPrepared};
 use coord_restart::{RestartPrepared, Restarting};
 use letter_types::{Boxed, Letter, Letters, StepOut};
-use node_keeping::NodePlan;
 use std::alloc::Global;
 use tree_step::{Scratch, take_out, wipe};
 use tv_base::{ActorNo, NoMemory, NodeNo};
 use tx_trees::Script;
+use node_machine::NodePlan;
 
 /// The state of one actor.
 pub enum ActorState {

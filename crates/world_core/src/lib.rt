@@ -3,12 +3,8 @@
 #![tactic(auto)]
 
 mod actor;
-mod keeping;
 mod node;
-mod orders;
-mod plan;
 mod public;
-mod trees;
 mod world;
 
 pub use actor::{ActorPlan, ActorState, actor_done, actor_plan};

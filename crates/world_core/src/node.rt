@@ -3,9 +3,9 @@ ghost use Rattle.std.specs.Prelude.{◌≡◌, ◌<◌, ◌^◌, length, IfOk, O
 ghost use Rattle.std.specs.List.{AllByRecursion};
 ghost use Rattle.commute_ops.specs.Ops.{value_start};
 ghost use Rattle.item_versions.specs.Window.{IsWindowedTable};
-ghost use Rattle.node_keeping.specs.Changes.{MayDoKeeping};
-ghost use Rattle.node_keeping.specs.Meant.{IsNodeDone, node_meant};
-ghost use Rattle.node_keeping.specs.State.{keeping_of};
+ghost use Rattle.node_machine.specs.Changes.{MayDoKeeping};
+ghost use Rattle.node_machine.specs.Meant.{IsNodeDone, node_meant};
+ghost use Rattle.node_machine.specs.State.{keeping_of};
 ghost use Rattle.pair_counters.specs.Numbers.{AllBelow, MOST_COUNT};
 ghost use Rattle.pair_counters.specs.Rows.{counts_of};
 ghost use Rattle.tree_step.specs.Meant.{IsEmpty, out_in};
@@ -13,14 +13,12 @@ ghost use Rattle.tree_step.specs.Node.{IsOf};
 ghost use Rattle.tx_trees.specs.Valid.{IsItem};
 ghost use Rattle.world_model.specs.Keeping.{AreKeptAt, start_keeping};
 ghost use Rattle.world_model.specs.Node.{items_at};
-ghost use Rattle.world_core.specs.Prepared.{IsLetterPlan};
+ghost use Rattle.node_machine.specs.Letters.{IsLetterPlan};
 
-use crate::keeping::plan_letter;
 use commute_ops::{Kind, Value};
 use item_versions::ItemTable;
 use letter_types::Letter;
 use nc_locks::Locks;
-use node_keeping::{KeepingParts, KeptLetters, NodePlan, do_node};
 use node_versions::Turns;
 use pair_counters::Counters;
 use std::alloc::Global;
@@ -29,6 +27,7 @@ use tree_home::Homes;
 use tree_step::{NodeCore, NodeParts, Refusals, Scratch};
 use tv_base::{ItemNo, NoMemory, NodeNo};
 use tx_trees::{ItemRow, Script};
+use node_machine::{KeepingParts, KeptLetters, NodePlan, do_node, plan_letter};
 
 /// A node's state (docs/ALGORITHM.md, "Nodes"). Its versions, those of its items and those that it counts are from its
 /// low version to two above it, and of no tree that is open it holds an answer.
@@ -38,8 +37,8 @@ pub struct NodeState {
 }
 
 impl Model for NodeState {
-    ghost use Rattle.node_keeping.specs.declared.state.KeepingParts.{KeepingParts};
-    ghost use Rattle.node_keeping.specs.Changes.{IsSettled};
+    ghost use Rattle.node_machine.specs.declared.state.KeepingParts.{KeepingParts};
+    ghost use Rattle.node_machine.specs.Changes.{IsSettled};
 
     ghost Value = { KeepingParts };
 

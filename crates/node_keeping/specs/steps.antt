@@ -1,4 +1,0 @@
-pub mod Keep
-pub mod KeepingStep
-pub mod CoreKept
-pub mod ChosenStep

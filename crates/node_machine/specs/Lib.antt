@@ -1,0 +1,14 @@
+pub mod Again
+pub mod Answering
+pub mod Apt
+pub mod Changes
+pub mod Choices
+pub mod Letters
+pub mod Meant
+pub mod Meeting
+pub mod Orders
+pub mod Plans
+pub mod State
+pub mod Waits
+pub mod inside
+pub mod steps

@@ -1,0 +1,9 @@
+pub mod Advancing
+pub mod Arrivals
+pub mod Bringing
+pub mod Decided
+pub mod Own
+pub mod Places
+pub mod Planned
+pub mod Stays
+pub mod Voting

@@ -1,0 +1,4 @@
+pub mod ChosenStep
+pub mod CoreKept
+pub mod Keep
+pub mod KeepingStep

@@ -1,0 +1,362 @@
+// A decision, an acknowledgement of one, and marks that go.
+ghost use Rattle.std.specs.Prelude.{[], ◌++◌, ◌<◌, ◌≡◌, IfOk, IsTrue, OnOk, Some, length};
+ghost use Rattle.node_machine.specs.Apt.{acked_apt, acks_here, decide_apt_at, decides_here, release_apt};
+ghost use Rattle.tree_step.specs.Core.{CanCoreStep, IsCoreReady, core_of};
+ghost use Rattle.node_machine.specs.inside.Decided.{acking, completing, dropping, plan_with};
+ghost use Rattle.tree_step.specs.Meant.{IsEmpty, core_meant};
+ghost use Rattle.node_machine.specs.Answering.{IsAckedStep, IsDecideStep, IsReleaseStep, can_decide_at};
+ghost use Rattle.item_versions.specs.Window.{in_window};
+ghost use Rattle.tx_trees.specs.ScriptData.{client_of, subs_at};
+ghost use Rattle.world_model.specs.Named.{is_strict_at};
+ghost use Rattle.tree_home.specs.HeldAnswers.{answer_when_acked, held_answers, held_in, last_answer};
+ghost use Rattle.world_model.specs.Strict.{answer_by, answer_letters};
+ghost use Rattle.tree_home.specs.Maps.{by_tree};
+ghost use Rattle.letter_types.specs.declared.bodies.Body.TheVariants.{Decide, Decided, Release};
+ghost use Rattle.node_machine.specs.Choices.{IsOwnChoice};
+
+use crate::node_plan::CoreChoice;
+use commute_ops::copy_values;
+use letter_types::{Act, Answer, Body, Boxed, Letter, Letters, Outgoing};
+use nc_commit::{Decision, may_apply_decision, stage_decided};
+use script_parts::children::visits;
+use std::alloc::Global;
+use tree_home::{Answered, Held, Homes};
+use tree_step::{Counting, Doing, HoldPlan, HomePlan, NodeCore, Plan, Refusals, Scratch, TreePlan, VotePlan, is_near};
+use tv_base::{ActorNo, NoMemory, NodeNo, SubNo, TreeNo, Version};
+use tx_trees::Script;
+use world_model::NegativeVote;
+
+/// Whether the script has strict trees, this one has a subtransaction at the message's addressee, and a node sent the
+/// message.
+fn decides_here(letter: &Letter, script: &Script, tree: TreeNo) -> bool
+    ensures { result ≡ decides_here script.now letter.now.to.0 letter.now.from.0 tree }
+{
+    script.has_strict()
+        && visits(script.subs_of(tree), NodeNo(letter.to.0))
+        && letter.from.0 < script.nodes()
+}
+
+/// Whether a decision is enabled: its tree is strict and has a subtransaction here, its version is one that the node
+/// counts in, and what it applies can be applied.
+fn decide_apt(core: &NodeCore, letter: &Letter, script: &Script, decision: Decision) -> bool
+    ensures { result ≡ decide_apt_at script.now letter.now decision core.now }
+{
+    decides_here(letter, script, decision.tree)
+        && is_near(&core.parts.turns, decision.version)
+        && may_apply_decision(&core.parts.items, decision, script, NodeNo(letter.to.0))
+}
+
+/// Whether the script has strict trees, this one is at home at the message's addressee, and a node sent the message.
+fn acks_here(letter: &Letter, script: &Script, tree: TreeNo) -> bool
+    ensures { result ≡ acks_here script.now letter.now.to.0 letter.now.from.0 tree }
+{
+    script.has_strict() && script.home_of(tree) == letter.to.0 && letter.from.0 < script.nodes()
+}
+
+/// Whether an acknowledgement is enabled.
+fn acked_apt(
+    core: &NodeCore,
+    letter: &Letter,
+    script: &Script,
+    tree: TreeNo,
+    version: Version,
+) -> bool
+    ensures { result ≡ acked_apt script.now letter.now.to.0 letter.now.from.0 (core_of core.now) tree version }
+{
+    acks_here(letter, script, tree) && is_near(&core.parts.turns, version)
+}
+
+/// Whether it is enabled that a tree's marks go at a node: the script has strict trees, and the tree a subtransaction
+/// there.
+fn release_apt(script: &Script, at: ActorNo, tree: TreeNo) -> bool
+    ensures { result ≡ release_apt script.now at.0 tree }
+{
+    script.has_strict() && visits(script.subs_of(tree), NodeNo(at.0))
+}
+
+/// The plan of these three parts, by which a node hears of no epoch.
+pub(crate) fn plan_with(doing: Doing, votes: VotePlan, holds: HoldPlan) -> Plan
+    ensures { result ≡ plan_with doing votes holds }
+{
+    Plan {
+        doing,
+        votes,
+        holds,
+        epoch: None,
+    }
+}
+
+/// Plans that a node lets the marks of an update tree go.
+fn plan_release(core: &NodeCore, tree: TreeNo, scratch: &mut Scratch) -> Result<Plan, NoMemory>
+    requires can { CanCoreStep core.now }
+    requires none_sent { scratch.old.sent ≡ [] }
+    requires no_acts { scratch.old.acts ≡ [] }
+    ensures { IfOk result (λ plan. IsReleaseStep tree core.now (core_meant plan scratch.new)) }
+{
+    scratch.acts.push(Act::Freed { tree })?;
+    Ok(plan_with(Doing::Still, VotePlan::Free(tree), HoldPlan::Stay))
+}
+
+/// What a node's parts do for a completion: one from node `from` is counted in this version, and the first `asked` of the
+/// messages that are sent.
+fn completing(tree: TreeNo, from: NodeNo, version: Version, asked: usize) -> Doing
+    ensures { result ≡ completing tree from version asked }
+{
+    let counting = Counting {
+        version,
+        root: false,
+        from,
+        asked,
+    };
+    Doing::Tree(TreePlan {
+        tree,
+        sub: SubNo(0),
+        raises: false,
+        counting,
+        home: HomePlan::Stay,
+    })
+}
+
+/// Plans that a node applies the decision that a message brings. A commit writes what the tree sets and draws there. The
+/// tree's locks go, and its home gets an acknowledgement. After out of memory the scratch may hold a part of the plan.
+fn plan_decide(
+    alloc: Global,
+    core: &NodeCore,
+    letter: &Letter,
+    script: &Script,
+    decision: Decision,
+    scratch: &mut Scratch,
+) -> Result<Plan, NoMemory>
+    // What the caller knows.
+    requires ready { IsCoreReady script.now letter.now.from.0 core.now }
+    requires strict { IsTrue (is_strict_at script.now decision.tree.0) }
+    requires there { 0 < length (subs_at script.now decision.tree.0) }
+    requires near { IsTrue (in_window core.now.parts.turns.low.0 decision.version.0) }
+    requires can { IsTrue (can_decide_at script.now letter.now decision core.now) }
+    requires empty { IsEmpty scratch.old }
+    // What is planned.
+    ensures { IfOk result (λ plan. IsDecideStep script.now letter.now decision core.now (core_meant plan scratch.new)) }
+{
+    let items = &core.parts.items;
+    // The readers say that the versions of each item ascend, and that a tree's nodes are the script's.
+    let _count = items.count();
+    let _subs = script.subs_of(decision.tree);
+    let Decision {
+        tree,
+        version,
+        commit,
+    } = decision;
+    let node = NodeNo(letter.to.0);
+    stage_decided(alloc, items, &mut scratch.staged, decision, script, node)?;
+    scratch.sent.push(Outgoing {
+        to: ActorNo(script.home_of(tree)),
+        body: Body::Decided { tree, version },
+    })?;
+    scratch.acts.push(Act::Applied { tree, commit })?;
+    let doing = completing(tree, NodeNo(letter.from.0), version, 1);
+    Ok(plan_with(doing, VotePlan::Free(tree), HoldPlan::Stay))
+}
+
+/// What becomes of the held answers at an acknowledgement of a tree: they stay if none of this tree is held.
+fn acking(homes: &Homes, tree: TreeNo) -> HoldPlan
+    ensures { result ≡ acking tree (held_in tree (held_answers homes.now)) }
+{
+    match homes.held(tree) {
+        Some(_) => HoldPlan::Ack(tree),
+        None => HoldPlan::Stay,
+    }
+}
+
+/// A copy of an answer that is held, if no acknowledgement but the next is missing.
+fn last_answer(alloc: Global, held: &Held) -> Result<Option<Answered>, NoMemory>
+    ensures { IfOk result (λ answer. answer ≡ last_answer (Some held.now)) }
+{
+    if 1 < held.waits {
+        return Ok(None);
+    }
+    let Answered { tree, version, .. } = held.answered;
+    let values = copy_values(alloc, &held.answered.values)?;
+    Ok(Some(Answered {
+        tree,
+        version,
+        values,
+    }))
+}
+
+/// A copy of the answer of a tree that its next acknowledgement sets free, if it sets one free.
+fn freed_answer(alloc: Global, homes: &Homes, tree: TreeNo) -> Result<Option<Answered>, NoMemory>
+    ensures { IfOk result (λ answer. answer ≡ answer_when_acked tree (held_answers homes.now)) }
+{
+    match homes.held(tree) {
+        Some(held) => last_answer(alloc, held),
+        None => Ok(None),
+    }
+}
+
+/// What becomes of the negative votes at an answer: that of its tree goes.
+fn dropping(answered: &Option<Answered>) -> VotePlan
+    ensures { result ≡ dropping answered.now }
+{
+    match answered {
+        Some(answered) => VotePlan::Drop(answered.tree),
+        None => VotePlan::Stay,
+    }
+}
+
+/// What the client is told of a strict tree: the values, or the cause of the tree's negative vote, if it has one.
+fn answer_by(
+    alloc: Global,
+    refusal: Option<NegativeVote>,
+    answered: Answered,
+) -> Result<Answer, NoMemory>
+    ensures { IfOk result (λ answer. answer ≡ answer_by refusal answered) }
+{
+    match refusal {
+        None => Ok(Answer::Whole(answered.values)),
+        Some(refusal) => {
+            let cause = Boxed::new(alloc, refusal.cause)?;
+            Ok(Answer::Aborted(cause))
+        }
+    }
+}
+
+/// The client's number.
+pub(crate) fn client_of(script: &Script) -> ActorNo
+    ensures { result ≡ record { 0 = client_of script.now } }
+{
+    ActorNo(script.nodes() + 1)
+}
+
+/// Adds the answer of a strict tree to the client, if there is one.
+fn push_answer(
+    alloc: Global,
+    sent: &mut Letters,
+    script: &Script,
+    refusals: &Refusals,
+    answered: Option<Answered>,
+) -> Result<(), NoMemory>
+    ensures { OnOk result (sent.new ≡ sent.old ++ answer_letters script.now (by_tree refusals.now) answered) }
+{
+    let Some(answered) = answered else {
+        return Ok(());
+    };
+    let Answered { tree, version, .. } = answered;
+    let answer = answer_by(alloc, refusals.of(tree), answered)?;
+    sent.push(Outgoing {
+        to: client_of(script),
+        body: Body::Reply {
+            tree,
+            version,
+            answer,
+        },
+    })?;
+    Ok(())
+}
+
+/// An acknowledgement: a node has applied the decision on a strict tree.
+#[derive(Clone, Copy)]
+pub struct Acknowledgement {
+    pub tree: TreeNo,
+    /// The version that the tree runs in.
+    pub version: Version,
+    /// The node that applied it.
+    pub from: NodeNo,
+}
+
+/// Plans that a strict tree's home takes an acknowledgement down. After the last one the client is answered. After out of
+/// memory the scratch may hold a part of what goes out.
+fn plan_acked(
+    alloc: Global,
+    core: &NodeCore,
+    script: &Script,
+    acked: Acknowledgement,
+    scratch: &mut Scratch,
+) -> Result<Plan, NoMemory>
+    // What the caller knows.
+    requires ready { IsCoreReady script.now acked.from.0 core.now }
+    requires near { IsTrue (in_window core.now.parts.turns.low.0 acked.version.0) }
+    requires empty { IsEmpty scratch.old }
+    // What is planned.
+    ensures { IfOk result (λ plan. IsAckedStep script.now acked core.now (core_meant plan scratch.new)) }
+{
+    let Acknowledgement {
+        tree,
+        version,
+        from,
+    } = acked;
+    let homes = &core.parts.homes;
+    let answered = freed_answer(alloc, homes, tree)?;
+    let votes = dropping(&answered);
+    push_answer(alloc, &mut scratch.sent, script, &core.refusals, answered)?;
+    let doing = completing(tree, from, version, 0);
+    Ok(plan_with(doing, votes, acking(homes, tree)))
+}
+
+/// A decision on a strict tree.
+pub(crate) fn choose_decide(
+    alloc: Global,
+    core: &NodeCore,
+    letter: &Letter,
+    script: &Script,
+    decision: Decision,
+    scratch: &mut Scratch,
+) -> Result<CoreChoice, NoMemory>
+    // What the caller knows.
+    requires ready { IsCoreReady script.now letter.now.to.0 core.now }
+    requires body { letter.now.body ≡ Decide decision.tree decision.version decision.commit }
+    requires empty { IsEmpty scratch.old }
+    // What is planned.
+    ensures { IfOk result (IsOwnChoice script.now letter.now core.now scratch.new) }
+{
+    if !decide_apt(core, letter, script, decision) {
+        return Ok(CoreChoice::Still);
+    }
+    let plan = plan_decide(alloc, core, letter, script, decision, scratch)?;
+    Ok(CoreChoice::Does(plan))
+}
+
+/// An acknowledgement at a strict tree's home.
+pub(crate) fn choose_acked(
+    alloc: Global,
+    core: &NodeCore,
+    letter: &Letter,
+    script: &Script,
+    acked: Acknowledgement,
+    scratch: &mut Scratch,
+) -> Result<CoreChoice, NoMemory>
+    // What the caller knows.
+    requires ready { IsCoreReady script.now letter.now.to.0 core.now }
+    requires body { letter.now.body ≡ Decided acked.tree acked.version }
+    requires from { acked.from.0 ≡ letter.now.from.0 }
+    requires empty { IsEmpty scratch.old }
+    // What is planned.
+    ensures { IfOk result (IsOwnChoice script.now letter.now core.now scratch.new) }
+{
+    if !acked_apt(core, letter, script, acked.tree, acked.version) {
+        return Ok(CoreChoice::Still);
+    }
+    let plan = plan_acked(alloc, core, script, acked, scratch)?;
+    Ok(CoreChoice::Does(plan))
+}
+
+/// Marks of an update tree that go.
+pub(crate) fn choose_release(
+    core: &NodeCore,
+    letter: &Letter,
+    script: &Script,
+    tree: TreeNo,
+    scratch: &mut Scratch,
+) -> Result<CoreChoice, NoMemory>
+    // What the caller knows.
+    requires ready { IsCoreReady script.now letter.now.to.0 core.now }
+    requires body { letter.now.body ≡ Release tree }
+    requires empty { IsEmpty scratch.old }
+    // What is planned.
+    ensures { IfOk result (IsOwnChoice script.now letter.now core.now scratch.new) }
+{
+    if !release_apt(script, letter.to, tree) {
+        return Ok(CoreChoice::Still);
+    }
+    let plan = plan_release(core, tree, scratch)?;
+    Ok(CoreChoice::Does(plan))
+}

@@ -1,0 +1,27 @@
+//! A node as a state machine: its core with the messages that it defers, what it does with each kind of message, planned,
+//! and the one call that does what is planned.
+#![tactic(auto)]
+
+mod answers;
+mod arrivals;
+mod decisions;
+mod done;
+mod kept;
+mod letters;
+mod meeting;
+mod node_plan;
+mod notices;
+mod orders;
+mod places;
+mod questions;
+mod state;
+mod subs;
+mod votes;
+mod wakes;
+mod waking;
+
+pub use done::do_node;
+pub use kept::KeptLetters;
+pub use letters::plan_letter;
+pub use node_plan::NodePlan;
+pub use state::KeepingParts;

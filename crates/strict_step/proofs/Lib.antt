@@ -1,5 +1,0 @@
-pub mod Voting
-pub mod Apart
-pub mod Decided
-pub mod Deciding
-pub mod Planned
