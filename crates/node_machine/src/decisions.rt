@@ -87,7 +87,7 @@ pub(crate) fn plan_with(doing: Doing, votes: VotePlan, holds: HoldPlan) -> Plan
 }
 
 /// Plans that a node lets the marks of an update tree go.
-fn plan_release(core: &NodeCore, tree: TreeNo, scratch: &mut Scratch) -> Result<Plan, NoMemory>
+pub(crate) fn plan_release(core: &NodeCore, tree: TreeNo, scratch: &mut Scratch) -> Result<Plan, NoMemory>
     requires can { CanCoreStep core.now }
     requires none_sent { scratch.old.sent ≡ [] }
     requires no_acts { scratch.old.acts ≡ [] }
@@ -119,7 +119,7 @@ fn completing(tree: TreeNo, from: NodeNo, version: Version, asked: usize) -> Doi
 
 /// Plans that a node applies the decision that a message brings. A commit writes what the tree sets and draws there. The
 /// tree's locks go, and its home gets an acknowledgement. After out of memory the scratch may hold a part of the plan.
-fn plan_decide(
+pub(crate) fn plan_decide(
     alloc: Global,
     core: &NodeCore,
     letter: &Letter,
@@ -265,7 +265,7 @@ pub struct Acknowledgement {
 
 /// Plans that a strict tree's home takes an acknowledgement down. After the last one the client is answered. After out of
 /// memory the scratch may hold a part of what goes out.
-fn plan_acked(
+pub(crate) fn plan_acked(
     alloc: Global,
     core: &NodeCore,
     script: &Script,

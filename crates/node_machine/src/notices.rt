@@ -100,7 +100,7 @@ fn refused_there(
 
 /// Plans that a tree's home takes a notice down and counts its completion. If none is missing any more, an update tree or
 /// a read tree is answered, and a strict tree decided. After out of memory the scratch may hold a part of the plan.
-fn plan_note(
+pub(crate) fn plan_note(
     alloc: Global,
     core: &NodeCore,
     script: &Script,

@@ -94,7 +94,7 @@ fn plain_answer(what: What, version: Version) -> Body
 /// less than this one. A show makes this version the read version. A sweep collects every item to this version, which
 /// becomes the low version, and drops the counters of older versions. After out of memory the scratch may hold a part of
 /// what goes out.
-fn plan_order(
+pub(crate) fn plan_order(
     node: &NodeParts,
     script: &Script,
     what: What,
@@ -151,7 +151,7 @@ fn was_obeyed(node: &NodeParts, what: What, version: Version) -> bool
 /// Plans that a node obeys an order of this epoch, from a coordinator that may lose its state: it does what it is
 /// ordered to do, unless it has done so before, and answers either way. After out of memory the scratch may hold a part
 /// of what goes out.
-fn plan_obeyed(
+pub(crate) fn plan_obeyed(
     node: &NodeParts,
     script: &Script,
     epoch: u64,

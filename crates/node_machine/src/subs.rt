@@ -51,7 +51,7 @@ fn is_unheld(homes: &Homes, body: &Body) -> bool
 
 /// Whether a message that asks for a subtransaction is one that the node takes, and the answer of a root's tree isn't
 /// held.
-fn is_free(core: &NodeCore, letter: &Letter, script: &Script) -> bool
+pub(crate) fn is_free(core: &NodeCore, letter: &Letter, script: &Script) -> bool
     ensures { result ≡ is_free_at script.now letter.now core.now.parts }
 {
     is_due(&core.parts, letter, script) && is_unheld(&core.parts.homes, &letter.body)
