@@ -21,7 +21,10 @@ use nc_commit::{Decision, may_apply_decision, stage_decided};
 use script_parts::children::visits;
 use std::alloc::Global;
 use tree_home::{Answered, Held, Homes};
-use tree_step::{Counting, Doing, HoldPlan, HomePlan, NodeCore, Plan, Refusals, Scratch, TreePlan, VotePlan, is_near};
+use tree_step::{
+    Counting, Doing, HoldPlan, HomePlan, NodeCore, Plan, Refusals, Scratch, TreePlan, VotePlan,
+    is_near,
+};
 use tv_base::{ActorNo, NoMemory, NodeNo, SubNo, TreeNo, Version};
 use tx_trees::Script;
 use world_model::NegativeVote;
@@ -87,7 +90,11 @@ pub(crate) fn plan_with(doing: Doing, votes: VotePlan, holds: HoldPlan) -> Plan
 }
 
 /// Plans that a node lets the marks of an update tree go.
-pub(crate) fn plan_release(core: &NodeCore, tree: TreeNo, scratch: &mut Scratch) -> Result<Plan, NoMemory>
+pub(crate) fn plan_release(
+    core: &NodeCore,
+    tree: TreeNo,
+    scratch: &mut Scratch,
+) -> Result<Plan, NoMemory>
     requires can { CanCoreStep core.now }
     requires none_sent { scratch.old.sent ≡ [] }
     requires no_acts { scratch.old.acts ≡ [] }

@@ -225,7 +225,12 @@ pub fn plan_letter(
 }
 
 /// A message without a row of its own, which changes and sends nothing.
-pub(crate) fn choose_other(core: &NodeCore, letter: &Letter, script: &Script, scratch: &Scratch) -> CoreChoice
+pub(crate) fn choose_other(
+    core: &NodeCore,
+    letter: &Letter,
+    script: &Script,
+    scratch: &Scratch,
+) -> CoreChoice
     requires ready { IsCoreReady script.now letter.now.to.0 core.now }
     requires other { is_own letter.now.body ≡ false }
     requires empty { IsEmpty scratch.now }

@@ -128,7 +128,11 @@ pub(crate) fn waits_for_show(core: &NodeCore, letter: &Letter) -> bool
 }
 
 /// Plans that the root of a strict tree that isn't born yet waits until the node shows a version.
-pub(crate) fn plan_waiting(turns: &Turns, tree: TreeNo, acts: &mut Acts) -> Result<KeepPlan, NoMemory>
+pub(crate) fn plan_waiting(
+    turns: &Turns,
+    tree: TreeNo,
+    acts: &mut Acts,
+) -> Result<KeepPlan, NoMemory>
     requires { acts.old ≡ [] }
     ensures { IfOk result (λ keep. kept_by_plan keep acts.new ≡ root_kept tree turns.now) }
 {

@@ -19,7 +19,9 @@ use crate::votes::values_of;
 use commute_ops::Values;
 use letter_types::{Cause, Letter, Notice};
 use std::alloc::Global;
-use tree_step::{NodeCore, Plan, Refusals, Request, Scratch, VotePlan, is_due, is_near, is_strict, plan_notice};
+use tree_step::{
+    NodeCore, Plan, Refusals, Request, Scratch, VotePlan, is_due, is_near, is_strict, plan_notice,
+};
 use tv_base::{NoMemory, SubNo, TreeNo};
 use tx_trees::Script;
 use world_model::NegativeVote;

@@ -14,7 +14,10 @@ use commute_ops::Values;
 use letter_types::{Body, Cause, Letter, Notice, Vote};
 use nc_commit::{push_wanted, vote_on};
 use std::alloc::Global;
-use tree_step::{InVersion, NodeCore, Plan, Refusals, Scratch, SubTurn, VotePlan, asked_ops, asked_version, is_above, plan_tree};
+use tree_step::{
+    InVersion, NodeCore, Plan, Refusals, Scratch, SubTurn, VotePlan, asked_ops, asked_version,
+    is_above, plan_tree,
+};
 use tv_base::{NoMemory, SubNo, TreeNo};
 use tx_trees::{Script, SubOp};
 

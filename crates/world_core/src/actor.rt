@@ -13,11 +13,11 @@ use advance_coord::{Coordinator, CoordinatorPrepared};
 use client_rows::{Client, ClientPrepared};
 use coord_restart::{RestartPrepared, Restarting};
 use letter_types::{Boxed, Letter, Letters, StepOut};
+use node_machine::NodePlan;
 use std::alloc::Global;
 use tree_step::{Scratch, take_out, wipe};
 use tv_base::{ActorNo, NoMemory, NodeNo};
 use tx_trees::Script;
-use node_machine::NodePlan;
 
 /// The state of one actor.
 pub enum ActorState {

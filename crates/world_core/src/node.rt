@@ -19,6 +19,7 @@ use commute_ops::{Kind, Value};
 use item_versions::ItemTable;
 use letter_types::Letter;
 use nc_locks::Locks;
+use node_machine::{KeepingParts, KeptLetters, NodePlan, do_node, plan_letter};
 use node_versions::Turns;
 use pair_counters::Counters;
 use std::alloc::Global;
@@ -27,7 +28,6 @@ use tree_home::Homes;
 use tree_step::{NodeCore, NodeParts, Refusals, Scratch};
 use tv_base::{ItemNo, NoMemory, NodeNo};
 use tx_trees::{ItemRow, Script};
-use node_machine::{KeepingParts, KeptLetters, NodePlan, do_node, plan_letter};
 
 /// A node's state (docs/ALGORITHM.md, "Nodes"). Its versions, those of its items and those that it counts are from its
 /// low version to two above it, and of no tree that is open it holds an answer.
