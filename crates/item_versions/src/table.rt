@@ -1,4 +1,4 @@
-ghost use Rattle.std.specs.Prelude.{◌≡◌, ◌+◌, ◌++◌, ◌∷◌, ◌<◌, ◌≤◌, [], is_some, length, slice_get, slice_index_or, IfOk, IfSome, IfNone, IsTrue, OnOk, OnErr, Some};
+ghost use Rattle.std.specs.Prelude.{◌≡◌, ◌+◌, ◌++◌, ◌∷◌, ◌<◌, ◌≤◌, [], is_some, length, slice_get, slice_index_or, vec_capacity, vec_len, IfOk, IfSome, IfNone, IsTrue, OnOk, OnErr, Some};
 ghost use Rattle.std.specs.Bool.{OnFalse, OnTrue};
 ghost use Rattle.std.specs.Option.{option_copied};
 ghost use Rattle.std.specs.List.{All};
@@ -204,19 +204,15 @@ impl ItemTable {
         let Some(held) = self.item(item) else {
             return Ok(false);
         };
-        let alloc = *staged.entries.allocator();
         let place = staged_place(&staged.entries, item);
         if place < staged.entries.len() {
+            let alloc = *staged.entries.allocator();
             return touch_entry(&mut staged.entries, place, alloc, v, op);
         }
         if note_op(&mut staged.ops, &mut staged.left, held, v, item, op)? {
             return Ok(true);
         }
-        let Some(next) = touched_after(held, &staged.ops, alloc, v, item, op)? else {
-            return Ok(false);
-        };
-        staged.entries.push((item, next))?;
-        Ok(true)
+        push_touched(&mut staged.entries, &staged.ops, held, v, item, op)
     }
 
     /// Stages an update of one item in version `v`, made to the item with what is staged. The table never changes. If
@@ -397,6 +393,19 @@ fn left_after(left: u128, op: &Op) -> Option<u128>
     }
 }
 
+/// Makes room for one more operation, if there is none.
+#[inline(always)]
+fn room_for_one(ops: &mut Vec<StagedOp>) -> Result<(), NoMemory>
+    ensures items { ops.new.items ≡ ops.old.items }
+    ensures room { OnOk result (vec_len ops.new < vec_capacity ops.new) }
+{
+    if ops.len() < ops.capacity() {
+        return Ok(());
+    }
+    ops.reserve(1)?;
+    Ok(())
+}
+
 /// Adds an operation that is to be made where its item is, if the item is known to take it after all of them. False if
 /// it isn't; then nothing changes.
 fn note_op(
@@ -422,11 +431,12 @@ fn note_op(
     if !held.takes_in_place(v, op, rest) {
         return Ok(false);
     }
-    ops.push(StagedOp {
+    room_for_one(ops)?;
+    ops.push_reserved(StagedOp {
         item,
         version: v,
         op: *op,
-    })?;
+    });
     *left = rest;
     Ok(true)
 }
@@ -454,6 +464,33 @@ fn touched_after(
     let mut now = held.copy(alloc)?;
     make_ops(&mut now, item, ops);
     now.touched_if_may(alloc, v, op)
+}
+
+/// Adds a copy of an item as it is after an update, if the update may be made. False exactly if it may not. The item may
+/// have operations staged, and isn't copied yet.
+#[inline(never)]
+fn push_touched(
+    entries: &mut Vec<(ItemNo, Item)>,
+    ops: &[StagedOp],
+    held: &Item,
+    v: Version,
+    item: ItemNo,
+    op: &Op,
+) -> Result<bool, NoMemory>
+    requires { IsTrue (may_touch v op.now (held_after_staged item ops.now held.now))
+        → IsTrue (has_room v (held_after_staged item ops.now held.now)) }
+    ensures may { IfOk result (λ made. made ≡ may_touch v op.now (held_after_staged item ops.now held.now)) }
+    ensures made { IfOk result (λ made. OnTrue made (entries.new.items
+        ≡ entries.old.items ++ (item, touched v op.now (held_after_staged item ops.now held.now)) ∷ [])) }
+    ensures not_made { IfOk result (λ made. OnFalse made (entries.new.items ≡ entries.old.items)) }
+    ensures err { OnErr result (entries.new.items ≡ entries.old.items) }
+{
+    let alloc = *entries.allocator();
+    let Some(next) = touched_after(held, ops, alloc, v, item, op)? else {
+        return Ok(false);
+    };
+    entries.push((item, next))?;
+    Ok(true)
 }
 
 /// Puts the copies in their places.

@@ -146,6 +146,9 @@ fn make_room<T>(items: &mut Vec<T>) -> Result<(), NoMemory>
     ensures items { items.new.items ≡ items.old.items }
     ensures room { OnOk result (vec_len items.new < vec_capacity items.new) }
 {
+    if items.len() < items.capacity() {
+        return Ok(());
+    }
     if items.len() < SHORT {
         items.reserve_exact(1)?;
     } else {

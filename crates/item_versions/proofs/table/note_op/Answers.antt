@@ -5,6 +5,7 @@ use Rattle.item_versions.proofs.table.note_op.Goals as goal
 
 pub returns-clause-left : goal.returns-clause-left
 returns-clause-left c =
-    let last = amounts-last c.args.ops.now.items (record { item = c.args.item; version = c.args.v; op = c.args.op.now }) in
-    let more = ap amounts_of c.in_ok-push.ensures.items in
-    omega (arith, last, more, c.in-Some.ensures, c.requires)
+    let last = amounts-last c.room_for_one.new.ops.items (record { item = c.args.item; version = c.args.v; op = c.args.op.now }) in
+    let more = ap amounts_of c.push_reserved.ensures.items in
+    let same = ap amounts_of c.in_ok-room_for_one.ensures.items in
+    omega (arith, last, more, same, c.in-Some.ensures, c.requires)

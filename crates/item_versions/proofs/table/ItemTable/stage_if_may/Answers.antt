@@ -1,5 +1,5 @@
 use Rattle.std.specs.Prelude.{IfOk, IsTrue}
-use Rattle.std.proofs.Common.{◌≡◌, ◌+◌, ◌<◌, ◌≤◌, ◌∙◌, List, true, ap, arith, length, refl, subst, sym}
+use Rattle.std.proofs.Common.{◌≡◌, ◌+◌, ◌<◌, ◌≤◌, ◌∙◌, List, true, ap, arith, length, refl, subst, sym, Bool, [], ◌∷◌, ◌++◌}
 use Rattle.std.proofs.lemmas.Bool.{OnFalse_at, OnTrue_at}
 use Rattle.commute_ops.specs.declared.kinds.TheConstants.{MOST_AMOUNT}
 use Rattle.item_versions.specs.declared.table.StagedOp.{StagedOp}
@@ -89,8 +89,8 @@ returns-then-branch-clause-made c =
     (OnTrue_at c.if-branch.true c.in_ok-note_op.ensures.held) (OnTrue_at c.if-branch.true c.in_ok-note_op.ensures.takes) most
     ∙ ap (λ (u : StagedItems). touched_in c.args.v c.args.item c.args.op.now (pending u t)) c.staged.view_is
 
-pub touched_after-requires : goal.touched_after-requires
-touched_after-requires c =
+pub push_touched-requires : goal.push_touched-requires
+push_touched-requires c =
     let s = c.staged.inside.entries.items in
     let os = c.staged.inside.ops.items in
     let t = c.args.self.now in
@@ -108,20 +108,6 @@ touched_after-requires c =
     ap (λ (ps : List StagedOp). has_room c.args.v (held_after_staged c.args.item ps h)) same ∙ sym room
     ∙ ap (λ (u : StagedItems). has_room_in c.args.v c.args.item (pending u t)) view ∙ c.requires now
 
-pub returns-in_default-2-clause-may : goal.returns-in_default-2-clause-may
-returns-in_default-2-clause-may c =
-    let s = c.staged.inside.entries.items in
-    let os = c.staged.inside.ops.items in
-    let t = c.args.self.now in
-    let h = c.in-Some.held.now in
-    let at = c.staged_place-place.ensures ∙ ap (λ (z : Table). item_place c.args.item z) c.deref.ensures.value in
-    let le : length s ≤ item_place c.args.item s = omega arith in
-    let same = c.deref-2.ensures.value ∙ OnFalse_at c.if-branch.false c.in_ok-note_op.ensures.not_noted in
-    let told = rw c.in_default-2.is at c.in_ok-next.ensures.may in
-    told ∙ ap (λ (ps : List StagedOp). may_touch c.args.v c.args.op.now (held_after_staged c.args.item ps h)) same
-    ∙ sym (may-is c.args.v c.args.item s os t h (sym c.in-Some.ensures) le c.args.op.now)
-    ∙ ap (λ (u : StagedItems). may_touch_in c.args.v c.args.item c.args.op.now (pending u t)) c.staged.view_is
-
 pub returns-clause-may : goal.returns-clause-may
 returns-clause-may c =
     let s = c.staged.inside.entries.items in
@@ -131,10 +117,10 @@ returns-clause-may c =
     let at = c.staged_place-place.ensures ∙ ap (λ (z : Table). item_place c.args.item z) c.deref.ensures.value in
     let le : length s ≤ item_place c.args.item s = omega arith in
     let same = c.deref-2.ensures.value ∙ OnFalse_at c.if-branch.false c.in_ok-note_op.ensures.not_noted in
-    let told = rw c.in-Some-2.is at c.in_ok-next.ensures.may in
-    told ∙ ap (λ (ps : List StagedOp). may_touch c.args.v c.args.op.now (held_after_staged c.args.item ps h)) same
+    let told = ap (λ (ps : List StagedOp). may_touch c.args.v c.args.op.now (held_after_staged c.args.item ps h)) same
     ∙ sym (may-is c.args.v c.args.item s os t h (sym c.in-Some.ensures) le c.args.op.now)
-    ∙ ap (λ (u : StagedItems). may_touch_in c.args.v c.args.item c.args.op.now (pending u t)) c.staged.view_is
+    ∙ ap (λ (u : StagedItems). may_touch_in c.args.v c.args.item c.args.op.now (pending u t)) c.staged.view_is in
+    subst (λ (b : Bool). IfOk c.push_touched.result (λ made. made ≡ b)) told c.push_touched.ensures.may
 
 pub returns-clause-made : goal.returns-clause-made
 returns-clause-made c =
@@ -145,10 +131,13 @@ returns-clause-made c =
     let at = c.staged_place-place.ensures ∙ ap (λ (z : Table). item_place c.args.item z) c.deref.ensures.value in
     let le : length s ≤ item_place c.args.item s = omega arith in
     let none = OnFalse_at c.if-branch.false c.in_ok-note_op.ensures.not_noted in
-    let told = rw c.in-Some-2.is at c.in_ok-next.ensures.made in
-    let is = told ∙ ap (λ (ps : List StagedOp). touched c.args.v c.args.op.now (held_after_staged c.args.item ps h))
+    let k = touched c.args.v c.args.op.now (held_after_staged c.args.item c.deref-2.result.now h) in
+    let is = ap (λ (ps : List StagedOp). touched c.args.v c.args.op.now (held_after_staged c.args.item ps h))
     (c.deref-2.ensures.value ∙ none) in
-    ap (λ (ps : List StagedOp). pending (staged_items c.push.new.self.items ps) t) none
-    ∙ ap (λ (z : Table). pending (staged_items z os) t) c.in_ok-push.ensures.items
-    ∙ copied-touched c.args.v c.args.item s os t h (sym c.in-Some.ensures) le c.args.op.now c.in-Some-2.next is
-    ∙ ap (λ (u : StagedItems). touched_in c.args.v c.args.item c.args.op.now (pending u t)) c.staged.view_is
+    if_made c.push_touched.result
+    (λ (e : c.push_touched.new.entries.items ≡ s ++ (c.args.item, k) ∷ []).
+    ap (λ (ps : List StagedOp). pending (staged_items c.push_touched.new.entries.items ps) t) none
+    ∙ ap (λ (z : Table). pending (staged_items z os) t) e
+    ∙ copied-touched c.args.v c.args.item s os t h (sym c.in-Some.ensures) le c.args.op.now k is
+    ∙ ap (λ (u : StagedItems). touched_in c.args.v c.args.item c.args.op.now (pending u t)) c.staged.view_is)
+    c.push_touched.ensures.made
