@@ -36,6 +36,6 @@ abbrev pub letters_held : InHand → List Letter
 letters_held (Unplaced e rest) = e.letter ∷ left_in rest
 letters_held _ = []
 
--- what is held goes where it belongs: sorted in, it makes of the trays what all of these letters make of the old ones
+-- what is held goes where it belongs: sorted in, it makes of the trays what all of these messages make of the old ones
 abbrev pub WouldGo : PostId → List Letter → List (List EnvelopeData) → List (List EnvelopeData) → InHand → Type 0
 WouldGo post letters old new held = all_sorted_in post (letters_held held) new ≡ all_sorted_in post letters old

@@ -50,7 +50,7 @@ MayKeep (Asked from row) r = IsRowOf from.0 row r
 abbrev pub nudged : CountData → CountData
 nudged c = record c { flag = true }
 
--- what the verdict asks for: if a pair differs another round begins at once if a transaction was answered, else with
+-- what the verdict asks for: if a pair differs, another round begins at once if a transaction was answered, else with
 -- the next nudge
 abbrev pub by_verdict : Option Bool → Bool → Counted
 by_verdict None flag = Goes

@@ -18,7 +18,7 @@ abbrev pub decided_text : ScriptData → List Act → ℕ → List Sub → Bool 
 decided_text s acts t subs true = codes " committed" ++ got_text s (got_from acts t 0 subs)
 decided_text s acts t subs false = codes " aborted" ++ why_text s (cause_from acts t 0 subs)
 
--- how transaction t came out, by what these acts decide; if they decide nothing there is no text
+-- how transaction t came out, by what these acts decide; if they decide nothing, there is no text
 abbrev pub outcome_of : ScriptData → List Act → ℕ → List Sub → List ℕ
 outcome_of s acts t subs = option_map_or (decided_text s acts t subs) (decision_in t acts) []
 

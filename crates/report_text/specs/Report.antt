@@ -45,7 +45,7 @@ tree_line tree Read (Some v) values outcome = read_line tree.name v.0 (values v.
 tree_line tree Strict (Some v) values outcome = strict_line tree.name v.0 outcome
 tree_line tree _ _ values outcome = []
 
--- if the list begins with transaction t
+-- the same, if the list begins with transaction t
 abbrev pub trees_text : ScriptData → List Entry → ℕ → List Tree → List ℕ
 trees_text s h t [] = []
 trees_text s h t (x ∷ xs) =

@@ -1,5 +1,4 @@
--- What the client does with a message, by what it hears from it. These are the definitions that private code alone
--- cites.
+-- What the client does with a message, by what it hears from it. These are the definitions that private code alone cites.
 use Rattle.std.specs.Prelude.{if◌then◌else◌, ℕ, nat_lt, length}
 use Rattle.tv_base.specs.declared.numbers.Version.{Version}
 use Rattle.tx_trees.specs.ScriptData.{ScriptData}

@@ -11,7 +11,7 @@ use Rattle.client_rows.specs.declared.places.RowPlace.{RowPlace}
 abbrev pub is_over : RowPlace → ℕ → Bool
 is_over at ended = (at.unanswered == 0) && nat_le at.asked ended
 
--- the place with that many rows submitted and these transactions answered
+-- the place with this many rows submitted and these transactions answered
 abbrev pub place_at : List ScriptRow → List Bool → ℕ → RowPlace
 place_at rows answered next = record {
   next = next;
@@ -26,14 +26,14 @@ waits at ended (TreeRow t) = false
 waits at ended SettleRow = not (is_over at ended)
 waits at ended _ = false
 
--- a state that knows these transactions answered and that many advancements ended
+-- a state that knows these transactions answered and this many advancements ended
 abbrev pub knowing : List Bool → ℕ → Client
 knowing answered ended = record { next = 0; answered = answered; ended = ended; finished = false }
 
--- how many rows are submitted in the end, if that many are by now
+-- how many rows are submitted in the end, if `next` are by now
 abbrev pub furthest : List Bool → ℕ → List ScriptRow → ℕ → ℕ
 furthest answered ended rows next = next + submitted (knowing answered ended) (take next rows) (drop next rows)
 
--- the place with as many rows submitted as are in the end, if that many are by now
+-- the place with as many rows submitted as are in the end, if `next` are by now
 abbrev pub furthest_place : List ScriptRow → List Bool → ℕ → ℕ → RowPlace
 furthest_place rows answered ended next = place_at rows answered (furthest answered ended rows next)

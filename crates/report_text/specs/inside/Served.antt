@@ -57,7 +57,7 @@ AreTold s h asks n texts =
     (i : ℕ) (d : Member) → i < n
     → slice_get texts (slice_index_or asks i d).tree.0 ≡ Some (values_of_tree s h (slice_index_or asks i d).tree.0)
 
--- that many were asked for, the others are of the version that was reached or of later ones
+-- those before the place show their values, and the others are of the version that was reached or of later ones
 pub record IsServed (s : ScriptData) (h : List Entry) (serial asks : List Member) (texts : List (List ℕ))
     (r : Served) : Type 0 where
   pub place : r.place ≤ length asks
@@ -67,7 +67,7 @@ pub record IsServed (s : ScriptData) (h : List Entry) (serial asks : List Member
   pub count : length texts ≡ length s.trees
   pub told : AreTold s h asks r.place texts
 
--- that many of a run's
+-- the same of a run
 abbrev pub IsServedIn : Run → List Member → List (List ℕ) → Served → Type 0
 IsServedIn run asks texts r = IsServed run.script.now run.history.now run.serial.now asks texts r
 
