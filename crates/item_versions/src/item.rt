@@ -1,4 +1,4 @@
-ghost use Rattle.std.specs.Prelude.{◌≡◌, ◌+◌, ◌++◌, ◌∷◌, ◌≤◌, [], drop, is_some, length, IfOk, IfSome, OnOk, OnErr, Some, IsTrue};
+ghost use Rattle.std.specs.Prelude.{◌≡◌, ◌+◌, ◌++◌, ◌∷◌, ◌≤◌, [], drop, length, IfOk, OnOk, OnErr, Some, IsTrue};
 ghost use Rattle.arrayvec.specs.ArrayVec.{array_vec_len};
 ghost use Rattle.item_versions.specs.inside.InPlace.{raised_from};
 ghost use Rattle.item_versions.specs.Item.{IsHeld, held_in_place, entry_in_place, value_in_place, seen, below, above, applied_to_all, touched, collected, may_apply_above, may_touch, holds, has_room, has_bag, put_value, CanCollect};
@@ -104,24 +104,6 @@ impl Item {
     {
         let held = held_after(alloc, self.held.as_slice(), v, op)?;
         Ok(Item { held })
-    }
-
-    /// The item as it is after an update in version `v`, or none if the update may not be made.
-    pub(crate) fn touched_if_may(
-        &self,
-        alloc: Global,
-        v: Version,
-        op: &Op,
-    ) -> Result<Option<Item>, NoMemory>
-        requires room { IsTrue (may_touch v op.now self.now) → IsTrue (has_room v self.now) }
-        ensures may { IfOk result (λ next. is_some next ≡ may_touch v op.now self.now) }
-        ensures made { IfOk result (λ next. IfSome next (λ i. i ≡ touched v op.now self.now)) }
-    {
-        if !self.may_touch(v, op) {
-            return Ok(None);
-        }
-        let next = self.touched(alloc, v, op)?;
-        Ok(Some(next))
     }
 
     /// Whether version `v` is held, and it and every later version are tops, or sums of at most this magnitude, of the

@@ -1,10 +1,10 @@
-ghost use Rattle.std.specs.Prelude.{◌≡◌, ◌+◌, ◌++◌, ◌∷◌, ◌<◌, ◌≤◌, [], is_some, length, slice_get, slice_index_or, vec_capacity, vec_len, IfOk, IfSome, IfNone, IsTrue, OnOk, OnErr, Some};
+ghost use Rattle.std.specs.Prelude.{◌≡◌, ◌+◌, ◌++◌, ◌∷◌, ◌<◌, ◌≤◌, [], length, slice_get, slice_index_or, vec_capacity, vec_len, IfOk, IfSome, IfNone, IsTrue, OnOk, OnErr, Some};
 ghost use Rattle.std.specs.Bool.{OnFalse, OnTrue};
 ghost use Rattle.std.specs.Option.{option_copied};
 ghost use Rattle.std.specs.List.{All};
 ghost use Rattle.item_versions.specs.Item.{CanCollect, IsHeld, collected, has_room, held_in_place, may_touch, put_value, touched};
 ghost use Rattle.item_versions.specs.Table.{HasAscendingItems, IsAfter, IsHeldTable, IsTable, item_in, replaced, pending, table_in_place, touched_in, may_touch_in, has_room_in, put_value_in, ChangesAt};
-ghost use Rattle.item_versions.specs.inside.StagedOps.{amounts_of, copied_over, has_op, held_after_staged, op_amount, table_after_staged, takes_in_place};
+ghost use Rattle.item_versions.specs.inside.StagedOps.{amounts_of, copied_over, has_op, held_after_staged, op_amount, table_after_staged, takes_in_place, with_touched};
 ghost use Rattle.item_versions.specs.inside.Places.{item_place};
 
 use crate::item::Item;
@@ -441,29 +441,28 @@ fn note_op(
     Ok(true)
 }
 
-/// What an item, which may have operations staged and isn't copied yet, is after an update, or none if the update may
-/// not be made.
-fn touched_after(
-    held: &Item,
-    ops: &[StagedOp],
-    alloc: Global,
+/// Adds an item as it is after an update, if the update may be made. False exactly if it may not.
+fn push_if_may(
+    entries: &mut Vec<(ItemNo, Item)>,
+    now: &Item,
     v: Version,
     item: ItemNo,
     op: &Op,
-) -> Result<Option<Item>, NoMemory>
-    requires { IsTrue (may_touch v op.now (held_after_staged item ops.now held.now))
-        → IsTrue (has_room v (held_after_staged item ops.now held.now)) }
-    ensures may { IfOk result (λ next.
-        is_some next ≡ may_touch v op.now (held_after_staged item ops.now held.now)) }
-    ensures made { IfOk result (λ next. IfSome next
-        (λ i. i ≡ touched v op.now (held_after_staged item ops.now held.now))) }
+) -> Result<bool, NoMemory>
+    requires { IsTrue (may_touch v op.now now.now) → IsTrue (has_room v now.now) }
+    ensures may { IfOk result (λ made. made ≡ may_touch v op.now now.now) }
+    ensures made { IfOk result (λ made. OnTrue made
+        (entries.new.items ≡ entries.old.items ++ (item, touched v op.now now.now) ∷ [])) }
+    ensures not_made { IfOk result (λ made. OnFalse made (entries.new.items ≡ entries.old.items)) }
+    ensures err { OnErr result (entries.new.items ≡ entries.old.items) }
 {
-    if !has_op(ops, item) {
-        return held.touched_if_may(alloc, v, op);
+    if !now.may_touch(v, op) {
+        return Ok(false);
     }
-    let mut now = held.copy(alloc)?;
-    make_ops(&mut now, item, ops);
-    now.touched_if_may(alloc, v, op)
+    let alloc = *entries.allocator();
+    let next = now.touched(alloc, v, op)?;
+    entries.push((item, next))?;
+    Ok(true)
 }
 
 /// Adds a copy of an item as it is after an update, if the update may be made. False exactly if it may not. The item may
@@ -481,16 +480,17 @@ fn push_touched(
         → IsTrue (has_room v (held_after_staged item ops.now held.now)) }
     ensures may { IfOk result (λ made. made ≡ may_touch v op.now (held_after_staged item ops.now held.now)) }
     ensures made { IfOk result (λ made. OnTrue made (entries.new.items
-        ≡ entries.old.items ++ (item, touched v op.now (held_after_staged item ops.now held.now)) ∷ [])) }
+        ≡ with_touched entries.old.items item v op.now (held_after_staged item ops.now held.now))) }
     ensures not_made { IfOk result (λ made. OnFalse made (entries.new.items ≡ entries.old.items)) }
     ensures err { OnErr result (entries.new.items ≡ entries.old.items) }
 {
+    if !has_op(ops, item) {
+        return push_if_may(entries, held, v, item, op);
+    }
     let alloc = *entries.allocator();
-    let Some(next) = touched_after(held, ops, alloc, v, item, op)? else {
-        return Ok(false);
-    };
-    entries.push((item, next))?;
-    Ok(true)
+    let mut now = held.copy(alloc)?;
+    make_ops(&mut now, item, ops);
+    push_if_may(entries, &now, v, item, op)
 }
 
 /// Puts the copies in their places.

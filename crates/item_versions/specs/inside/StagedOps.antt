@@ -8,7 +8,7 @@ use Rattle.commute_ops.specs.declared.kinds.Op.TheVariants.{Add, Top as Raise, P
 use Rattle.commute_ops.specs.declared.value.Value.{Value}
 use Rattle.commute_ops.specs.declared.value.Value.TheVariants.{Sum, Top}
 use Rattle.item_versions.specs.declared.table.StagedOp.{StagedOp}
-use Rattle.item_versions.specs.Item.{Held, held_in_place, holds}
+use Rattle.item_versions.specs.Item.{Held, held_in_place, holds, touched}
 use Rattle.item_versions.specs.Table.{Table, StagedItems, Copied, InPlace, replaced, table_in_place}
 
 -- copies of items
@@ -40,6 +40,10 @@ abbrev pub held_after_staged : ItemNo → List StagedOp → Held → Held
 held_after_staged n [] h = h
 held_after_staged n (o ∷ os) h =
     held_after_staged n os (if o.item.0 == n.0 then held_in_place o.version o.op h else h)
+
+-- a table with an item behind it, as it is after an update
+abbrev pub with_touched : Table → ItemNo → Version → Op → Held → Table
+with_touched t item v op h = t ++ (item, touched v op h) ∷ []
 
 -- one of them is on the item
 abbrev pub has_op : ItemNo → List StagedOp → Bool
