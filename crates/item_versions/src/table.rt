@@ -60,6 +60,21 @@ impl Staged {
         let entries = Vec::with_capacity(alloc, room)?;
         Ok(Staged { entries })
     }
+
+    /// Makes room for `room` more items.
+    pub fn make_room(&mut self, room: usize) -> Result<(), NoMemory>
+        ensures { self.new ≡ self.old }
+    {
+        self.entries.reserve(room)?;
+        Ok(())
+    }
+
+    /// Nothing is staged any more. The room stays.
+    pub fn clear(&mut self)
+        ensures { self.new ≡ [] }
+    {
+        self.entries.clear();
+    }
 }
 
 impl ItemTable {
@@ -235,17 +250,25 @@ impl ItemTable {
         Ok(())
     }
 
-    /// Puts every staged item in its place. It needs no memory.
+    /// Puts every staged item in its place. Then nothing is staged; the room for it stays. It needs no memory.
     #[tactic(auto, using(crate::proofs::Holding::putting))]
-    pub fn put_staged(&mut self, staged: Staged)
-        ensures { self.new ≡ pending staged self.old }
+    pub fn put_from(&mut self, staged: &mut Staged)
+        ensures table { self.new ≡ pending staged.old self.old }
+        ensures staged { staged.new ≡ [] }
     {
-        let mut entries = staged.entries;
-        while let Some((item, next)) = entries.pop() {
+        while let Some((item, next)) = staged.entries.pop() {
             // The reader says that the versions ascend.
             let _held = next.held();
             replace(&mut self.entries, item, next);
         }
+    }
+
+    /// Puts every staged item in its place. It needs no memory.
+    pub fn put_staged(&mut self, staged: Staged)
+        ensures { self.new ≡ pending staged self.old }
+    {
+        let mut staged = staged;
+        self.put_from(&mut staged);
     }
 }
 

@@ -149,7 +149,7 @@ impl<K: ClusterName> ActorCell<K> {
             script,
             &mut self.scratch,
         ) else {
-            wipe(alloc, &mut self.scratch);
+            wipe(&mut self.scratch);
             return Err((NoMemory, envelope));
         };
         Ok(self.log.enter(post, envelope, script, out, copy, made))

@@ -18,7 +18,6 @@ use crate::node_core::NodeCore;
 use crate::plan::{Doing, HoldPlan, HomePlan, Plan, Scratch, TreePlan, VotePlan};
 use crate::refusals::Refusals;
 use commute_ops::Values;
-use item_versions::Staged;
 use nc_locks::Locks;
 use node_versions::Turns;
 use pair_counters::Counters;
@@ -65,8 +64,7 @@ fn do_tree(alloc: Global, parts: &mut NodeParts, plan: TreePlan, scratch: &mut S
     do_home(&mut parts.homes, plan, values);
     raise_if(&mut parts.turns, plan.raises, plan.counting.version);
     count(&mut parts.counters, &plan.counting, scratch.sent.items());
-    let staged = mem::replace(&mut scratch.staged, Staged::new(alloc));
-    parts.items.put_staged(staged);
+    parts.items.put_from(&mut scratch.staged);
 }
 
 /// The parts do what is planned, if no tree is to be opened. It needs no memory.

@@ -136,18 +136,28 @@ pub fn new_scratch(alloc: Global) -> Scratch
     }
 }
 
-/// Takes what goes out from a scratch, in which nothing is left.
+/// Takes what goes out from a scratch, in which nothing is left. The room of the rest stays.
 pub fn take_out(alloc: Global, scratch: &mut Scratch) -> StepOut
     ensures out { result ≡ out_in scratch.old }
     ensures empty { IsEmpty scratch.new }
 {
-    let Scratch { sent, acts, .. } = mem::replace(scratch, new_scratch(alloc));
+    let sent = mem::replace(&mut scratch.sent, Letters::new(alloc));
+    let acts = mem::replace(&mut scratch.acts, Acts::new(alloc));
+    wipe(scratch);
     StepOut { sent, acts }
 }
 
-/// Leaves nothing in a scratch.
-pub fn wipe(alloc: Global, scratch: &mut Scratch)
+/// Leaves nothing in a scratch. The room stays. It needs no memory.
+pub fn wipe(scratch: &mut Scratch)
     ensures { IsEmpty scratch.new }
 {
-    *scratch = new_scratch(alloc);
+    scratch.staged.clear();
+    scratch.values.clear();
+    scratch.held.clear();
+    scratch.told.clear();
+    scratch.wanted.clear();
+    scratch.refusal = None;
+    scratch.letter = None;
+    scratch.sent.clear();
+    scratch.acts.clear();
 }

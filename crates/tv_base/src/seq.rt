@@ -87,6 +87,27 @@ impl<T, const MOST: usize> Seq<T, MOST> {
         Ok(())
     }
 
+    /// Makes room for `room` more items. A list that would be too long, or finds no memory, stays as it is.
+    pub fn make_room(&mut self, room: usize) -> Result<(), NoMemory>
+        ensures items { self.new ≡ self.old }
+        ensures ok { OnOk result (length self.old + room ≤ MOST) }
+    {
+        if MOST - self.inner.len() < room {
+            return Err(NoMemory);
+        }
+        self.inner.reserve(room)?;
+        Ok(())
+    }
+
+    /// Lets all items go. The room stays.
+    pub fn clear(&mut self)
+    where
+        T: Drop,
+        ensures { self.new ≡ [] }
+    {
+        self.inner.clear();
+    }
+
     /// Takes the last item off. None exactly if the list is empty.
     pub fn pop(&mut self) -> Option<T>
         ensures none { IsNone result ↔ (self.old ≡ []) }

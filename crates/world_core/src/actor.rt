@@ -172,21 +172,21 @@ pub fn actor_done(
         },
         ActorPlan::Coordinator(prepared) => match state {
             ActorState::Coordinator(coordinator) => {
-                wipe(alloc, scratch);
+                wipe(scratch);
                 Ok(coordinator.done(prepared.into_inner()))
             }
             _ => unreachable!(),
         },
         ActorPlan::Restarting(prepared) => match state {
             ActorState::Restarting(restarting) => {
-                wipe(alloc, scratch);
+                wipe(scratch);
                 Ok(restarting.done(prepared.into_inner()))
             }
             _ => unreachable!(),
         },
         ActorPlan::Client(prepared) => match state {
             ActorState::Client(client) => {
-                wipe(alloc, scratch);
+                wipe(scratch);
                 Ok(client.done(prepared))
             }
             _ => unreachable!(),

@@ -15,11 +15,10 @@ ghost use Rattle.world_core.specs.Prepared.{IsLetterPlan};
 
 use crate::orders::is_obeyed_now;
 use crate::plan::choose_core;
-use letter_types::{Acts, Body, KeepReason, Letter, What};
+use letter_types::{Body, KeepReason, Letter, What};
 use node_keeping::{CoreChoice, KeepPlan, KeepingParts, KeptPlan, NodePlan};
 use std::alloc::Global;
-use std::mem;
-use tree_step::{NodeCore, Plan, Scratch, wipe};
+use tree_step::{NodeCore, Plan, Scratch};
 use tv_base::{NoMemory, Version};
 use tx_trees::Script;
 
@@ -36,15 +35,14 @@ fn copy_letter(alloc: Global, letter: &Letter) -> Result<Letter, NoMemory>
     })
 }
 
-/// Leaves nothing but the acts in a scratch.
-fn leave_acts(alloc: Global, scratch: &mut Scratch)
+/// Leaves no messages to be sent in a scratch, and none to be deferred.
+fn leave_acts(scratch: &mut Scratch)
     ensures acts { scratch.new.acts ≡ scratch.old.acts }
     ensures none_sent { scratch.new.sent ≡ [] }
     ensures no_letter { scratch.new.letter ≡ None }
 {
-    let acts = mem::replace(&mut scratch.acts, Acts::new(alloc));
-    wipe(alloc, scratch);
-    scratch.acts = acts;
+    scratch.sent.clear();
+    scratch.letter = None;
 }
 
 /// Puts a copy of a message that is deferred into the scratch, unless it is a Wake: then what it called is deferred
@@ -89,7 +87,7 @@ fn plan_keep(
 {
     let _ = node;
     let _ = brought;
-    leave_acts(alloc, scratch);
+    leave_acts(scratch);
     put_kept(alloc, letter, keep, scratch)?;
     Ok(NodePlan::Keeps(keep))
 }
@@ -184,12 +182,13 @@ fn plan_does(
 }
 
 /// A step that changes and sends nothing.
-fn still(alloc: Global, node: &KeepingParts, scratch: &mut Scratch) -> NodePlan
+fn still(node: &KeepingParts, scratch: &mut Scratch) -> NodePlan
     requires { IsSettled node.now }
     ensures { IsPlanned (still (keeping_of node.now)) node.now result scratch.new }
 {
     let _ = node;
-    wipe(alloc, scratch);
+    scratch.sent.clear();
+    scratch.acts.clear();
     NodePlan::Still
 }
 
@@ -210,10 +209,10 @@ pub(crate) fn plan_letter(
     ensures { IfOk result (λ plan. IsLetterPlan script.now letter.now node.now plan scratch.new) }
 {
     let Some(brought) = node.kept.brought(letter) else {
-        return Ok(still(alloc, node, scratch));
+        return Ok(still(node, scratch));
     };
     match choose_core(alloc, &node.core, brought, script, scratch)? {
-        CoreChoice::Still => Ok(still(alloc, node, scratch)),
+        CoreChoice::Still => Ok(still(node, scratch)),
         CoreChoice::Keeps(keep) => plan_keep(alloc, node, letter, brought, keep, scratch),
         CoreChoice::Does(plan) => plan_does(node, letter, brought, plan, scratch),
     }

@@ -326,7 +326,7 @@ impl World {
     {
         let result = advance(self.alloc, script, &mut self.flow, &mut self.scratch, k);
         if result.is_err() {
-            wipe(self.alloc, &mut self.scratch);
+            wipe(&mut self.scratch);
         }
         result
     }
