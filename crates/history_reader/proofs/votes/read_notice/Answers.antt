@@ -16,9 +16,10 @@ returns-in_default c =
 pub returns-then-not-is_strict : goal.returns-then-not-is_strict
 returns-then-not-is_strict c =
     let s = c.args.script.now in
-    let read = rw c.in-Some.is at c.in_ok-values.ensures in
-    (read.0 ∙ sym (append-nil (got_words s c.in-Some.values)),
-    (subst (λ (b : Bool). HasStrictness b (slice_get s.trees c.args.tree.0)) c.if-not-is_strict.true c.is_strict.ensures, (read.1, tt)))
+    let read = rw c.in-Some.is at c.in_ok-values.ensures in (
+      read.0 ∙ sym (append-nil (got_words s c.in-Some.values)),
+      (subst (λ (b : Bool). HasStrictness b (slice_get s.trees c.args.tree.0)) c.if-not-is_strict.true c.is_strict.ensures, (read.1, tt)),
+    )
 
 pub returns-in_default-2 : goal.returns-in_default-2
 returns-in_default-2 c =
