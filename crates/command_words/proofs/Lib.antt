@@ -1,5 +1,4 @@
 pub mod Parse
-pub mod Digits
 pub mod Getters
 pub mod Fields
 pub mod Plain

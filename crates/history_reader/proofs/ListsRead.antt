@@ -1,9 +1,10 @@
 -- Rows, notices and answers that are read.
-use Rattle.std.proofs.Common.{◌≡◌, ◌<◌, ◌∙◌, ◌∷◌, ◌++◌, [], List, Bool, true, false, ℕ, length, get_or, map, refl, sym, ap, subst, arith}
-use Rattle.std.specs.Prelude.{codes, decimal, Option, Some, None, slice_get}
+use Rattle.std.proofs.Common.{◌≡◌, ◌<◌, ◌≢◌, ◌∙◌, ◌∷◌, ◌++◌, [], List, Bool, true, false, ℕ, length, get_or, map, refl, sym, ap, subst, arith}
+use Rattle.std.specs.Prelude.{codes, decimal, IfOk, Option, Some, None, Result, Ok, Err, slice_get}
 use Rattle.std.proofs.lemmas.List.{append-nil, length-map}
 use Rattle.std.proofs.lemmas.Option.{slice_get-get_or}
 use Rattle.tv_base.specs.declared.numbers.ItemNo.{ItemNo}
+use Rattle.tv_base.specs.declared.numbers.NoMemory.{NoMemory}
 use Rattle.tv_base.specs.declared.numbers.TreeNo.{TreeNo}
 use Rattle.commute_ops.specs.declared.value.Value.{Value}
 use Rattle.letter_types.specs.declared.bodies.Answer.{Answer}
@@ -123,3 +124,8 @@ answer_named s u seen None valid there exact = λ t a same is may. by t a same i
     by t a same is may =
         let trees : t.0 ≡ u.0 = tree_one s t.0 u.0 valid (answer_there s t.0 a may) there (sym same) in
         exact a (subst (λ (k : ℕ). seen ≡ answer_words s k a) trees is) (subst (λ (k : ℕ). IsAnswer s k a) trees may)
+
+pub answers_named : (s : ScriptData) (u : TreeNo) (seen : List (List ℕ)) (r : Result (Option Answer) NoMemory) → IsValid s → HasTree s u → IfOk r (IsReadBack (answer_words s u.0) (IsAnswer s u.0) seen)
+    → IfOk r (λ read. IsAnswerRead s u seen read)
+answers_named s u seen (Ok read) valid there exact = answer_named s u seen read valid there exact
+answers_named s u seen (Err e) valid there exact = tt

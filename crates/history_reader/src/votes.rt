@@ -3,7 +3,7 @@ ghost use Rattle.std.specs.Prelude.{◌∷◌, true, codes, IfOk, slice_get};
 ghost use Rattle.history_text.specs.Printable.{HasStrictness, IsRow};
 ghost use Rattle.history_text.specs.Exact.{IsReadBack};
 ghost use Rattle.history_text.specs.Words.{HasTree};
-ghost use Rattle.history_reader.specs.inside.BodyWords.{AreLineWords, IsAnswer, IsAnswerRead, IsNotice, IsNoticeRead, IsVote, answer_words, notice_words, number_words, vote_words};
+ghost use Rattle.history_reader.specs.inside.BodyWords.{AreLineWords, IsAnswer, IsAnswerRead, IsNoticeRead, IsVote, answer_words, number_words, vote_words};
 
 use crate::nexts::is_word;
 use history_text::{Parts, read_cause, read_number, read_values};
@@ -95,17 +95,18 @@ fn is_strict(script: &Script, tree: TreeNo) -> bool
     }
 }
 
-// A notice of a tree: a strict tree's subtransaction votes.
-#[tactic(auto, using(crate::proofs::ListsRead::strictness_one, crate::proofs::ListsRead::no_notice_plain, crate::proofs::ListsRead::no_notice_strict))]
-fn notice_of(
+// A notice of a tree, which is known by its name: a strict tree's subtransaction votes.
+#[tactic(auto, using(crate::proofs::ListsRead::strictness_one))]
+pub(crate) fn read_notice(
     alloc: Global,
     script: &Script,
     tree: TreeNo,
     words: &mut Parts,
 ) -> Result<Option<Notice>, NoMemory>
     requires { HasTree script.now tree }
-    ensures { IfOk result (IsReadBack (notice_words script.now tree.0) (IsNotice script.now tree.0) words.old) }
+    ensures { IfOk result (λ read. IsNoticeRead script.now tree words.old read) }
 {
+    let _nodes = script.nodes();
     if !is_strict(script, tree) {
         let Some(values) = read_values(alloc, script, words)? else {
             return Ok(None);
@@ -119,42 +120,6 @@ fn notice_of(
         Vote::Yes(values) => Ok(Some(Notice::Yes(values))),
         Vote::No(cause) => Ok(Some(Notice::No(cause))),
     }
-}
-
-// The same, where the tree is known by its name.
-#[tactic(auto, using(crate::proofs::ListsRead::notice_named))]
-pub(crate) fn read_notice(
-    alloc: Global,
-    script: &Script,
-    tree: TreeNo,
-    words: &mut Parts,
-) -> Result<Option<Notice>, NoMemory>
-    requires { HasTree script.now tree }
-    ensures { IfOk result (λ read. IsNoticeRead script.now tree words.old read) }
-{
-    let _nodes = script.nodes();
-    let read = notice_of(alloc, script, tree, words)?;
-    Ok(read)
-}
-
-// What the client is told of a tree.
-#[tactic(auto, using(crate::proofs::ListsRead::no_answer_plain, crate::proofs::ListsRead::answer_plain))]
-fn answer_of(
-    alloc: Global,
-    script: &Script,
-    tree: TreeNo,
-    words: &mut Parts,
-) -> Result<Option<Answer>, NoMemory>
-    requires { HasTree script.now tree }
-    ensures { IfOk result (IsReadBack (answer_words script.now tree.0) (IsAnswer script.now tree.0) words.old) }
-{
-    if is_strict(script, tree) {
-        return strict_answer(alloc, script, tree, words);
-    }
-    let Some(values) = read_values(alloc, script, words)? else {
-        return Ok(None);
-    };
-    Ok(Some(Answer::Whole(values)))
 }
 
 // What the client is told of a strict tree.
@@ -187,8 +152,8 @@ fn strict_answer(
     Ok(None)
 }
 
-// The same, where the tree is known by its name.
-#[tactic(auto, using(crate::proofs::ListsRead::answer_named))]
+// What the client is told of a tree, which is known by its name.
+#[tactic(auto, using(crate::proofs::ListsRead::answer_plain))]
 pub(crate) fn read_answer(
     alloc: Global,
     script: &Script,
@@ -199,6 +164,11 @@ pub(crate) fn read_answer(
     ensures { IfOk result (λ read. IsAnswerRead script.now tree words.old read) }
 {
     let _nodes = script.nodes();
-    let read = answer_of(alloc, script, tree, words)?;
-    Ok(read)
+    if is_strict(script, tree) {
+        return strict_answer(alloc, script, tree, words);
+    }
+    let Some(values) = read_values(alloc, script, words)? else {
+        return Ok(None);
+    };
+    Ok(Some(Answer::Whole(values)))
 }

@@ -1,5 +1,5 @@
--- How large a number of that many digits is.
-use Rattle.std.proofs.Common.{◌≡◌, ◌+◌, ◌*◌, ◌<◌, ◌≤◌, ◌^◌, ◌∷◌, [], List, true, ℕ, zero, suc, length, take, refl, ap, arith, length-take}
+-- How large the number is that a list of digits spells.
+use Rattle.std.proofs.Common.{◌≡◌, ◌+◌, ◌*◌, ◌<◌, ◌≤◌, ◌^◌, ◌∷◌, [], List, true, ℕ, suc, length, ap, arith}
 use Rattle.std.specs.Char.{is_ascii_digit}
 use Rattle.std.specs.List.{list_all, fold}
 use Rattle.std.proofs.Math.Nat.{mul-le-mul_left, pow-le-pow_right, pow-succ'}
@@ -24,15 +24,3 @@ below v (d ∷ ds) h =
 pub small_value : (most : ℕ) (ds : List ℕ) → list_all is_ascii_digit ds ≡ true → length ds ≤ most → decimal_value ds < 10 ^ most
 small_value most ds h few =
     omega (arith, below 0 ds h, pow-le-pow_right {n = 10} (omega arith) {i = length ds} {j = most} few)
-
--- the first of some digits are digits
-pub first_digits : (i : ℕ) (ds : List ℕ) → list_all is_ascii_digit ds ≡ true → list_all is_ascii_digit (take i ds) ≡ true
-first_digits zero ds h = refl
-first_digits (suc i) [] h = refl
-first_digits (suc i) (d ∷ ds) h =
-    rw (left_true (is_ascii_digit d) (list_all is_ascii_digit ds) h) (first_digits i ds (right_true (is_ascii_digit d) (list_all is_ascii_digit ds) h))
-
--- so the first 30 of them leave room for one more
-pub has_room : (i : ℕ) (ds : List ℕ) → list_all is_ascii_digit ds ≡ true → i < length ds → length ds ≤ 31 → decimal_value (take i ds) < 10 ^ 31
-has_room i ds h less few =
-    small_value 31 (take i ds) (first_digits i ds h) (omega (arith, length-take i ds))

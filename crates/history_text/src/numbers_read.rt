@@ -1,14 +1,12 @@
 // Numbers and amounts.
-ghost use Rattle.std.specs.Prelude.{◌≡◌, ◌≤◌, ◌<◌, ◌^◌, ◌∷◌, true, false, decimal, length};
-ghost use Rattle.std.specs.Char.{is_ascii_digit};
+ghost use Rattle.std.specs.Prelude.{◌≡◌, ◌≤◌, ◌<◌, ◌^◌, ◌∷◌, false, decimal};
 ghost use Rattle.std.specs.Fmt.{signed_decimal};
-ghost use Rattle.std.specs.List.{list_all};
-ghost use Rattle.tv_base.specs.Digits.{decimal_value};
 ghost use Rattle.history_text.specs.Printable.{IsAmount, IsHalfWord, IsWord};
 ghost use Rattle.history_text.specs.Exact.{IsReadBack};
 ghost use Rattle.history_text.specs.Numbers.{IsSize, begins_with_minus, is_plain_number};
 
 use commute_ops::{Amount, MOST_AMOUNT};
+use tv_base::{all_digits, number_of};
 
 // The most digits of a number of 64 bits.
 const MOST_DIGITS: usize = 20;
@@ -17,7 +15,6 @@ const MOST_DIGITS: usize = 20;
 const MOST_DIGITS_OF_AMOUNT: usize = 31;
 
 /// The number of 64 bits whose decimal digits these are, without a leading zero.
-
 #[tactic(auto, using(crate::proofs::Readings::none_other))]
 pub fn read_number(field: &[u8]) -> Option<u64>
     ensures { IsReadBack decimal IsWord field.now result }
@@ -85,7 +82,7 @@ fn read_size(digits: &[u8]) -> Option<u128>
 }
 
 // The number of at most so many digits, without a leading zero.
-#[tactic(auto, using(crate::proofs::Readings::too_long, crate::proofs::Readings::not_plain, crate::proofs::Readings::is_plain, crate::proofs::Readings::plain_digits))]
+#[tactic(auto, using(crate::proofs::Readings::too_long, crate::proofs::Readings::not_plain))]
 fn plain_number(digits: &[u8], most: usize) -> Option<u128>
     requires { (0 < most) × (most ≤ 31) }
     ensures { IsReadBack decimal (λ n. n < 10 ^ most) digits.now result }
@@ -96,7 +93,7 @@ fn plain_number(digits: &[u8], most: usize) -> Option<u128>
     if !is_plain_number(digits) {
         return None;
     }
-    Some(value(digits))
+    Some(number_of(digits))
 }
 
 // Whether these are decimal digits without a leading zero.
@@ -107,24 +104,4 @@ fn is_plain_number(bytes: &[u8]) -> bool
         [] => false,
         [first, more @ ..] => all_digits(bytes) && (*first != b'0' || more.len() == 0),
     }
-}
-
-fn all_digits(bytes: &[u8]) -> bool
-    ensures { result ≡ list_all is_ascii_digit bytes.now }
-{
-    bytes.iter().all(|b| b'0' <= *b && *b <= b'9')
-}
-
-// The number that these digits spell.
-#[tactic(auto, using(crate::proofs::Sizes::has_room))]
-fn value(digits: &[u8]) -> u128
-    requires few { length digits.now ≤ 31 }
-    requires digits { list_all is_ascii_digit digits.now ≡ true }
-    ensures { result ≡ decimal_value digits.now }
-{
-    let mut value: u128 = 0;
-    for digit in digits {
-        value = value * 10 + (*digit).saturating_sub(b'0') as u128;
-    }
-    value
 }

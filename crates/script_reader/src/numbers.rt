@@ -1,32 +1,12 @@
 // Numbers of 1 to 32 decimal digits, and amounts, which may have a minus sign.
-ghost use Rattle.std.specs.Prelude.{◌≡◌, ◌≤◌, ◌<◌, ◌^◌, length, unsigned_abs, IfSome};
-ghost use Rattle.std.specs.Char.{is_ascii_digit};
-ghost use Rattle.std.specs.List.{list_all};
+ghost use Rattle.std.specs.Prelude.{◌≡◌, ◌<◌, ◌^◌, unsigned_abs, IfSome};
 ghost use Rattle.script_reader.specs.Numbers.{digits_of, is_negative, signed};
-ghost use Rattle.tv_base.specs.Digits.{decimal_value};
 ghost use Rattle.script_reader.specs.inside.Numbers.{amount_of, number_spelled};
 
 use commute_ops::Amount;
+use tv_base::{all_digits, number_of};
 
 const MOST_DIGITS: usize = 32;
-
-fn all_digits(bytes: &[u8]) -> bool
-    ensures { result ≡ list_all is_ascii_digit bytes.now }
-{
-    bytes.iter().all(|b| b'0' <= *b && *b <= b'9')
-}
-
-fn value(bytes: &[u8]) -> u128
-    requires { length bytes.now ≤ 32 }
-    ensures value { result ≡ decimal_value bytes.now }
-    ensures small { result < 10 ^ 34 }
-{
-    let mut value: u128 = 0;
-    for b in bytes {
-        value = value * 10 + (*b).saturating_sub(b'0') as u128;
-    }
-    value
-}
 
 // The number that these bytes spell, if they are 1 to 32 decimal digits.
 pub(crate) fn number(bytes: &[u8]) -> Option<u128>
@@ -34,7 +14,7 @@ pub(crate) fn number(bytes: &[u8]) -> Option<u128>
     ensures small { IfSome result (λ n. n < 10 ^ 34) }
 {
     if bytes.len() >= 1 && bytes.len() <= MOST_DIGITS && all_digits(bytes) {
-        Some(value(bytes))
+        Some(number_of(bytes))
     } else {
         None
     }

@@ -1,9 +1,9 @@
 // What each row does to a script.
-ghost use Rattle.std.specs.Prelude.{◌≡◌, ◌<◌, ◌^◌, Err, None, Ok, Some, true, unsigned_abs};
+ghost use Rattle.std.specs.Prelude.{◌≡◌, ◌<◌, ◌^◌, Err, None, Some, true, unsigned_abs};
 ghost use Rattle.csv.specs.Records.{fields_of};
 ghost use Rattle.tx_trees.specs.Adding.{last_may_fail, last_subs, puts_undone};
 ghost use Rattle.tx_trees.specs.Ranges.{may_start as may_start_in};
-ghost use Rattle.script_reader.specs.Rows.{amount_row, and_then, deed_of, fail_row, first_form, first_row, form_row, item_of, item_row, later_form, later_row, nodes_row, op_row, pick_row, row_word_of, second_form, second_row, sub_row, tree_row};
+ghost use Rattle.script_reader.specs.Rows.{amount_row, deed_of, fail_row, first_form, first_row, form_row, item_of, item_row, later_form, later_row, nodes_row, op_row, pick_row, row_word_of, second_form, second_row, sub_row, tree_row};
 ghost use Rattle.script_reader.specs.Words.{may_be_first, may_follow};
 ghost use Rattle.script_reader.specs.inside.Rows.{HasBegunWith, Leaves, Makes};
 
@@ -250,16 +250,6 @@ fn fail(alloc: Global, script: &mut Script, failed: SubNo) -> Result<(), Refusal
     script.put_undone(failed, expanded)
 }
 
-// The script of a `nodes` row in the first record.
-fn begin(alloc: Global, nodes: &[u8]) -> Result<Option<Script>, Refusal>
-    ensures { HasBegunWith (and_then (nodes_row Form.One nodes.now) (λ s. Ok (Some s))) result }
-{
-    match nodes_row_of(alloc, Form::One, nodes) {
-        Ok(script) => Ok(Some(script)),
-        Err(refusal) => Err(refusal),
-    }
-}
-
 // What the first record is.
 fn first_word(row: &ByteRecord) -> Result<RowWord, Why>
     ensures { result ≡ row_word_of may_be_first (fields_of row.now) }
@@ -293,7 +283,10 @@ fn take_first_word(
 {
     match word {
         RowWord::Form => form_row_of(field(row, 1)),
-        RowWord::Nodes => begin(alloc, field(row, 1)),
+        RowWord::Nodes => {
+            let script = nodes_row_of(alloc, Form::One, field(row, 1))?;
+            Ok(Some(script))
+        }
         _ => Err(Refusal::Why(Why::NodesFirst)),
     }
 }

@@ -11,7 +11,7 @@ use tv_base::Name;
 use tx_trees::{Form, TreeKind, Why, is_plain_name};
 
 // An operation with an amount.
-#[derive(Clone, Copy, Debug, PartialEq, Eq)]
+#[derive(Clone, Copy)]
 pub(crate) enum OpWord {
     Add,
     Top,
@@ -21,7 +21,7 @@ pub(crate) enum OpWord {
 }
 
 // What a row is, by its first field.
-#[derive(Clone, Copy, Debug, PartialEq, Eq)]
+#[derive(Clone, Copy)]
 pub(crate) enum RowWord {
     Form,
     Nodes,

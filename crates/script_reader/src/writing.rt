@@ -1,5 +1,5 @@
 // A script as text.
-ghost use Rattle.std.specs.Prelude.{◌≡◌, ◌≤◌, ◌++◌, ◌∷◌, [], OnOk, IfOk, map, codes, length};
+ghost use Rattle.std.specs.Prelude.{◌≡◌, ◌≤◌, ◌++◌, ◌∷◌, [], OnOk, IfOk, map, codes, decimal, length};
 ghost use Rattle.std.specs.Fmt.{signed_decimal};
 ghost use Rattle.std.specs.Str.{IsAscii};
 ghost use Rattle.tv_base.specs.declared.moving.TheConstants.{MOST_BYTES};
@@ -9,12 +9,12 @@ ghost use Rattle.script_reader.specs.Reading.{read_of};
 ghost use Rattle.script_reader.specs.inside.Numbers.{AreOf32Bits};
 ghost use Rattle.script_reader.specs.Words.{kind_word, tree_word};
 ghost use Rattle.tx_trees.specs.AsciiNames.{AreAsciiItems, AreAsciiTrees};
-ghost use Rattle.script_reader.specs.Written.{deed_fields, fail_fields, form_rows, item_fields, line, lines, nodes_fields, ops_rows, pick_fields, rows_of_row, rows_of_rows, rows_of_tree, sub_fields, subs_rows, tree_fields, tree_rows, written};
+ghost use Rattle.script_reader.specs.Written.{deed_fields, form_rows, item_fields, line, lines, ops_rows, pick_fields, rows_of_row, rows_of_rows, rows_of_tree, sub_fields, subs_rows, tree_fields, tree_rows, written};
 
 use crate::text_fields::{end_row, push_amount, push_field, push_number};
 use commute_ops::{Amount, Kind, Op};
 use std::alloc::Global;
-use tv_base::{ItemNo, NoMemory, NodeNo, SubNo, Text};
+use tv_base::{ItemNo, NoMemory, NodeNo, Text};
 use tx_trees::{Deed, Form, ItemRow, Script, ScriptRow, Sub, SubOp, Tree, TreeKind};
 
 /// The text of a script: the row of the second form, if it is of that form, the `nodes` row, all items, all rows with
@@ -26,7 +26,7 @@ pub fn write_script(alloc: Global, script: &Script) -> Result<Text, NoMemory>
 {
     let mut text = Text::new(alloc);
     push_form(&mut text, script.form())?;
-    push_nodes(&mut text, script.nodes())?;
+    push_number_row(&mut text, b"nodes", script.nodes() as u64)?;
     push_items(&mut text, script.items())?;
     push_rows(&mut text, script.items(), script.trees(), script.rows())?;
     push_picks(&mut text, script.picks())?;
@@ -43,11 +43,13 @@ fn push_form(text: &mut Text, form: Form) -> Result<(), NoMemory>
     }
 }
 
-fn push_nodes(text: &mut Text, nodes: u8) -> Result<(), NoMemory>
-    ensures { OnOk result (text.new ≡ text.old ++ line (nodes_fields nodes)) }
+// A row of a word and a number.
+fn push_number_row(text: &mut Text, word: &[u8], number: u64) -> Result<(), NoMemory>
+    requires { IsAscii word.now }
+    ensures { OnOk result (text.new ≡ text.old ++ line (word.now ∷ decimal number ∷ [])) }
 {
-    text.push_all(b"nodes")?;
-    push_number(text, nodes as u64)?;
+    text.push_all(word)?;
+    push_number(text, number)?;
     end_row(text)
 }
 
@@ -146,18 +148,10 @@ fn push_tree(text: &mut Text, items: &[ItemRow], tree: &Tree) -> Result<(), NoMe
     match &tree.written {
         Some(written) => {
             push_rooted(text, items, tree, written.subs.items())?;
-            push_fail(text, written.failed)
+            push_number_row(text, b"fail", written.failed.0 as u64)
         }
         None => push_rooted(text, items, tree, tree.subs.items()),
     }
-}
-
-fn push_fail(text: &mut Text, failed: SubNo) -> Result<(), NoMemory>
-    ensures { OnOk result (text.new ≡ text.old ++ line (fail_fields failed.0)) }
-{
-    text.push_all(b"fail")?;
-    push_number(text, failed.0 as u64)?;
-    end_row(text)
 }
 
 // A tree with these subtransactions: the root with its operations, and then the others with theirs.
@@ -273,15 +267,7 @@ fn push_picks(text: &mut Text, picks: &[u32]) -> Result<(), NoMemory>
     ensures small { AreOf32Bits picks.now }
 {
     for pick in picks {
-        push_pick(text, *pick)?;
+        push_number_row(text, b"pick", *pick as u64)?;
     }
     Ok(())
-}
-
-fn push_pick(text: &mut Text, pick: u32) -> Result<(), NoMemory>
-    ensures { OnOk result (text.new ≡ text.old ++ line (pick_fields pick)) }
-{
-    text.push_all(b"pick")?;
-    push_number(text, pick as u64)?;
-    end_row(text)
 }

@@ -1,9 +1,10 @@
 //! What every other crate uses: numbers with types of their own, limits, `NoMemory`, the list type `Seq`, `Name` and
-//! `Text`; numbers drawn from a seed; sums over lists; sources, sinks and gates, in memory and over std's readers and
+//! `Text`; numbers as their digits, and drawn from a seed; sums over lists; sources, sinks and gates, in memory and over std's readers and
 //! writers; reading a whole source and writing a whole text.
 #![tactic(auto)]
 
 mod adapters;
+mod digits;
 mod draws;
 mod memory;
 mod moving;
@@ -14,6 +15,7 @@ mod seq;
 mod text;
 
 pub use adapters::{ReaderSource, WriterSink};
+pub use digits::{all_digits, number_of};
 pub use draws::{next_draw, upper_bits};
 pub use memory::{MemSink, MemSource};
 pub use moving::{MOST_BYTES, ReadEnd, WriteFailed, read_all, write_all};

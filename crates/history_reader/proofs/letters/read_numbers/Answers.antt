@@ -19,4 +19,4 @@ pub returns-in_err-last_behind : goal.returns-in_err-last_behind
 returns-in_err-last_behind c =
     no_numbers c.args.script.now c.args.words.now c.from_residual-in_err-last_behind.result c.from_residual-in_err-last_behind.ensures
     (λ e u r l is he hu hr hl. c.in_err-last_behind.ensures l.0
-        (ap (drop 2) (sym c.in_ok-number_behind-2.ensures.0 ∙ ap (drop 2) (sym c.in_ok-number_behind.ensures.0 ∙ ap (drop 1) (sym c.in_ok-epoch.ensures.0 ∙ is)))) hl)
+    (ap (drop 2) (sym c.in_ok-number_behind-2.ensures.0 ∙ ap (drop 2) (sym c.in_ok-number_behind.ensures.0 ∙ ap (drop 1) (sym c.in_ok-epoch.ensures.0 ∙ is)))) hl)

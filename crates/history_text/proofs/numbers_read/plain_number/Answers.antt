@@ -4,4 +4,4 @@ use Rattle.history_text.proofs.numbers_read.plain_number.Goals as goal
 
 pub returns : goal.returns
 returns c =
-    is_plain c.args.digits.now c.args.most c.value.result c.value.ensures (omega arith) (omega arith) (cc)
+    is_plain c.args.digits.now c.args.most c.number_of.result c.number_of.ensures.value (omega arith) (omega arith) (cc)

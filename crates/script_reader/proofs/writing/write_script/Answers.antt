@@ -26,10 +26,10 @@ returns c =
     let s = c.args.script.now in
     let t = c.new-text.result in
     let form = c.in_ok-push_form.ensures ∙ ap (λ (f : Form). t ++ lines (form_rows f)) c.form.ensures in
-    let nodes = c.in_ok-push_nodes.ensures ∙ ap (λ (n : ℕ). c.push_form.new.text ++ line (nodes_fields n)) c.nodes.ensures.nodes in
-    let items = c.in_ok-push_items.ensures ∙ ap (λ (x : List ItemRow). c.push_nodes.new.text ++ lines (map item_fields x)) c.items.ensures.items in
+    let nodes = c.in_ok-push_number_row.ensures ∙ ap (λ (n : ℕ). c.push_form.new.text ++ line (nodes_fields n)) c.nodes.ensures.nodes in
+    let items = c.in_ok-push_items.ensures ∙ ap (λ (x : List ItemRow). c.push_number_row.new.text ++ lines (map item_fields x)) c.items.ensures.items in
     let rows = c.in_ok-push_rows.ensures ∙ rows_are c.push_items.new.text _ _ _ s c.items-2.ensures.items c.trees.ensures.trees c.rows.ensures in
     let picks = c.in_ok-push_picks.ensures.text ∙ ap (λ (x : List ℕ). c.push_rows.new.text ++ lines (map pick_fields x)) c.picks.ensures in
-    let text = all_pushed s t c.push_form.new.text c.push_nodes.new.text c.push_items.new.text c.push_rows.new.text c.push_picks.new.text c.new-text.ensures form nodes items rows picks in
+    let text = all_pushed s t c.push_form.new.text c.push_number_row.new.text c.push_items.new.text c.push_rows.new.text c.push_picks.new.text c.new-text.ensures form nodes items rows picks in
     let small : AreOf32Bits s.picks = subst AreOf32Bits c.picks.ensures c.in_ok-push_picks.ensures.small in
     record { text = text; read = text_read s c.push_picks.new.text c.nodes.ensures.valid small text }

@@ -1,6 +1,6 @@
 use Rattle.std.proofs.Common.{arith}
-use Rattle.script_reader.proofs.Digits.{bounded, small}
-use Rattle.script_reader.proofs.numbers.value.Goals as goal
+use Rattle.tv_base.proofs.ShortNumbers.{bounded, small}
+use Rattle.tv_base.proofs.digits.number_of.Goals as goal
 
 pub overflow_mul-value : goal.overflow_mul-value
 overflow_mul-value c = omega (arith, bounded c.loop-b.value c.loop-b.b-index c.loop-b.invariant.small (omega (arith, c.requires)))
