@@ -1,5 +1,5 @@
 -- The first of some words, or the only one, is what is read of it.
-use Rattle.std.proofs.Common.{◌≡◌, ◌∙◌, ◌∷◌, [], List, ℕ, sym, ap}
+use Rattle.std.proofs.Common.{◌≡◌, ◌∙◌, ◌∷◌, [], List, ℕ, ap}
 use Rattle.std.specs.Prelude.{Option, Some, None}
 use Rattle.history_text.specs.Exact.{IsReadBack}
 use Rattle.history_reader.specs.inside.Next.{IsNext, IsNextWord, alone}

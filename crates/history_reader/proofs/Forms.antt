@@ -1,5 +1,5 @@
 -- What letters and acts say is printed as its words, each after a space.
-use Rattle.std.proofs.Common.{◌≡◌, ◌<◌, ◌^◌, ◌∷◌, ◌++◌, [], List, Bool, true, false, ℕ, refl, arith}
+use Rattle.std.proofs.Common.{◌≡◌, ◌<◌, ◌^◌, ◌∷◌, [], List, Bool, true, false, ℕ, refl, arith}
 use Rattle.std.specs.Prelude.{if◌then◌else◌, ◌&&◌, codes, decimal, flat_map, Option, Some, None, slice_get}
 use Rattle.std.specs.List.{AllByRecursion, list_all}
 use Rattle.tv_base.proofs.Truths.{left_true, right_true}
@@ -24,11 +24,11 @@ use Rattle.history_text.specs.TreeNames.{cause_text, item_text, tree_text}
 use Rattle.history_text.specs.Values.{count_text}
 use Rattle.history_text.specs.LineParts.{Count, Got, Half, ItemOf, Never, Only, Part, Row, SubOf, TreeOf, Whole, Why, Word, act_parts, answer_parts, body_parts, commit_word, notice_parts, part_text, parts_text, vote_parts, what_word}
 use Rattle.history_text.specs.Parts.{lacks}
-use Rattle.history_text.specs.Printable.{AreParts, IsAct, IsBody, IsCause, IsItemOf, IsPart, IsSubOf, IsTreeOf, IsWord}
+use Rattle.history_text.specs.Printable.{AreParts, IsAct, IsBody, IsCause, IsItemOf, IsPart, IsTreeOf, IsWord}
 use Rattle.history_text.specs.Words.{cause_words}
 use Rattle.history_reader.specs.inside.BodyWords.{act_words, body_words, number_words, part_words, whole_words, words_of}
 use Rattle.history_reader.proofs.Solid.{amount_solid, got_tail, item_solid, number_solid, tree_solid}
-use Rattle.history_reader.proofs.Spelling.{IsSolid, IsTail, both, fixed, none_more, word}
+use Rattle.history_reader.proofs.Spelling.{IsTail, both, fixed, none_more, word}
 use Rattle.history_reader.proofs.SubsThere.{small_sub, tree_of_sub}
 
 -- a word that is always the same has neither a space nor a line's end

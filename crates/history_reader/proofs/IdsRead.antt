@@ -1,5 +1,5 @@
 -- A letter's id is cut at its dot.
-use Rattle.std.proofs.Common.{◌≡◌, ◌<◌, ◌^◌, ◌∙◌, ◌∷◌, ◌++◌, List, true, ℕ, refl, sym, arith}
+use Rattle.std.proofs.Common.{◌≡◌, ◌∙◌, ◌∷◌, ◌++◌, List, true, ℕ, refl, sym, arith}
 use Rattle.std.specs.Prelude.{decimal}
 use Rattle.letter_types.specs.declared.entries.LetterId.{LetterId}
 use Rattle.history_text.specs.Printable.{IsHalfWord, IsWord}

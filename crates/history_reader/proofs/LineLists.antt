@@ -1,8 +1,6 @@
 -- Lines that are read one after the other, while they begin alike.
-use Rattle.std.proofs.Common.{◌≡◌, ◌∙◌, ◌∷◌, ◌++◌, [], List, Bool, true, false, ℕ, refl, sym, ap, append_assoc}
-use Rattle.std.specs.Prelude.{◌&&◌}
-use Rattle.std.specs.List.{AllByRecursion, list_all}
-use Rattle.std.proofs.lemmas.List.Folds.{list_all-append}
+use Rattle.std.proofs.Common.{◌≡◌, ◌∙◌, ◌∷◌, ◌++◌, [], List, true, false, ℕ, refl, sym, ap, append_assoc}
+use Rattle.std.specs.List.{AllByRecursion}
 use Rattle.tv_base.proofs.Truths.{right_true}
 use Rattle.history_text.specs.Parts.{lacks, parts_at}
 use Rattle.history_text.proofs.Cuts.{one_cut}

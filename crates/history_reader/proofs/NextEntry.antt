@@ -1,5 +1,5 @@
 -- What the next entry of a walk comes to, by what was read and found.
-use Rattle.std.proofs.Common.{◌≡◌, ◌==◌, ℕ, ◌∷◌, ◌++◌, List, [], length, ap, ◌∙◌, subst, sym, true, false, Some, None}
+use Rattle.std.proofs.Common.{◌≡◌, ◌==◌, ℕ, List, [], length, ap, ◌∙◌, subst, sym, true, false, Some, None}
 use Rattle.letter_types.specs.declared.entries.Entry.{Entry}
 use Rattle.letter_types.specs.declared.entries.Letter.{Letter}
 use Rattle.tx_trees.specs.ScriptData.{ScriptData, client_of}

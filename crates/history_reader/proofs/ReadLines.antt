@@ -1,5 +1,5 @@
 -- What is read behind a word, of votes, letters and acts.
-use Rattle.std.proofs.Common.{◌≡◌, ◌∙◌, ◌∷◌, [], List, ℕ, drop, sym, ap}
+use Rattle.std.proofs.Common.{◌≡◌, ◌∙◌, ◌∷◌, List, ℕ, drop, sym, ap}
 use Rattle.std.specs.Prelude.{codes, IfOk, Option, Some, None, Result, Ok, Err}
 use Rattle.std.proofs.lemmas.List.{append-nil}
 use Rattle.tv_base.specs.declared.numbers.ActorNo.{ActorNo}

@@ -1,6 +1,6 @@
 -- Subtransactions of a tree, by their numbers.
-use Rattle.std.proofs.Common.{◌≡◌, ◌<◌, ◌≤◌, ◌^◌, ◌∙◌, ◌∷◌, [], List, Bool, true, false, ℕ, zero, suc, length, get_or, refl, sym, ap, arith}
-use Rattle.std.specs.Prelude.{decimal, nat_lt, is_some, IsTrue, Option, Some, None, slice_get}
+use Rattle.std.proofs.Common.{◌≡◌, ◌<◌, ◌^◌, ◌∙◌, ◌∷◌, [], List, Bool, true, false, ℕ, zero, suc, length, get_or, sym, ap, arith}
+use Rattle.std.specs.Prelude.{decimal, nat_lt, is_some, IsTrue, Some, None, slice_get}
 use Rattle.std.proofs.lemmas.Bool.{lt-ltb, ltb-true, le-ltb}
 use Rattle.std.proofs.lemmas.Option.{slice_get-get_or}
 use Rattle.tv_base.specs.declared.numbers.SubNo.{SubNo}

@@ -1,7 +1,6 @@
 -- What an entry sent may be added before its letter is taken: the letter is the same, and so is what is left.
 use Rattle.std.proofs.Common.{◌≡◌, ◌==◌, ◌+◌, ◌-◌, ℕ, zero, suc, Bool, true, false, List, [], ◌∷◌, ◌++◌, length, refl, sym, ap, ◌∙◌, Option, Some, None}
 use Rattle.std.specs.Prelude.{if◌then◌else◌, is_some, slice_get, IsNone}
-use Rattle.std.specs.Option.{option_map}
 use Rattle.tv_base.specs.declared.numbers.ActorNo.{ActorNo}
 use Rattle.tv_base.proofs.ByPlace.{slice_get_left}
 use Rattle.letter_types.specs.declared.entries.Entry.{Entry}
