@@ -198,11 +198,11 @@ fn still(node: &KeepingParts, scratch: &mut Scratch) -> NodePlan
     NodePlan::Still
 }
 
-/// Plans what a node does with a message, its row of the node's table (docs/ALGORITHM.md, "Nodes with strict trees"):
-/// nothing if what it brings isn't enabled, or if it is a Wake that calls none; else what it brought is deferred, or is
-/// done. It changes nothing but the scratch, which gets what the step stages and sends. Memory to open a transaction,
-/// for locks, a held answer, a negative vote or a deferred message is taken at the head of `do_node`: if there is none,
-/// nothing has changed, or what has is taken back.
+/// Plans what a node does with a message, its row of the node's table (docs/ALGORITHM.md, "Nodes" and "Nodes with strict
+/// trees"): nothing if what it brings isn't enabled, or if it is a Wake that calls none; else what it brought is
+/// deferred, or is done. It changes nothing but the scratch, which gets what the step stages and sends. Memory to open a
+/// tree, for locks, a held answer, a negative vote or a deferred message is taken at the head of `do_node`: if there is
+/// none, nothing has changed, or what has is taken back.
 pub fn plan_letter(
     alloc: Global,
     node: &KeepingParts,
@@ -287,7 +287,7 @@ fn choose_own(
 }
 
 /// Plans what a core does with a message: nothing if it isn't enabled; else it defers the message if it has to, and
-/// does its row if not (docs/ALGORITHM.md, "Nodes with strict trees"). It changes nothing but the scratch.
+/// does its row if not (docs/ALGORITHM.md, "Nodes" and "Nodes with strict trees"). It changes nothing but the scratch.
 pub(crate) fn choose_core(
     alloc: Global,
     core: &NodeCore,

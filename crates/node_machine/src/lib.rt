@@ -1,5 +1,5 @@
-//! A node as a state machine: its core with the messages that it defers, what it does with each kind of message, planned,
-//! and the one call that does what is planned.
+//! A node, and what it does with any message: for each kind of message when one may come and what is planned of it;
+//! which messages are deferred and woken; and one call, which does what is planned.
 #![tactic(auto)]
 
 mod answers;

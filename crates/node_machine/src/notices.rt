@@ -1,4 +1,4 @@
-// A notice at its transaction's home.
+// A notice at its tree's home: whether it may come, and what is planned of it.
 ghost use Rattle.std.specs.Prelude.{◌<◌, ◌≡◌, IfOk, IsTrue, length};
 ghost use Rattle.tree_home.specs.Homes.{Gets};
 ghost use Rattle.tree_step.specs.AtNode.{IsNoteStep, answers_near};
@@ -139,7 +139,7 @@ pub(crate) struct NoticeHere<'a> {
     pub(crate) notice: &'a Notice,
 }
 
-/// A notice at its tree's home.
+/// Plans what a tree's home does with a notice that is due, unless it would answer in a version that isn't near.
 pub(crate) fn choose_note(
     alloc: Global,
     core: &NodeCore,

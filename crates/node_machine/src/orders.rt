@@ -1,4 +1,4 @@
-// The coordinator's orders, of either kind.
+// Orders, of a coordinator that remembers or of one that forgets.
 ghost use Rattle.std.specs.Prelude.{[], ◌++◌, ◌≡◌, IfOk, IsTrue, None, OnOk, false, nat_lt};
 ghost use Rattle.world_model.specs.Advancing.{to_coordinator};
 ghost use Rattle.node_machine.specs.inside.Advancing.{acts_if, order_acts, order_doing};
@@ -79,7 +79,7 @@ fn order_doing(what: What, version: Version) -> Doing
     }
 }
 
-/// The answer to an order of a coordinator that keeps its state.
+/// The answer to an order of a coordinator that remembers.
 fn plain_answer(what: What, version: Version) -> Body
     ensures { result ≡ plain_answer what version }
 {
@@ -148,7 +148,7 @@ fn was_obeyed(node: &NodeParts, what: What, version: Version) -> bool
     }
 }
 
-/// Plans that a node obeys an order of this epoch, from a coordinator that may lose its state: it does what it is
+/// Plans that a node obeys an order of this epoch, from a coordinator that forgets: it does what it is
 /// ordered to do, unless it has done so before, and answers either way. After out of memory the scratch may hold a part
 /// of what goes out.
 pub(crate) fn plan_obeyed(

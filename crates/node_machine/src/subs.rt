@@ -1,4 +1,4 @@
-// The subtransactions of a transaction: which may be done, which are deferred, and what is planned of each.
+// Subtransactions: whether one may come, and what is planned of it by its tree's kind.
 ghost use Rattle.std.specs.Prelude.{[], ◌≡◌, IfOk, IfSome, IsTrue, OnOk, Some, is_some};
 ghost use Rattle.tree_home.specs.HeldAnswers.{held_answers, held_in};
 ghost use Rattle.world_model.specs.Strict.{is_unheld, marks_of, meets};
@@ -77,7 +77,7 @@ pub(crate) fn notice_here<'a>(
     NoticeHere { request, notice }
 }
 
-/// A decision on a strict transaction of this version.
+/// A decision on a strict tree of this version.
 pub(crate) fn decision_on(tree: TreeNo, version: Version, commit: bool) -> Decision
     ensures { result ≡ record { tree = tree; version = version; commit = commit } }
 {
@@ -88,7 +88,7 @@ pub(crate) fn decision_on(tree: TreeNo, version: Version, commit: bool) -> Decis
     }
 }
 
-/// The acknowledgement that a message is, of a decision on a strict transaction of this version.
+/// The acknowledgement that a message is, of a decision on a strict tree of this version.
 pub(crate) fn acknowledged(letter: &Letter, tree: TreeNo, version: Version) -> Acknowledgement
     ensures { result ≡ record { tree = tree; version = version; from = from_node letter.now } }
 {

@@ -1,4 +1,4 @@
-// A subtransaction of a strict transaction votes.
+// A subtransaction of a strict tree votes.
 ghost use Rattle.std.specs.Prelude.{[], ◌≡◌, IfOk, OnOk};
 ghost use Rattle.world_model.specs.Notices.{values_of};
 ghost use Rattle.world_model.specs.Strict.{notice_by};

@@ -1,4 +1,4 @@
-// Which deferred messages a step wakes, and a Wake that comes.
+// What is planned of the messages that a step wakes, and of a Wake that comes.
 ghost use Rattle.std.specs.Prelude.{◌≡◌, IfOk};
 ghost use Rattle.node_machine.specs.Apt.{wake_apt};
 ghost use Rattle.tree_step.specs.CoreChanges.{MayDoCore};

@@ -8,7 +8,7 @@ ghost use Rattle.world_model.specs.Taking.{CountsBelow, IsAddressed};
 ghost use Rattle.world_core.specs.Actors.{IsFor, actor_data};
 ghost use Rattle.history_merge.specs.OwnLogs.{Delivered};
 ghost use Rattle.node_threads.specs.Cells.{cell_data, IsHandling};
-ghost use Rattle.world_core.specs.Prepared.{row_at};
+ghost use Rattle.world_core.specs.Steps.{row_at};
 
 use history_merge::{ClusterName, Made, OwnLog};
 use letter_types::{Letter, Letters, StepOut, copy_letters};

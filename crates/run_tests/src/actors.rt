@@ -1,4 +1,4 @@
-// Steps of actors, made by one call each. Runs prepare a step and do it apart.
+// Steps of actors, made by one call each. Runs plan a step and do it apart.
 use crate::common::{letter, script_of};
 use advance_coord::Coordinator;
 use client_rows::Client;

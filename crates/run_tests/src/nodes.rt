@@ -1,4 +1,4 @@
-// Steps of commuting trees over a node's parts, made by one call each. Runs prepare a step and do it apart.
+// Steps of commuting trees over a node's parts, made by one call each. Runs plan a step and do it apart.
 ghost use Rattle.std.specs.Prelude.{◌<◌, IfOk};
 ghost use Rattle.tree_step.specs.Node.{IsReady};
 

@@ -1,4 +1,4 @@
--- The version of a letter that is due is near.
+-- The version of a message that is due is near.
 use Rattle.std.proofs.Common.{◌≡◌, ℕ, ◌==◌, ◌&&◌, true}
 use Rattle.std.specs.Prelude.{nat_lt}
 use Rattle.tv_base.specs.declared.numbers.Version.{Version}
@@ -11,7 +11,7 @@ use Rattle.tree_step.specs.Node.{Node}
 use Rattle.world_model.specs.Asked.{asked_version}
 use Rattle.tree_step.specs.Due.{is_due}
 
--- if the version that a root takes is near, so is the one that the letter asks for
+-- if the version that a root takes is near, so is the one that the message asks for
 pub asked_near : (s : ScriptData) (p from : ℕ) (st : Node) (body : Body) (root : Version)
     → in_window st.turns.low.0 root.0 ≡ true
     → is_due s p st from body ≡ true → in_window st.turns.low.0 (asked_version root body).0 ≡ true

@@ -18,7 +18,7 @@ use Rattle.tree_step.specs.steps.TreeStep.{TreeStep}
 use Rattle.tree_step.specs.declared.counting.Counting.{Counting}
 use Rattle.tree_step.specs.declared.node.NodeParts.{NodeParts}
 
--- the requests that are counted are among the letters that are sent
+-- the requests that are counted are among the messages that are sent
 abbrev pub HasRequests : Change → List Outgoing → Type 0
 HasRequests (Tree c) sent = c.counting.asked ≤ length sent
 HasRequests _ sent = ⊤
@@ -50,7 +50,7 @@ after_requests c st os = record st {
   homes = home_after c.home st.homes;
 }
 
--- with letters after them the node afterwards is the same
+-- with messages after them the node afterwards is the same
 pub after_more : (c : Change) (sent more : List Outgoing) (st : Node) → HasRequests c sent
     → after_change c (sent ++ more) st ≡ after_change c sent st
 after_more (Tree c) sent more st has =

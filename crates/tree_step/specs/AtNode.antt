@@ -1,4 +1,4 @@
--- What is known, and what is promised, of a letter or a request at a node.
+-- What is known, and what is promised, of a message or a request at a node.
 use Rattle.std.specs.Prelude.{ℕ, ◌&&◌, Bool, IsTrue, List, length, None}
 use Rattle.commute_ops.specs.declared.value.Value.{Value}
 use Rattle.tv_base.specs.declared.numbers.ItemNo.{ItemNo}
@@ -31,7 +31,7 @@ use Rattle.tree_step.specs.declared.node_core.NodeCore.{NodeCore}
 use Rattle.tree_step.specs.declared.plan.PartPlan.{PartPlan}
 use Rattle.tree_step.specs.declared.plan.Scratch.{Scratch}
 
--- a letter is named, new and timely at a node
+-- a message is named, new and timely at a node
 abbrev pub IsDueAt : ScriptData → Letter → NodeParts → Type 0
 IsDueAt s l n = IsTrue (is_due s l.to.0 (data_of n) l.from.0 l.body)
 
@@ -39,7 +39,7 @@ IsDueAt s l n = IsTrue (is_due s l.to.0 (data_of n) l.from.0 l.body)
 abbrev pub IsUnheldAt : Letter → NodeParts → Type 0
 IsUnheldAt l n = IsTrue (is_unheld l.body (held_answers n.homes))
 
--- the subtransaction that a letter asks for, in this version and with this effect, before its tree is answered
+-- the subtransaction that a message asks for, in this version and with this effect, before its tree is answered
 abbrev pub IsTreePartAt : ScriptData → Letter → InVersion → Staging → NodeParts → TreeStep → Type 0
 IsTreePartAt s l within e n p = IsTreePartOf
     (tree_part s l.to.0 l.from.0 within.version within.raises (effect_on n.items e) l.body (data_of n)) n p
@@ -101,7 +101,7 @@ asked_by_root v p children k = record k { numbers = counted_root v p children k.
 abbrev pub asked_by_sub : ℕ → ℕ → List Outgoing → Counts → Counts
 asked_by_sub v from sent k = record k { numbers = counted_sub v from sent k.numbers }
 
--- a letter is free: it is due, and of its tree no answer is held
+-- a message is free: it is due, and of its tree no answer is held
 abbrev pub is_free_at : ScriptData → Letter → NodeParts → Bool
 is_free_at s l n = is_due s l.to.0 (data_of n) l.from.0 l.body && is_unheld l.body (held_answers n.homes)
 

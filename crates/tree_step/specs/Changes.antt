@@ -47,7 +47,7 @@ abbrev pub OpensNoTree : HomeChange → Type 0
 OpensNoTree (Open t n v values) = ⊥
 OpensNoTree _ = ⊤
 
--- the requests that are counted: the first letters that are sent
+-- the requests that are counted: the first messages that are sent
 abbrev pub requests : Counting → List Outgoing → List Outgoing
 requests c sent = take c.asked sent
 
@@ -106,7 +106,7 @@ MayChange (Turn v) sent n = IsTrue (nat_le v.0 (n.turns.low.0 + 2))
 MayChange (Show v) sent n = IsTrue (in_window n.turns.low.0 v.0)
 MayChange (Sweep v) sent n = IsTrue (is_left_behind v n.turns)
 
--- a node may make a change beside which these letters go out
+-- a node may make a change beside which these messages go out
 pub record MayDo (c : Change) (sent : List Outgoing) (n : NodeParts) : Type 0 where
   pub fits : MayChange c sent n
   pub small : AllBelow MOST_COUNT (counts_of n.counters).numbers
@@ -121,12 +121,12 @@ pub record IsNodeStepOf (o : Out Node) (n : NodeParts) (p : PartsStep) : Type 0 
   pub row : step_row p (data_of n) ≡ o
   pub may : MayDo p.change p.out.sent n
 
--- the letters that are sent are just the requests that are counted
+-- the messages that are sent are just the requests that are counted
 abbrev pub SendsRequests : Change → List Outgoing → Type 0
 SendsRequests (Tree c) sent = c.counting.asked ≡ length sent
 SendsRequests _ sent = sent ≡ []
 
--- the step of a tree's letter, before the tree is answered, as a table's row
+-- the step of a tree's message, before the tree is answered, as a table's row
 abbrev pub part_row : TreeStep → Node → TreeOut
 part_row p st = record { out = step_row p.parts st; answered = p.answered }
 

@@ -1,4 +1,4 @@
--- What the code tests of a letter before it looks at operations.
+-- What the code tests of a message before it looks at operations.
 use Rattle.std.specs.Prelude.{ℕ, ◌+◌, ◌==◌, Bool, true, false, ◌&&◌, nat_le, nat_lt, length}
 use Rattle.tv_base.specs.declared.numbers.SubNo.{SubNo}
 use Rattle.tv_base.specs.declared.numbers.TreeNo.{TreeNo}
@@ -13,7 +13,7 @@ use Rattle.tx_trees.specs.ScriptData.{ScriptData, home_of, subs_at}
 use Rattle.tree_step.specs.Node.{Node}
 use Rattle.world_model.specs.Named.{is_named, is_new, is_timely}
 
--- the letters of a tree that a node's parts have a row for
+-- the messages of a tree that a node's parts have a row for
 abbrev pub has_row : Body → Bool
 has_row (Root t) = true
 has_row (SubLetter t k v) = true
@@ -32,7 +32,7 @@ is_notice_for s p from t k = (home_of s t.0 == p) && (nat_lt k.0 (length (subs_a
 abbrev pub is_left_behind : Version → Turns → Bool
 is_left_behind v turns = nat_le turns.low.0 v.0 && (nat_le v.0 turns.read.0 && nat_le v.0 turns.update.0)
 
--- a node of these versions can go by the version of an order, as the letter of the order is timely there
+-- a node of these versions can go by the version of an order, as the message of the order is timely there
 abbrev pub can_obey : What → Version → Turns → Bool
 can_obey whats.Turn v turns = nat_le v.0 (turns.low.0 + 2)
 can_obey whats.Show v turns = in_window turns.low.0 v.0

@@ -1,4 +1,4 @@
-// What a letter asks of a node.
+// What a message asks of a node.
 ghost use Rattle.std.specs.Prelude.{◌≡◌, [], IfOk, IsTrue, OnOk};
 ghost use Rattle.item_versions.specs.Table.{pending};
 ghost use Rattle.item_versions.specs.Window.{in_window, IsWindowedTable};
@@ -16,7 +16,7 @@ use std::alloc::Global;
 use tv_base::{NoMemory, NodeNo, SubNo, TreeNo, Version};
 use tx_trees::{Script, SubOp};
 
-/// The version that a letter asks for, if a root takes version `root`.
+/// The version that a message asks for, if a root takes version `root`.
 pub fn asked_version(letter: &Letter, root: Version) -> Version
     ensures { result ≡ asked_version root letter.now.body }
 {
@@ -26,7 +26,7 @@ pub fn asked_version(letter: &Letter, root: Version) -> Version
     }
 }
 
-/// The operations that a letter asks for.
+/// The operations that a message asks for.
 pub fn asked_ops<'a>(letter: &Letter, script: &'a Script) -> &'a [SubOp]
     ensures { result.now ≡ asked_ops script.now letter.now.body }
 {
@@ -37,7 +37,7 @@ pub fn asked_ops<'a>(letter: &Letter, script: &'a Script) -> &'a [SubOp]
     }
 }
 
-/// What a letter of a tree asks of a node: to do a subtransaction, or to note its notice.
+/// What a message of a tree asks of a node: to do a subtransaction, or to note its notice.
 #[derive(Clone, Copy)]
 pub struct Request {
     pub tree: TreeNo,
@@ -64,7 +64,7 @@ pub struct SubTurn {
     pub notice: Notice,
 }
 
-/// Plans the subtransaction that a letter asks for, and that makes what is staged in the scratch, before the tree is
+/// Plans the subtransaction that a message asks for, and that makes what is staged in the scratch, before the tree is
 /// answered.
 pub fn plan_tree(
     alloc: Global,

@@ -1,4 +1,4 @@
-// Whether a letter is one that a node takes, and whether it can obey an order.
+// Whether a message is one that a node takes, and whether it can obey an order.
 ghost use Rattle.std.specs.Prelude.{◌≡◌, ◌==◌, ◌&&◌, ◌+◌, not, is_some, nat_le, nat_lt};
 ghost use Rattle.item_versions.specs.Window.{in_window};
 ghost use Rattle.tx_trees.specs.ScriptData.{home_of, node_of};
@@ -100,7 +100,7 @@ pub fn can_obey(turns: &Turns, what: What, version: Version) -> bool
     }
 }
 
-/// Whether a letter is one of a tree that a node takes, and what it names belongs there, a root's tree isn't open yet,
+/// Whether a message is one of a tree that a node takes, and what it names belongs there, a root's tree isn't open yet,
 /// and the version that it names is one that the node can go by: a subtransaction and a notice are of one of the three
 /// versions that begin with the low version.
 pub fn is_due(node: &NodeParts, letter: &Letter, script: &Script) -> bool

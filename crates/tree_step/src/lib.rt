@@ -1,6 +1,6 @@
-//! A node's state: its parts, and its core, which is these parts with locks, held answers, negative votes and the epoch
-//! of which the node has heard. Whether a letter is due. The plan of a subtransaction and of a notice, of any kind of
-//! tree: what is counted, sent and told. And the one call that changes a core.
+//! A node's parts, and its core: the parts with locks, negative votes and the latest epoch heard of. Which messages of a
+//! tree are due. What every subtransaction and notice plans, of any kind of tree: what is counted, sent and told. Plans,
+//! the scratch, and the one call that changes a core.
 #![tactic(auto)]
 
 mod asked;

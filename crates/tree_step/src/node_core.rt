@@ -3,7 +3,7 @@ use crate::node::NodeParts;
 use crate::refusals::Refusals;
 use nc_locks::Locks;
 
-/// A node's state but for the letters that it defers: its parts, among which its homes hold answers, its locks, the
+/// A node's state but for the messages that it defers: its parts, among which its homes hold answers, its locks, the
 /// negative votes, and the latest epoch of a coordinator that forgets of which it has heard, 0 at first.
 #[derive(Drop)]
 pub struct NodeCore {

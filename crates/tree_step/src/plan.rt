@@ -55,7 +55,7 @@ pub enum Doing {
     Sweep(Version),
 }
 
-/// What a node's parts do for a tree's letter, before the tree is answered; and its answer if its home misses no notice
+/// What a node's parts do for a tree's message, before the tree is answered; and its answer if its home misses no notice
 /// any more.
 #[derive(Drop)]
 pub struct PartPlan {
@@ -113,7 +113,7 @@ pub struct Scratch {
     /// The locks that a tree takes.
     pub wanted: WantedLocks,
     pub refusal: Option<NegativeVote>,
-    /// The letter that came, if it is deferred.
+    /// The message that came, if it is deferred.
     pub letter: Option<Letter>,
     pub sent: Letters,
     pub acts: Acts,

@@ -1,4 +1,4 @@
-// No run makes this call: a run does the step of a whole core, and copies its letters alone.
+// No run makes this call: a run does the step of a whole core, and copies its messages alone.
 ghost use Rattle.tree_step.specs.Changes.{IsDoneTwice, MayDo, SendsRequests};
 ghost use Rattle.tree_step.specs.Meant.{doing_meant, replied_part};
 
@@ -11,7 +11,7 @@ use std::alloc::Global;
 use tv_base::{ActorNo, NoMemory};
 use tx_trees::Script;
 
-/// Does what is planned for a tree's letter, and gives what goes out in two equal copies, with the answer to the client
+/// Does what is planned for a tree's message, and gives what goes out in two equal copies, with the answer to the client
 /// behind what is sent, if the tree is answered. If no memory is found, the parts are unchanged, and the scratch may
 /// have anything.
 pub fn do_part(

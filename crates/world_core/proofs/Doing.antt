@@ -23,7 +23,7 @@ use Rattle.world_core.specs.declared.actor.ActorState.TheVariants.{Node, Coordin
 use Rattle.world_core.specs.declared.actor.ActorPlan.{ActorPlan}
 use Rattle.world_core.specs.declared.actor.ActorPlan.TheVariants.{Node as NodeStep, Coordinator as CoordinatorStep, Restarting as RestartStep, Client as ClientStep}
 use Rattle.world_core.specs.Actors.{IsFor, actor_data}
-use Rattle.world_core.specs.Prepared.{IsActorDone, IsActorStepOf, ActorMayDo, out_of}
+use Rattle.world_core.specs.Steps.{IsActorDone, IsActorStepOf, ActorMayDo, out_of}
 use Rattle.world_core.specs.inside.Actors.{Acted}
 
 -- the row that it is says that the actor may do it

@@ -19,7 +19,7 @@ use Rattle.world_core.specs.declared.actor.ActorPlan.{ActorPlan}
 use Rattle.world_model.specs.Tables.{ActorData}
 use Rattle.world_model.specs.Taking.{CountsBelow, IsAddressed, MOST_COUNTED}
 use Rattle.world_core.specs.Actors.{IsWorldOf, TookLetter, WorldData}
-use Rattle.world_core.specs.Prepared.{IsActorStepOf, ActorMayDo, MayTake, out_of}
+use Rattle.world_core.specs.Steps.{IsActorStepOf, ActorMayDo, MayTake, out_of}
 use Rattle.world_core.specs.inside.Actors.{Acted, entry_made, letters_made, with_last_entry}
 use Rattle.world_core.proofs.Doing.{is_row, may_do, out_is}
 use Rattle.world_core.proofs.Worlds.{Took, below, entry_of, next_world}

@@ -5,7 +5,7 @@ ghost use Rattle.node_machine.specs.Meant.{IsNodeDone, node_meant};
 ghost use Rattle.tree_step.specs.Meant.{IsEmpty, out_in};
 ghost use Rattle.world_model.specs.Tables.{start_coordination};
 ghost use Rattle.world_core.specs.Actors.{actor_data, IsFor, IsStateOf};
-ghost use Rattle.world_core.specs.Prepared.{ActorMayDo, IsActorDone, IsActorStepOf, MayTake, out_of};
+ghost use Rattle.world_core.specs.Steps.{ActorMayDo, IsActorDone, IsActorStepOf, MayTake, out_of};
 ghost use Rattle.pair_counters.specs.Numbers.{MOST_COUNT};
 
 use crate::node::NodeState;

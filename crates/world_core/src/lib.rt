@@ -1,5 +1,5 @@
-//! What a node does with any message, put together of its steps: which message is brought, what is planned of it, what
-//! is deferred and what is woken; the actors' states and steps; and the world that runs a script one message at a time.
+//! The states of a run's actors and their steps, each a node's, a coordinator's or the client's; and the world, which
+//! runs a script one message at a time.
 #![tactic(auto)]
 
 mod actor;

@@ -3,7 +3,7 @@ ghost use Rattle.std.specs.Prelude.{◌≡◌, IfOk, OnErr, OnOk};
 ghost use Rattle.letter_types.specs.Steps.{made};
 ghost use Rattle.world_model.specs.Taking.{CountsBelow, IsAddressed};
 ghost use Rattle.world_core.specs.Actors.{actor_data, IsFor};
-ghost use Rattle.world_core.specs.Prepared.{out_of, row_at};
+ghost use Rattle.world_core.specs.Steps.{out_of, row_at};
 ghost use Rattle.pair_counters.specs.Numbers.{MOST_COUNT};
 
 use crate::actor::{ActorPlan, ActorState, actor_done, actor_plan};

@@ -6,7 +6,7 @@ ghost use Rattle.tv_base.specs.declared.numbers.TheConstants.{MOST_ENTRIES};
 ghost use Rattle.tx_trees.specs.ScriptData.{ScriptData};
 ghost use Rattle.world_core.specs.Actors.{AreStatesOf, IsLedTo, IsWorldOf, TookLetter};
 ghost use Rattle.tree_step.specs.Meant.{IsEmpty};
-ghost use Rattle.world_core.specs.Prepared.{ActorMayDo, MayTake, out_of};
+ghost use Rattle.world_core.specs.Steps.{ActorMayDo, MayTake, out_of};
 ghost use Rattle.world_core.specs.inside.Actors.{Acted, IsPlanFor, letters_made, with_last_entry, world_in};
 ghost use Rattle.pair_counters.specs.Numbers.{MOST_COUNT};
 

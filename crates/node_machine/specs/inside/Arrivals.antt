@@ -1,4 +1,5 @@
--- Deferred messages by the numbers of their arrivals, and how they are found by places.
+-- Deferred messages by the numbers of their arrivals, and how they are found by places. Private code
+-- alone cites these definitions.
 use Rattle.std.specs.Prelude.{◌≡◌, ◌<◌, ℕ, Bool, false, if◌then◌else◌, List, [], ◌∷◌, ◌++◌, Option, Some, None, IsSome}
 use Rattle.std.specs.List.Sorted.{IsStrictlySortedBy}
 use Rattle.std.specs.Map.{keys_of, lookup, values_of}

@@ -1,4 +1,4 @@
--- Which messages are of a transaction, and which node sent one.
+-- Which messages are of a transaction, and which node sent one. Private code alone cites these definitions.
 use Rattle.std.specs.Prelude.{Bool, true, false}
 use Rattle.tv_base.specs.declared.numbers.NodeNo.{NodeNo}
 use Rattle.letter_types.specs.declared.bodies.Body.{Body}

@@ -1,4 +1,5 @@
--- Places: a key by which a deferred message is found, with the number of its arrival.
+-- Places: a key by which a deferred message is found, with the number of its arrival. Private code
+-- alone cites these definitions.
 use Rattle.std.specs.Prelude.{◌≡◌, ◌<◌, ℕ, Bool, true, false, not, ◌&&◌, ◌||◌, List, Option, Some, None}
 use Rattle.std.specs.List.{list_any}
 use Rattle.std.specs.declared.cmp.Ordering.{Ordering}

@@ -20,6 +20,6 @@ done_to home r notice = done_letter home.0 r.tree.0 r.sub.0 r.version.0 notice
 abbrev pub sub_acts : Request → Bool → Notice → List Act
 sub_acts r raises notice = (if raises then Turned r.version ∷ [] else []) ++ act_of r.tree r.sub notice ∷ []
 
--- what is counted once a step that counts so sends these letters
+-- what is counted once a step that counts so sends these messages
 abbrev pub with_counted : Counting → List Outgoing → Counts → Counts
 with_counted c sent k = record k { numbers = counted c sent k.numbers }

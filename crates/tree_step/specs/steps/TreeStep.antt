@@ -1,4 +1,4 @@
--- A step of a tree's letter, before the tree is answered.
+-- A step of a tree's message, before the tree is answered.
 use Rattle.std.specs.Prelude.{Option}
 use Rattle.tree_home.specs.declared.homes.Answered.{Answered}
 use Rattle.tree_step.specs.steps.PartsStep.{PartsStep}

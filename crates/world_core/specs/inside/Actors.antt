@@ -12,7 +12,7 @@ use Rattle.tree_step.specs.declared.plan.Scratch.{Scratch}
 use Rattle.world_core.specs.declared.actor.ActorPlan.{ActorPlan}
 use Rattle.world_core.specs.declared.world.Flow.{Flow}
 use Rattle.world_core.specs.Actors.{WorldData}
-use Rattle.world_core.specs.Prepared.{IsActorDone, IsActorStepOf, out_of}
+use Rattle.world_core.specs.Steps.{IsActorDone, IsActorStepOf, out_of}
 
 -- what an event of a world changes, as a world
 abbrev pub world_in : Flow → WorldData
