@@ -4,12 +4,13 @@ ghost use Rattle.std.specs.Prelude.{[], ◌++◌, ◌<◌, ◌≡◌, IfOk, OnOk
 ghost use Rattle.tx_trees.specs.ScriptData.{subs_at, updates, visited_by};
 ghost use Rattle.tree_step.specs.CoreChanges.{numbers_of_nodes};
 ghost use Rattle.world_model.specs.Strict.{marks, none_refuses, release_letters};
-ghost use Rattle.node_machine.specs.Answering.{IsAnsweredPlan, IsApartAfter, IsDecidedPlan, MayDecide, tree_releases};
 ghost use Rattle.tree_step.specs.Changes.{MayDo};
 ghost use Rattle.tree_step.specs.Meant.{doing_meant, part_meant, refusals_meant};
+ghost use Rattle.node_machine.specs.Answering.{IsAnsweredPlan, IsApartAfter, IsDecidedPlan, MayDecide, tree_releases};
 ghost use Rattle.node_machine.specs.inside.Decided.{decides_to};
 
-use crate::decisions::{client_of, plan_with};
+use crate::decisions::client_of;
+use crate::node_plan::plan_with;
 use letter_types::{Act, Body, Letters, Outgoing};
 use nc_commit::Decision;
 use script_parts::children::visits;
@@ -20,32 +21,26 @@ use tree_step::{
 use tv_base::{ActorNo, NoMemory, NodeNo, TreeNo};
 use tx_trees::{Script, TreeKind};
 
-/// Adds the nodes that a tree visits, in order.
-fn push_visited(told: &mut Visited, script: &Script, tree: TreeNo) -> Result<(), NoMemory>
-    ensures nodes { OnOk result (numbers_of_nodes told.new ≡ numbers_of_nodes told.old ++ visited_by script.now tree.0) }
-    ensures some { OnOk result (0 < length (subs_at script.now tree.0) → 0 < length told.new) }
+/// Plans a step of a message of an update tree or a read tree. If the tree is answered, then behind what the step sends
+/// goes what lets its marks go, and the answer to the client. After out of memory the scratch may hold a part of what
+/// goes out.
+pub(crate) fn plan_answered(
+    core: &NodeCore,
+    script: &Script,
+    part: PartPlan,
+    votes: VotePlan,
+    scratch: &mut Scratch,
+) -> Result<Plan, NoMemory>
+    // What the caller knows.
+    requires may { MayDo (doing_meant part.doing scratch.old) scratch.old.sent core.now.parts }
+    requires apart { IsApartAfter (part_meant part scratch.old) core.now }
+    // What is planned.
+    ensures { IfOk result (IsAnsweredPlan script.now votes part core.now scratch.old scratch.new) }
 {
-    let subs = script.subs_of(tree);
-    for node in 0..script.nodes() {
-        if visits(subs, NodeNo(node)) {
-            told.push(NodeNo(node))?;
-        }
-    }
-    Ok(())
-}
-
-/// Whether a tree marks its items: it is an update tree of a script with strict trees.
-fn marks(script: &Script, tree: TreeNo) -> bool
-    ensures { result ≡ marks script.now tree.0 }
-{
-    script.has_strict() && is_update(script, tree)
-}
-
-/// Whether a tree is there, and is an update tree.
-fn is_update(script: &Script, tree: TreeNo) -> bool
-    ensures { result ≡ updates script.now tree.0 }
-{
-    matches!(kind_of(script, tree), Some(TreeKind::Update))
+    let PartPlan { doing, answered } = part;
+    push_releases(&mut scratch.sent, script, &answered)?;
+    push_reply(&mut scratch.sent, client_of(script), answered)?;
+    Ok(plan_with(doing, votes, HoldPlan::Stay))
 }
 
 /// Adds a message to each node that a tree visits, which lets the tree's marks go, if the tree is answered and marks its
@@ -82,57 +77,18 @@ fn push_tree_releases(sent: &mut Letters, script: &Script, tree: TreeNo) -> Resu
     Ok(())
 }
 
-/// Plans a step of a message of an update tree or a read tree. If the tree is answered, then behind what the step sends
-/// goes what lets its marks go, and the answer to the client. After out of memory the scratch may hold a part of what
-/// goes out.
-pub(crate) fn plan_answered(
-    core: &NodeCore,
-    script: &Script,
-    part: PartPlan,
-    votes: VotePlan,
-    scratch: &mut Scratch,
-) -> Result<Plan, NoMemory>
-    // What the caller knows.
-    requires may { MayDo (doing_meant part.doing scratch.old) scratch.old.sent core.now.parts }
-    requires apart { IsApartAfter (part_meant part scratch.old) core.now }
-    // What is planned.
-    ensures { IfOk result (IsAnsweredPlan script.now votes part core.now scratch.old scratch.new) }
+/// Whether a tree marks its items: it is an update tree of a script with strict trees.
+fn marks(script: &Script, tree: TreeNo) -> bool
+    ensures { result ≡ marks script.now tree.0 }
 {
-    let PartPlan { doing, answered } = part;
-    push_releases(&mut scratch.sent, script, &answered)?;
-    push_reply(&mut scratch.sent, client_of(script), answered)?;
-    Ok(plan_with(doing, votes, HoldPlan::Stay))
+    script.has_strict() && is_update(script, tree)
 }
 
-/// Whether a tree commits after these changes of the negative votes: it has none.
-fn commits(refusals: &Refusals, votes: VotePlan, scratch: &Scratch, tree: TreeNo) -> bool
-    ensures { result ≡ none_refuses tree (refusals_meant votes scratch.now refusals.now) }
+/// Whether a tree is there, and is an update tree.
+fn is_update(script: &Script, tree: TreeNo) -> bool
+    ensures { result ≡ updates script.now tree.0 }
 {
-    match votes {
-        VotePlan::Note(of) => match scratch.refusal {
-            Some(_) => tree.0 != of.0 && refusals.of(tree).is_none(),
-            None => refusals.of(tree).is_none(),
-        },
-        VotePlan::Drop(of) => tree.0 == of.0 || refusals.of(tree).is_none(),
-        _ => refusals.of(tree).is_none(),
-    }
-}
-
-/// Adds a message to each of these nodes that tells it the decision.
-fn push_decides(sent: &mut Letters, decision: Decision, nodes: &[NodeNo]) -> Result<(), NoMemory>
-    ensures { OnOk result (sent.new ≡ sent.old ++ decides_to decision nodes.now) }
-{
-    for node in nodes {
-        sent.push(Outgoing {
-            to: ActorNo(node.0),
-            body: Body::Decide {
-                tree: decision.tree,
-                version: decision.version,
-                commit: decision.commit,
-            },
-        })?;
-    }
-    Ok(())
+    matches!(kind_of(script, tree), Some(TreeKind::Update))
 }
 
 /// Plans a step of a message of a strict tree, with the decision if no vote is missing. Each node that the tree visits is
@@ -172,4 +128,49 @@ pub(crate) fn plan_decided(
     scratch.acts.push(Act::Decided { tree, commit })?;
     scratch.held = values;
     Ok(plan_with(doing, votes, HoldPlan::Hold { tree, version }))
+}
+
+/// Whether a tree commits after these changes of the negative votes: it has none.
+fn commits(refusals: &Refusals, votes: VotePlan, scratch: &Scratch, tree: TreeNo) -> bool
+    ensures { result ≡ none_refuses tree (refusals_meant votes scratch.now refusals.now) }
+{
+    match votes {
+        VotePlan::Note(of) => match scratch.refusal {
+            Some(_) => tree.0 != of.0 && refusals.of(tree).is_none(),
+            None => refusals.of(tree).is_none(),
+        },
+        VotePlan::Drop(of) => tree.0 == of.0 || refusals.of(tree).is_none(),
+        _ => refusals.of(tree).is_none(),
+    }
+}
+
+/// Adds the nodes that a tree visits, in order.
+fn push_visited(told: &mut Visited, script: &Script, tree: TreeNo) -> Result<(), NoMemory>
+    ensures nodes { OnOk result (numbers_of_nodes told.new ≡ numbers_of_nodes told.old ++ visited_by script.now tree.0) }
+    ensures some { OnOk result (0 < length (subs_at script.now tree.0) → 0 < length told.new) }
+{
+    let subs = script.subs_of(tree);
+    for node in 0..script.nodes() {
+        if visits(subs, NodeNo(node)) {
+            told.push(NodeNo(node))?;
+        }
+    }
+    Ok(())
+}
+
+/// Adds a message to each of these nodes that tells it the decision.
+fn push_decides(sent: &mut Letters, decision: Decision, nodes: &[NodeNo]) -> Result<(), NoMemory>
+    ensures { OnOk result (sent.new ≡ sent.old ++ decides_to decision nodes.now) }
+{
+    for node in nodes {
+        sent.push(Outgoing {
+            to: ActorNo(node.0),
+            body: Body::Decide {
+                tree: decision.tree,
+                version: decision.version,
+                commit: decision.commit,
+            },
+        })?;
+    }
+    Ok(())
 }

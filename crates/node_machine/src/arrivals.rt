@@ -4,13 +4,29 @@ ghost use Rattle.std.specs.Map.{keys_of, values_of};
 ghost use Rattle.std.specs.Option.{option_copied};
 ghost use Rattle.std.specs.List.Sorted.{IsStrictlySortedBy};
 ghost use Rattle.std.specs.Ordering.{nat_cmp};
-ghost use Rattle.node_machine.specs.inside.Arrivals.{ArePlaced, FindsSame, IsKeptAgain, called_at, came, is_called_now, with_letter_at, without_first};
 ghost use Rattle.letter_types.specs.Kept.{first_called, without_called};
+ghost use Rattle.node_machine.specs.inside.Arrivals.{ArePlaced, FindsSame, IsKeptAgain, called_at, came, is_called_now, with_letter_at, without_first};
 
 use crate::places::{KeptPlace, Key, add_places, take_places};
 use letter_types::{Body, KeepReason, KeptLetter, Letter, LetterId};
 use std::collections::{BTreeMap, BTreeSet};
 use tv_base::{ActorNo, NoMemory, Stamp, SubNo, TreeNo};
+
+/// The first called message of this subtransaction.
+pub(crate) fn called_letter<'a>(
+    letters: &'a BTreeMap<u64, KeptLetter>,
+    places: &BTreeSet<KeptPlace>,
+    next: u64,
+    tree: TreeNo,
+    sub: SubNo,
+) -> Option<&'a Letter>
+    requires { ArePlaced next letters.now.entries places.now.keys }
+    ensures { option_copied result ≡ first_called tree sub (values_of letters.now.entries) }
+{
+    let arrival = called(letters, places, next, tree, sub)?;
+    let kept = letters.get(&arrival)?;
+    Some(&kept.letter)
+}
 
 /// When the first called message of this subtransaction came.
 pub(crate) fn called(
@@ -46,22 +62,6 @@ fn is_called(letters: &BTreeMap<u64, KeptLetter>, arrival: u64) -> bool
     }
 }
 
-/// The first called message of this subtransaction.
-pub(crate) fn called_letter<'a>(
-    letters: &'a BTreeMap<u64, KeptLetter>,
-    places: &BTreeSet<KeptPlace>,
-    next: u64,
-    tree: TreeNo,
-    sub: SubNo,
-) -> Option<&'a Letter>
-    requires { ArePlaced next letters.now.entries places.now.keys }
-    ensures { option_copied result ≡ first_called tree sub (values_of letters.now.entries) }
-{
-    let arrival = called(letters, places, next, tree, sub)?;
-    let kept = letters.get(&arrival)?;
-    Some(&kept.letter)
-}
-
 /// Defers a message that came last. It comes back if memory runs out, and then what is deferred is as it was.
 pub(crate) fn insert(
     letters: &mut BTreeMap<u64, KeptLetter>,
@@ -91,6 +91,21 @@ pub(crate) fn insert(
     }
 }
 
+/// Lets the first called message of this subtransaction go, if there is one.
+pub(crate) fn let_called_go(
+    letters: &mut BTreeMap<u64, KeptLetter>,
+    places: &mut BTreeSet<KeptPlace>,
+    next: u64,
+    tree: TreeNo,
+    sub: SubNo,
+)
+    requires { ArePlaced next letters.old.entries places.old.keys }
+    ensures others { values_of letters.new.entries ≡ without_called tree sub (values_of letters.old.entries) }
+    ensures kept { ArePlaced next letters.new.entries places.new.keys }
+{
+    take_called(letters, places, next, tree, sub);
+}
+
 /// Takes the first called message of this subtransaction away, if there is one.
 pub(crate) fn take_called(
     letters: &mut BTreeMap<u64, KeptLetter>,
@@ -108,21 +123,6 @@ pub(crate) fn take_called(
     let kept = letters.remove(&arrival)?;
     take_places(places, arrival, tree, sub, KeepReason::Called);
     Some(kept.letter)
-}
-
-/// Lets the first called message of this subtransaction go, if there is one.
-pub(crate) fn let_called_go(
-    letters: &mut BTreeMap<u64, KeptLetter>,
-    places: &mut BTreeSet<KeptPlace>,
-    next: u64,
-    tree: TreeNo,
-    sub: SubNo,
-)
-    requires { ArePlaced next letters.old.entries places.old.keys }
-    ensures others { values_of letters.new.entries ≡ without_called tree sub (values_of letters.old.entries) }
-    ensures kept { ArePlaced next letters.new.entries places.new.keys }
-{
-    take_called(letters, places, next, tree, sub);
 }
 
 /// Defers the first called message of this subtransaction again, last, for this reason. If memory runs out, what is

@@ -1,20 +1,21 @@
 // A decision, an acknowledgement of one, and marks that go.
 ghost use Rattle.std.specs.Prelude.{[], ◌++◌, ◌<◌, ◌≡◌, IfOk, IsTrue, OnOk, Some, length};
-ghost use Rattle.node_machine.specs.Apt.{acked_apt, acks_here, decide_apt_at, decides_here, release_apt};
 ghost use Rattle.tree_step.specs.Core.{CanCoreStep, IsCoreReady, core_of};
-ghost use Rattle.node_machine.specs.inside.Decided.{acking, completing, dropping, plan_with};
 ghost use Rattle.tree_step.specs.Meant.{IsEmpty, core_meant};
-ghost use Rattle.node_machine.specs.Answering.{IsAckedStep, IsDecideStep, IsReleaseStep, can_decide_at};
+ghost use Rattle.letter_types.specs.declared.bodies.Body.TheVariants.{Decide, Decided, Release};
 ghost use Rattle.item_versions.specs.Window.{in_window};
 ghost use Rattle.tx_trees.specs.ScriptData.{client_of, subs_at};
 ghost use Rattle.world_model.specs.Named.{is_strict_at};
 ghost use Rattle.tree_home.specs.HeldAnswers.{answer_when_acked, held_answers, held_in, last_answer};
 ghost use Rattle.world_model.specs.Strict.{answer_by, answer_letters};
 ghost use Rattle.tree_home.specs.Maps.{by_tree};
-ghost use Rattle.letter_types.specs.declared.bodies.Body.TheVariants.{Decide, Decided, Release};
+ghost use Rattle.node_machine.specs.Apt.{acked_apt, acks_here, decide_apt_at, decides_here, release_apt};
+ghost use Rattle.node_machine.specs.inside.Decided.{acking, completing, dropping};
+ghost use Rattle.node_machine.specs.Answering.{IsAckedStep, IsDecideStep, IsReleaseStep, can_decide_at};
 ghost use Rattle.node_machine.specs.Choices.{IsOwnChoice};
+ghost use Rattle.node_machine.specs.inside.Own.{from_node};
 
-use crate::node_plan::CoreChoice;
+use crate::node_plan::{CoreChoice, plan_with};
 use commute_ops::copy_values;
 use letter_types::{Act, Answer, Body, Boxed, Letter, Letters, Outgoing};
 use nc_commit::{Decision, may_apply_decision, stage_decided};
@@ -29,14 +30,38 @@ use tv_base::{ActorNo, NoMemory, NodeNo, SubNo, TreeNo, Version};
 use tx_trees::Script;
 use world_model::NegativeVote;
 
-/// Whether the script has strict trees, this one has a subtransaction at the message's addressee, and a node sent the
-/// message.
-fn decides_here(letter: &Letter, script: &Script, tree: TreeNo) -> bool
-    ensures { result ≡ decides_here script.now letter.now.to.0 letter.now.from.0 tree }
+/// A decision on a strict tree of this version.
+pub(crate) fn decision_on(tree: TreeNo, version: Version, commit: bool) -> Decision
+    ensures { result ≡ record { tree = tree; version = version; commit = commit } }
 {
-    script.has_strict()
-        && visits(script.subs_of(tree), NodeNo(letter.to.0))
-        && letter.from.0 < script.nodes()
+    Decision {
+        tree,
+        version,
+        commit,
+    }
+}
+
+/// A decision on a strict tree.
+pub(crate) fn choose_decide(
+    alloc: Global,
+    core: &NodeCore,
+    letter: &Letter,
+    script: &Script,
+    decision: Decision,
+    scratch: &mut Scratch,
+) -> Result<CoreChoice, NoMemory>
+    // What the caller knows.
+    requires ready { IsCoreReady script.now letter.now.to.0 core.now }
+    requires body { letter.now.body ≡ Decide decision.tree decision.version decision.commit }
+    requires empty { IsEmpty scratch.old }
+    // What is planned.
+    ensures { IfOk result (IsOwnChoice script.now letter.now core.now scratch.new) }
+{
+    if !decide_apt(core, letter, script, decision) {
+        return Ok(CoreChoice::Still);
+    }
+    let plan = plan_decide(alloc, core, letter, script, decision, scratch)?;
+    Ok(CoreChoice::Does(plan))
 }
 
 /// Whether a decision is enabled: its tree is strict and has a subtransaction here, its version is one that the node
@@ -49,79 +74,14 @@ fn decide_apt(core: &NodeCore, letter: &Letter, script: &Script, decision: Decis
         && may_apply_decision(&core.parts.items, decision, script, NodeNo(letter.to.0))
 }
 
-/// Whether the script has strict trees, this one is at home at the message's addressee, and a node sent the message.
-fn acks_here(letter: &Letter, script: &Script, tree: TreeNo) -> bool
-    ensures { result ≡ acks_here script.now letter.now.to.0 letter.now.from.0 tree }
+/// Whether the script has strict trees, this one has a subtransaction at the message's addressee, and a node sent the
+/// message.
+fn decides_here(letter: &Letter, script: &Script, tree: TreeNo) -> bool
+    ensures { result ≡ decides_here script.now letter.now.to.0 letter.now.from.0 tree }
 {
-    script.has_strict() && script.home_of(tree) == letter.to.0 && letter.from.0 < script.nodes()
-}
-
-/// Whether an acknowledgement is enabled.
-fn acked_apt(
-    core: &NodeCore,
-    letter: &Letter,
-    script: &Script,
-    tree: TreeNo,
-    version: Version,
-) -> bool
-    ensures { result ≡ acked_apt script.now letter.now.to.0 letter.now.from.0 (core_of core.now) tree version }
-{
-    acks_here(letter, script, tree) && is_near(&core.parts.turns, version)
-}
-
-/// Whether it is enabled that a tree's marks go at a node: the script has strict trees, and the tree a subtransaction
-/// there.
-fn release_apt(script: &Script, at: ActorNo, tree: TreeNo) -> bool
-    ensures { result ≡ release_apt script.now at.0 tree }
-{
-    script.has_strict() && visits(script.subs_of(tree), NodeNo(at.0))
-}
-
-/// The plan of these three parts, by which a node hears of no epoch.
-pub(crate) fn plan_with(doing: Doing, votes: VotePlan, holds: HoldPlan) -> Plan
-    ensures { result ≡ plan_with doing votes holds }
-{
-    Plan {
-        doing,
-        votes,
-        holds,
-        epoch: None,
-    }
-}
-
-/// Plans that a node lets the marks of an update tree go.
-pub(crate) fn plan_release(
-    core: &NodeCore,
-    tree: TreeNo,
-    scratch: &mut Scratch,
-) -> Result<Plan, NoMemory>
-    requires can { CanCoreStep core.now }
-    requires none_sent { scratch.old.sent ≡ [] }
-    requires no_acts { scratch.old.acts ≡ [] }
-    ensures { IfOk result (λ plan. IsReleaseStep tree core.now (core_meant plan scratch.new)) }
-{
-    scratch.acts.push(Act::Freed { tree })?;
-    Ok(plan_with(Doing::Still, VotePlan::Free(tree), HoldPlan::Stay))
-}
-
-/// What a node's parts do for a completion: one from node `from` is counted in this version, and the first `asked` of the
-/// messages that are sent.
-fn completing(tree: TreeNo, from: NodeNo, version: Version, asked: usize) -> Doing
-    ensures { result ≡ completing tree from version asked }
-{
-    let counting = Counting {
-        version,
-        root: false,
-        from,
-        asked,
-    };
-    Doing::Tree(TreePlan {
-        tree,
-        sub: SubNo(0),
-        raises: false,
-        counting,
-        home: HomePlan::Stay,
-    })
+    script.has_strict()
+        && visits(script.subs_of(tree), NodeNo(letter.to.0))
+        && letter.from.0 < script.nodes()
 }
 
 /// Plans that a node applies the decision that a message brings. A commit writes what the tree sets and draws there. The
@@ -164,100 +124,24 @@ pub(crate) fn plan_decide(
     Ok(plan_with(doing, VotePlan::Free(tree), HoldPlan::Stay))
 }
 
-/// What becomes of the held answers at an acknowledgement of a tree: they stay if none of this tree is held.
-fn acking(homes: &Homes, tree: TreeNo) -> HoldPlan
-    ensures { result ≡ acking tree (held_in tree (held_answers homes.now)) }
+/// What a node's parts do for a completion: one from node `from` is counted in this version, and the first `asked` of the
+/// messages that are sent.
+fn completing(tree: TreeNo, from: NodeNo, version: Version, asked: usize) -> Doing
+    ensures { result ≡ completing tree from version asked }
 {
-    match homes.held(tree) {
-        Some(_) => HoldPlan::Ack(tree),
-        None => HoldPlan::Stay,
-    }
-}
-
-/// A copy of an answer that is held, if no acknowledgement but the next is missing.
-fn last_answer(alloc: Global, held: &Held) -> Result<Option<Answered>, NoMemory>
-    ensures { IfOk result (λ answer. answer ≡ last_answer (Some held.now)) }
-{
-    if 1 < held.waits {
-        return Ok(None);
-    }
-    let Answered { tree, version, .. } = held.answered;
-    let values = copy_values(alloc, &held.answered.values)?;
-    Ok(Some(Answered {
-        tree,
+    let counting = Counting {
         version,
-        values,
-    }))
-}
-
-/// A copy of the answer of a tree that its next acknowledgement sets free, if it sets one free.
-fn freed_answer(alloc: Global, homes: &Homes, tree: TreeNo) -> Result<Option<Answered>, NoMemory>
-    ensures { IfOk result (λ answer. answer ≡ answer_when_acked tree (held_answers homes.now)) }
-{
-    match homes.held(tree) {
-        Some(held) => last_answer(alloc, held),
-        None => Ok(None),
-    }
-}
-
-/// What becomes of the negative votes at an answer: that of its tree goes.
-fn dropping(answered: &Option<Answered>) -> VotePlan
-    ensures { result ≡ dropping answered.now }
-{
-    match answered {
-        Some(answered) => VotePlan::Drop(answered.tree),
-        None => VotePlan::Stay,
-    }
-}
-
-/// What the client is told of a strict tree: the values, or the cause of the tree's negative vote, if it has one.
-fn answer_by(
-    alloc: Global,
-    refusal: Option<NegativeVote>,
-    answered: Answered,
-) -> Result<Answer, NoMemory>
-    ensures { IfOk result (λ answer. answer ≡ answer_by refusal answered) }
-{
-    match refusal {
-        None => Ok(Answer::Whole(answered.values)),
-        Some(refusal) => {
-            let cause = Boxed::new(alloc, refusal.cause)?;
-            Ok(Answer::Aborted(cause))
-        }
-    }
-}
-
-/// The client's number.
-pub(crate) fn client_of(script: &Script) -> ActorNo
-    ensures { result ≡ record { 0 = client_of script.now } }
-{
-    ActorNo(script.nodes() + 1)
-}
-
-/// Adds the answer of a strict tree to the client, if there is one.
-fn push_answer(
-    alloc: Global,
-    sent: &mut Letters,
-    script: &Script,
-    refusals: &Refusals,
-    answered: Option<Answered>,
-) -> Result<(), NoMemory>
-    ensures { OnOk result (sent.new ≡ sent.old ++ answer_letters script.now (by_tree refusals.now) answered) }
-{
-    let Some(answered) = answered else {
-        return Ok(());
+        root: false,
+        from,
+        asked,
     };
-    let Answered { tree, version, .. } = answered;
-    let answer = answer_by(alloc, refusals.of(tree), answered)?;
-    sent.push(Outgoing {
-        to: client_of(script),
-        body: Body::Reply {
-            tree,
-            version,
-            answer,
-        },
-    })?;
-    Ok(())
+    Doing::Tree(TreePlan {
+        tree,
+        sub: SubNo(0),
+        raises: false,
+        counting,
+        home: HomePlan::Stay,
+    })
 }
 
 /// An acknowledgement: a node has applied the decision on a strict tree.
@@ -268,6 +152,61 @@ pub struct Acknowledgement {
     pub version: Version,
     /// The node that applied it.
     pub from: NodeNo,
+}
+
+/// The acknowledgement that a message is, of a decision on a strict tree of this version.
+pub(crate) fn acknowledged(letter: &Letter, tree: TreeNo, version: Version) -> Acknowledgement
+    ensures { result ≡ record { tree = tree; version = version; from = from_node letter.now } }
+{
+    Acknowledgement {
+        tree,
+        version,
+        from: NodeNo(letter.from.0),
+    }
+}
+
+/// An acknowledgement at a strict tree's home.
+pub(crate) fn choose_acked(
+    alloc: Global,
+    core: &NodeCore,
+    letter: &Letter,
+    script: &Script,
+    acked: Acknowledgement,
+    scratch: &mut Scratch,
+) -> Result<CoreChoice, NoMemory>
+    // What the caller knows.
+    requires ready { IsCoreReady script.now letter.now.to.0 core.now }
+    requires body { letter.now.body ≡ Decided acked.tree acked.version }
+    requires from { acked.from.0 ≡ letter.now.from.0 }
+    requires empty { IsEmpty scratch.old }
+    // What is planned.
+    ensures { IfOk result (IsOwnChoice script.now letter.now core.now scratch.new) }
+{
+    if !acked_apt(core, letter, script, acked.tree, acked.version) {
+        return Ok(CoreChoice::Still);
+    }
+    let plan = plan_acked(alloc, core, script, acked, scratch)?;
+    Ok(CoreChoice::Does(plan))
+}
+
+/// Whether an acknowledgement is enabled.
+fn acked_apt(
+    core: &NodeCore,
+    letter: &Letter,
+    script: &Script,
+    tree: TreeNo,
+    version: Version,
+) -> bool
+    ensures { result ≡ acked_apt script.now letter.now.to.0 letter.now.from.0 (core_of core.now) tree version }
+{
+    acks_here(letter, script, tree) && is_near(&core.parts.turns, version)
+}
+
+/// Whether the script has strict trees, this one is at home at the message's addressee, and a node sent the message.
+fn acks_here(letter: &Letter, script: &Script, tree: TreeNo) -> bool
+    ensures { result ≡ acks_here script.now letter.now.to.0 letter.now.from.0 tree }
+{
+    script.has_strict() && script.home_of(tree) == letter.to.0 && letter.from.0 < script.nodes()
 }
 
 /// Plans that a strict tree's home takes an acknowledgement down. After the last one the client is answered. After out of
@@ -299,51 +238,93 @@ pub(crate) fn plan_acked(
     Ok(plan_with(doing, votes, acking(homes, tree)))
 }
 
-/// A decision on a strict tree.
-pub(crate) fn choose_decide(
-    alloc: Global,
-    core: &NodeCore,
-    letter: &Letter,
-    script: &Script,
-    decision: Decision,
-    scratch: &mut Scratch,
-) -> Result<CoreChoice, NoMemory>
-    // What the caller knows.
-    requires ready { IsCoreReady script.now letter.now.to.0 core.now }
-    requires body { letter.now.body ≡ Decide decision.tree decision.version decision.commit }
-    requires empty { IsEmpty scratch.old }
-    // What is planned.
-    ensures { IfOk result (IsOwnChoice script.now letter.now core.now scratch.new) }
+/// What becomes of the held answers at an acknowledgement of a tree: they stay if none of this tree is held.
+fn acking(homes: &Homes, tree: TreeNo) -> HoldPlan
+    ensures { result ≡ acking tree (held_in tree (held_answers homes.now)) }
 {
-    if !decide_apt(core, letter, script, decision) {
-        return Ok(CoreChoice::Still);
+    match homes.held(tree) {
+        Some(_) => HoldPlan::Ack(tree),
+        None => HoldPlan::Stay,
     }
-    let plan = plan_decide(alloc, core, letter, script, decision, scratch)?;
-    Ok(CoreChoice::Does(plan))
 }
 
-/// An acknowledgement at a strict tree's home.
-pub(crate) fn choose_acked(
-    alloc: Global,
-    core: &NodeCore,
-    letter: &Letter,
-    script: &Script,
-    acked: Acknowledgement,
-    scratch: &mut Scratch,
-) -> Result<CoreChoice, NoMemory>
-    // What the caller knows.
-    requires ready { IsCoreReady script.now letter.now.to.0 core.now }
-    requires body { letter.now.body ≡ Decided acked.tree acked.version }
-    requires from { acked.from.0 ≡ letter.now.from.0 }
-    requires empty { IsEmpty scratch.old }
-    // What is planned.
-    ensures { IfOk result (IsOwnChoice script.now letter.now core.now scratch.new) }
+/// A copy of the answer of a tree that its next acknowledgement sets free, if it sets one free.
+fn freed_answer(alloc: Global, homes: &Homes, tree: TreeNo) -> Result<Option<Answered>, NoMemory>
+    ensures { IfOk result (λ answer. answer ≡ answer_when_acked tree (held_answers homes.now)) }
 {
-    if !acked_apt(core, letter, script, acked.tree, acked.version) {
-        return Ok(CoreChoice::Still);
+    match homes.held(tree) {
+        Some(held) => last_answer(alloc, held),
+        None => Ok(None),
     }
-    let plan = plan_acked(alloc, core, script, acked, scratch)?;
-    Ok(CoreChoice::Does(plan))
+}
+
+/// A copy of an answer that is held, if no acknowledgement but the next is missing.
+fn last_answer(alloc: Global, held: &Held) -> Result<Option<Answered>, NoMemory>
+    ensures { IfOk result (λ answer. answer ≡ last_answer (Some held.now)) }
+{
+    if 1 < held.waits {
+        return Ok(None);
+    }
+    let Answered { tree, version, .. } = held.answered;
+    let values = copy_values(alloc, &held.answered.values)?;
+    Ok(Some(Answered {
+        tree,
+        version,
+        values,
+    }))
+}
+
+/// What becomes of the negative votes at an answer: that of its tree goes.
+fn dropping(answered: &Option<Answered>) -> VotePlan
+    ensures { result ≡ dropping answered.now }
+{
+    match answered {
+        Some(answered) => VotePlan::Drop(answered.tree),
+        None => VotePlan::Stay,
+    }
+}
+
+/// Adds the answer of a strict tree to the client, if there is one.
+fn push_answer(
+    alloc: Global,
+    sent: &mut Letters,
+    script: &Script,
+    refusals: &Refusals,
+    answered: Option<Answered>,
+) -> Result<(), NoMemory>
+    ensures { OnOk result (sent.new ≡ sent.old ++ answer_letters script.now (by_tree refusals.now) answered) }
+{
+    let Some(answered) = answered else {
+        return Ok(());
+    };
+    let Answered { tree, version, .. } = answered;
+    let answer = answer_by(alloc, refusals.of(tree), answered)?;
+    sent.push(Outgoing {
+        to: client_of(script),
+        body: Body::Reply {
+            tree,
+            version,
+            answer,
+        },
+    })?;
+    Ok(())
+}
+
+/// What the client is told of a strict tree: the values, or the cause of the tree's negative vote, if it has one.
+fn answer_by(
+    alloc: Global,
+    refusal: Option<NegativeVote>,
+    answered: Answered,
+) -> Result<Answer, NoMemory>
+    ensures { IfOk result (λ answer. answer ≡ answer_by refusal answered) }
+{
+    match refusal {
+        None => Ok(Answer::Whole(answered.values)),
+        Some(refusal) => {
+            let cause = Boxed::new(alloc, refusal.cause)?;
+            Ok(Answer::Aborted(cause))
+        }
+    }
 }
 
 /// Marks of an update tree that go.
@@ -366,4 +347,34 @@ pub(crate) fn choose_release(
     }
     let plan = plan_release(core, tree, scratch)?;
     Ok(CoreChoice::Does(plan))
+}
+
+/// Whether it is enabled that a tree's marks go at a node: the script has strict trees, and the tree a subtransaction
+/// there.
+fn release_apt(script: &Script, at: ActorNo, tree: TreeNo) -> bool
+    ensures { result ≡ release_apt script.now at.0 tree }
+{
+    script.has_strict() && visits(script.subs_of(tree), NodeNo(at.0))
+}
+
+/// Plans that a node lets the marks of an update tree go.
+pub(crate) fn plan_release(
+    core: &NodeCore,
+    tree: TreeNo,
+    scratch: &mut Scratch,
+) -> Result<Plan, NoMemory>
+    requires can { CanCoreStep core.now }
+    requires none_sent { scratch.old.sent ≡ [] }
+    requires no_acts { scratch.old.acts ≡ [] }
+    ensures { IfOk result (λ plan. IsReleaseStep tree core.now (core_meant plan scratch.new)) }
+{
+    scratch.acts.push(Act::Freed { tree })?;
+    Ok(plan_with(Doing::Still, VotePlan::Free(tree), HoldPlan::Stay))
+}
+
+/// The client's number.
+pub(crate) fn client_of(script: &Script) -> ActorNo
+    ensures { result ≡ record { 0 = client_of script.now } }
+{
+    ActorNo(script.nodes() + 1)
 }

@@ -6,8 +6,8 @@ ghost use Rattle.node_machine.specs.Again.{kept_again};
 ghost use Rattle.node_machine.specs.Waits.{waits_alike};
 
 use crate::arrivals::{called_letter, insert, insert_again, let_called_go};
+use crate::calling::{call_all, push_wakes};
 use crate::places::{KeptPlace, Key};
-use crate::wakes::{call_all, push_wakes};
 use letter_types::{Body, KeepReason, KeptLetter, Letter, Letters};
 use std::alloc::Global;
 use std::collections::{BTreeMap, BTreeSet};

@@ -4,11 +4,12 @@
 
 mod answers;
 mod arrivals;
+mod brought;
+mod calling;
 mod decisions;
 mod done;
 mod kept;
 mod letters;
-mod meeting;
 mod node_plan;
 mod notices;
 mod orders;
@@ -16,9 +17,9 @@ mod places;
 mod questions;
 mod state;
 mod subs;
+mod updates;
 mod votes;
 mod wakes;
-mod waking;
 
 pub use done::do_node;
 pub use kept::KeptLetters;

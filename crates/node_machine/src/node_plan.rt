@@ -1,8 +1,12 @@
 // What a node is to do with a message: a plan, whose rest lies in a scratch.
+ghost use Rattle.std.specs.Prelude.{◌≡◌, None};
+ghost use Rattle.tree_step.specs.declared.plan.Doing.TheVariants.{Still};
+ghost use Rattle.node_machine.specs.inside.Decided.{plan_with};
+ghost use Rattle.node_machine.specs.inside.Stays.{plan_of};
 
 use letter_types::KeepReason;
 use std::mem::size_of;
-use tree_step::Plan;
+use tree_step::{Doing, HoldPlan, Plan, VotePlan};
 use tv_base::{SubNo, TreeNo, Version};
 
 /// How a message is deferred, last of all: the one in the scratch, which came now; or, if none is there, the called
@@ -14,17 +18,6 @@ pub struct KeepPlan {
     pub why: KeepReason,
     /// The update version that the node raises then, if it must.
     pub raises: Option<Version>,
-}
-
-/// What a core is to do with a message. What takes memory lies in a scratch.
-#[derive(Clone, Copy)]
-pub enum CoreChoice {
-    /// The message isn't enabled: nothing.
-    Still,
-    /// It is deferred: it can't be done yet. The acts are in the scratch.
-    Keeps(KeepPlan),
-    /// Its row is done.
-    Does(Plan),
 }
 
 /// What becomes of the deferred messages if a message is done.
@@ -49,7 +42,50 @@ pub enum NodePlan {
     Does { plan: Plan, kept: KeptPlan },
 }
 
+/// What a core is to do with a message. What takes memory lies in a scratch.
+#[derive(Clone, Copy)]
+pub enum CoreChoice {
+    /// The message isn't enabled: nothing.
+    Still,
+    /// It is deferred: it can't be done yet. The acts are in the scratch.
+    Keeps(KeepPlan),
+    /// Its row is done.
+    Does(Plan),
+}
+
 // A plan is copied, so it is small; what is large lies in the scratch.
 const _: () = prove!(size_of::<Plan>() <= 112);
 
 const _: () = prove!(size_of::<NodePlan>() <= 144);
+
+/// The plan in which a node's parts do this, locks, negative votes and held answers stay, and the node hears of this
+/// epoch, if of one.
+pub(crate) fn plan_of(doing: Doing, epoch: Option<u64>) -> Plan
+    ensures { result ≡ plan_of doing epoch }
+{
+    Plan {
+        doing,
+        votes: VotePlan::Stay,
+        holds: HoldPlan::Stay,
+        epoch,
+    }
+}
+
+/// The plan of these three parts, by which a node hears of no epoch.
+pub(crate) fn plan_with(doing: Doing, votes: VotePlan, holds: HoldPlan) -> Plan
+    ensures { result ≡ plan_with doing votes holds }
+{
+    Plan {
+        doing,
+        votes,
+        holds,
+        epoch: None,
+    }
+}
+
+/// The plan in which nothing changes.
+pub(crate) fn still_plan() -> Plan
+    ensures { result ≡ plan_of Still None }
+{
+    plan_of(Doing::Still, None)
+}

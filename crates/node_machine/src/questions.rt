@@ -1,20 +1,47 @@
 // The coordinator's questions, which a node answers.
-ghost use Rattle.std.specs.Prelude.{[], ◌≡◌, IfOk, OnOk};
-ghost use Rattle.world_model.specs.Advancing.{asked_row, done_row};
+ghost use Rattle.std.specs.Prelude.{[], ◌++◌, ◌≡◌, IfOk, OnOk};
+ghost use Rattle.world_model.specs.Advancing.{asked_row, done_row, to_coordinator};
 ghost use Rattle.tree_step.specs.Meant.{ChangesOut, IsDoingPlan, IsEmpty};
 ghost use Rattle.tree_step.specs.Node.{CanStep};
 ghost use Rattle.letter_types.specs.declared.bodies.Body.TheVariants.{Ask, AskAsked, AskDone, Numbers};
 ghost use Rattle.tree_step.specs.Core.{IsCoreReady};
+ghost use Rattle.node_machine.specs.Orders.{told_row};
 ghost use Rattle.node_machine.specs.Choices.{IsOwnChoice};
 
-use crate::node_plan::CoreChoice;
-use crate::orders::{plan_of, plan_told, push_answer, still_plan};
-use letter_types::{Body, Letter};
+use crate::node_plan::{CoreChoice, plan_of, still_plan};
+use letter_types::{Body, Letter, Letters, Outgoing};
 use node_versions::Turns;
 use std::alloc::Global;
 use tree_step::{Doing, NodeCore, NodeParts, Scratch};
-use tv_base::{NoMemory, Version};
+use tv_base::{ActorNo, NoMemory, Version};
 use tx_trees::Script;
+
+/// A version that a round of the coordinator asks for.
+#[derive(Clone, Copy)]
+pub(crate) struct RoundVersion {
+    pub(crate) version: Version,
+    pub(crate) round: u64,
+}
+
+/// A node tells its completions of a version.
+pub(crate) fn choose_done_row(
+    alloc: Global,
+    core: &NodeCore,
+    letter: &Letter,
+    script: &Script,
+    asked: RoundVersion,
+    scratch: &mut Scratch,
+) -> Result<CoreChoice, NoMemory>
+    requires ready { IsCoreReady script.now letter.now.to.0 core.now }
+    requires body { letter.now.body ≡ AskDone asked.version asked.round }
+    requires empty { IsEmpty scratch.old }
+    ensures { IfOk result (IsOwnChoice script.now letter.now core.now scratch.new) }
+{
+    let _ = letter;
+    let RoundVersion { version, round } = asked;
+    let doing = plan_done_row(alloc, &core.parts, script, version, round, scratch)?;
+    Ok(CoreChoice::Does(plan_of(doing, None)))
+}
 
 /// Plans that a node answers a round with its completions of this version, by sender. After out of memory the scratch
 /// may hold a part of what goes out.
@@ -42,6 +69,26 @@ fn plan_done_row(
     };
     push_answer(&mut scratch.sent, script, body)?;
     Ok(Doing::Still)
+}
+
+/// A node tells its requests of a version.
+pub(crate) fn choose_asked_row(
+    alloc: Global,
+    core: &NodeCore,
+    letter: &Letter,
+    script: &Script,
+    asked: RoundVersion,
+    scratch: &mut Scratch,
+) -> Result<CoreChoice, NoMemory>
+    requires ready { IsCoreReady script.now letter.now.to.0 core.now }
+    requires body { letter.now.body ≡ AskAsked asked.version asked.round }
+    requires empty { IsEmpty scratch.old }
+    ensures { IfOk result (IsOwnChoice script.now letter.now core.now scratch.new) }
+{
+    let _ = letter;
+    let RoundVersion { version, round } = asked;
+    let doing = plan_asked_row(alloc, &core.parts, script, version, round, scratch)?;
+    Ok(CoreChoice::Does(plan_of(doing, None)))
 }
 
 /// Plans that a node answers a round with its requests of this version, by addressee. After out of memory the scratch
@@ -72,25 +119,6 @@ fn plan_asked_row(
     Ok(Doing::Still)
 }
 
-/// A version that a round of the coordinator asks for.
-#[derive(Clone, Copy)]
-pub(crate) struct RoundVersion {
-    pub(crate) version: Version,
-    pub(crate) round: u64,
-}
-
-/// What a node of these versions tells a coordinator that has forgotten.
-fn numbers(epoch: u64, turns: &Turns) -> Body
-    ensures { result ≡ Numbers epoch turns.now.update turns.now.read turns.now.low }
-{
-    Body::Numbers {
-        epoch,
-        update: turns.update,
-        read: turns.read,
-        low: turns.low,
-    }
-}
-
 /// A coordinator that has forgotten asks for a node's versions: it is told, unless it asks in an epoch before the
 /// node's.
 pub(crate) fn choose_ask(
@@ -114,42 +142,46 @@ pub(crate) fn choose_ask(
     Ok(CoreChoice::Does(still_plan()))
 }
 
-/// A node tells its completions of a version.
-pub(crate) fn choose_done_row(
-    alloc: Global,
-    core: &NodeCore,
-    letter: &Letter,
-    script: &Script,
-    asked: RoundVersion,
-    scratch: &mut Scratch,
-) -> Result<CoreChoice, NoMemory>
-    requires ready { IsCoreReady script.now letter.now.to.0 core.now }
-    requires body { letter.now.body ≡ AskDone asked.version asked.round }
-    requires empty { IsEmpty scratch.old }
-    ensures { IfOk result (IsOwnChoice script.now letter.now core.now scratch.new) }
+/// What a node of these versions tells a coordinator that has forgotten.
+fn numbers(epoch: u64, turns: &Turns) -> Body
+    ensures { result ≡ Numbers epoch turns.now.update turns.now.read turns.now.low }
 {
-    let _ = letter;
-    let RoundVersion { version, round } = asked;
-    let doing = plan_done_row(alloc, &core.parts, script, version, round, scratch)?;
-    Ok(CoreChoice::Does(plan_of(doing, None)))
+    Body::Numbers {
+        epoch,
+        update: turns.update,
+        read: turns.read,
+        low: turns.low,
+    }
 }
 
-/// A node tells its requests of a version.
-pub(crate) fn choose_asked_row(
-    alloc: Global,
-    core: &NodeCore,
-    letter: &Letter,
+/// Plans that a node stays as it is, and sends the coordinator this answer. After out of memory the scratch may hold a
+/// part of what goes out.
+pub(crate) fn plan_told(
+    node: &NodeParts,
     script: &Script,
-    asked: RoundVersion,
+    answer: Body,
     scratch: &mut Scratch,
-) -> Result<CoreChoice, NoMemory>
-    requires ready { IsCoreReady script.now letter.now.to.0 core.now }
-    requires body { letter.now.body ≡ AskAsked asked.version asked.round }
-    requires empty { IsEmpty scratch.old }
-    ensures { IfOk result (IsOwnChoice script.now letter.now core.now scratch.new) }
+) -> Result<Doing, NoMemory>
+    // What the caller knows.
+    requires ready { CanStep script.now node.now }
+    requires none_sent { scratch.old.sent ≡ [] }
+    requires no_acts { scratch.old.acts ≡ [] }
+    // What is planned.
+    ensures step { IfOk result (IsDoingPlan (told_row script.now answer) node.now scratch.new) }
+    ensures rest { OnOk result (ChangesOut scratch.old scratch.new) }
 {
-    let _ = letter;
-    let RoundVersion { version, round } = asked;
-    let doing = plan_asked_row(alloc, &core.parts, script, version, round, scratch)?;
-    Ok(CoreChoice::Does(plan_of(doing, None)))
+    let _ = node;
+    push_answer(&mut scratch.sent, script, answer)?;
+    Ok(Doing::Still)
+}
+
+/// Adds an answer of this body to the coordinator.
+pub(crate) fn push_answer(sent: &mut Letters, script: &Script, body: Body) -> Result<(), NoMemory>
+    ensures { OnOk result (sent.new ≡ sent.old ++ to_coordinator script.now body) }
+{
+    sent.push(Outgoing {
+        to: ActorNo(script.nodes()),
+        body,
+    })?;
+    Ok(())
 }

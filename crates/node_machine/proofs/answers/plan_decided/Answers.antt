@@ -5,7 +5,7 @@ use Rattle.tx_trees.specs.ScriptData.{visited_by}
 use Rattle.world_model.specs.Strict.{to_each}
 use Rattle.tree_step.specs.CoreChanges.{numbers_of_nodes}
 use Rattle.tree_step.specs.declared.plan.Plan.{Plan}
-use Rattle.node_machine.proofs.AnswerPlanned.{decided_planned, deciding, undecided}
+use Rattle.node_machine.proofs.tree_rows.AnswerOrDecisionPlans.{decided_planned, deciding, undecided}
 use Rattle.node_machine.specs.Answering.{IsDecidedPlan}
 use Rattle.node_machine.proofs.answers.plan_decided.Goals as goal
 

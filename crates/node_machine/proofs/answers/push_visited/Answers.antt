@@ -5,7 +5,7 @@ use Rattle.std.proofs.lemmas.List.Elements.{recursion_from_All}
 use Rattle.tx_trees.specs.ScriptData.{visited}
 use Rattle.tx_trees.specs.declared.parts.Sub.{Sub}
 use Rattle.tree_step.specs.CoreChanges.{numbers_of_nodes}
-use Rattle.node_machine.proofs.Deciding.{as_many, visited_some}
+use Rattle.node_machine.proofs.tree_rows.DecidedAtHome.{as_many, visited_some}
 use Rattle.node_machine.proofs.answers.push_visited.Goals as goal
 
 pub returns-clause-some : goal.returns-clause-some

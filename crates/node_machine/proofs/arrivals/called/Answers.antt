@@ -1,6 +1,6 @@
 use Rattle.std.proofs.Common.{sym, ◌∙◌}
 use Rattle.node_machine.specs.inside.Arrivals.{called_at}
-use Rattle.node_machine.proofs.Walks.{called_found, ended, passed, stopped}
+use Rattle.node_machine.proofs.deferred.FirstCalledFound.{called_found, ended, passed, stopped}
 use Rattle.node_machine.proofs.arrivals.called.Goals as goal
 
 pub loop-place-init : goal.loop-place-init

@@ -1,8 +1,8 @@
 use Rattle.std.proofs.Common.{Bor, Option, ap, sym, ◌∙◌}
 use Rattle.std.specs.Option.{option_copied}
 use Rattle.letter_types.specs.declared.entries.Letter.{Letter}
-use Rattle.node_machine.proofs.Entries.{first_is, none_called, not_gone}
-use Rattle.node_machine.proofs.Keeping.{letter_of}
+use Rattle.node_machine.proofs.deferred.FirstCalled.{first_is, none_called, not_gone}
+use Rattle.node_machine.proofs.deferred.PlacesStayRight.{letter_of}
 use Rattle.node_machine.proofs.arrivals.called_letter.Goals as goal
 
 pub returns-in_err-arrival : goal.returns-in_err-arrival

@@ -1,6 +1,6 @@
 use Rattle.std.proofs.Common.{◌∙◌}
-use Rattle.node_machine.proofs.Entries.{put_last}
-use Rattle.node_machine.proofs.Keeping.{free_yet, kept_more, kept_same, same_again}
+use Rattle.node_machine.proofs.deferred.FirstCalled.{put_last}
+use Rattle.node_machine.proofs.deferred.PlacesStayRight.{free_yet, kept_more, kept_same, same_again}
 use Rattle.node_machine.proofs.arrivals.insert.Goals as goal
 
 pub returns-in-Ok-insert-clause-last : goal.returns-in-Ok-insert-clause-last

@@ -3,7 +3,7 @@ use Rattle.std.specs.Prelude.{IsSome}
 use Rattle.letter_types.specs.declared.entries.Letter.{Letter}
 use Rattle.letter_types.specs.declared.kept.KeptLetter.{KeptLetter}
 use Rattle.node_machine.specs.inside.Arrivals.{Arrived, without_first}
-use Rattle.node_machine.proofs.Again.{last_there, moved_last, still_called}
+use Rattle.node_machine.proofs.deferred.CalledDeferredAgain.{last_there, moved_last, still_called}
 use Rattle.node_machine.proofs.arrivals.insert_again.Goals as goal
 
 pub unwrap-letter-requires : goal.unwrap-letter-requires

@@ -1,7 +1,7 @@
 use Rattle.std.proofs.Common.{ap, ◌∙◌}
 use Rattle.std.specs.Map.{values_of}
 use Rattle.node_machine.specs.inside.Arrivals.{Arrived}
-use Rattle.node_machine.proofs.Entries.{letters_without}
+use Rattle.node_machine.proofs.deferred.FirstCalled.{letters_without}
 use Rattle.node_machine.proofs.arrivals.let_called_go.Goals as goal
 
 pub returns-clause-others : goal.returns-clause-others

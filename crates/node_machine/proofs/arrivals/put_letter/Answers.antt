@@ -1,6 +1,6 @@
 use Rattle.std.proofs.Common.{◌∙◌}
 use Rattle.node_machine.specs.inside.Arrivals.{came}
-use Rattle.node_machine.proofs.Again.{finds_same, lent_here, lent_some, with_letter_is}
+use Rattle.node_machine.proofs.deferred.CalledDeferredAgain.{finds_same, lent_here, lent_some, with_letter_is}
 use Rattle.node_machine.proofs.arrivals.put_letter.Goals as goal
 
 pub unwrap-kept-requires : goal.unwrap-kept-requires

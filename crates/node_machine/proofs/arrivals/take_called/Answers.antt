@@ -1,6 +1,6 @@
 use Rattle.std.proofs.Common.{sym, ◌∙◌}
-use Rattle.node_machine.proofs.Entries.{first_is, none_called, none_taken, not_gone}
-use Rattle.node_machine.proofs.Keeping.{kept_less, letter_of}
+use Rattle.node_machine.proofs.deferred.FirstCalled.{first_is, none_called, none_taken, not_gone}
+use Rattle.node_machine.proofs.deferred.PlacesStayRight.{kept_less, letter_of}
 use Rattle.node_machine.proofs.arrivals.take_called.Goals as goal
 
 pub returns-in_err-arrival-clause-taken : goal.returns-in_err-arrival-clause-taken

@@ -5,9 +5,9 @@ use Rattle.tree_step.specs.Core.{IsCoreReady, core_of}
 use Rattle.tree_step.specs.CoreChanges.{IsCoreStepOf}
 use Rattle.tree_step.specs.Meant.{core_meant}
 use Rattle.node_machine.specs.steps.ChosenStep.{Still, Does}
-use Rattle.node_machine.proofs.Aptness.{ack_apt}
-use Rattle.node_machine.proofs.DecisionTests.{is_ack, ready_from}
-use Rattle.node_machine.proofs.Planned.{plan_one}
+use Rattle.node_machine.proofs.enabled.TestsSayEnabled.{ack_apt}
+use Rattle.node_machine.proofs.enabled.DecisionTests.{is_ack, ready_from}
+use Rattle.node_machine.proofs.enabled.PlansByBody.{plan_one}
 use Rattle.node_machine.proofs.decisions.choose_acked.Goals as goal
 
 pub returns-then-not-acked_apt : goal.returns-then-not-acked_apt

@@ -3,9 +3,9 @@ use Rattle.letter_types.specs.declared.bodies.Body.TheVariants.{Decide}
 use Rattle.tree_step.specs.Core.{core_of}
 use Rattle.tree_step.specs.Meant.{core_meant}
 use Rattle.node_machine.specs.steps.ChosenStep.{Still, Does}
-use Rattle.node_machine.proofs.Aptness.{decision_apt}
-use Rattle.node_machine.proofs.DecisionTests.{is_decision, ready_from}
-use Rattle.node_machine.proofs.Planned.{plan_one}
+use Rattle.node_machine.proofs.enabled.TestsSayEnabled.{decision_apt}
+use Rattle.node_machine.proofs.enabled.DecisionTests.{is_decision, ready_from}
+use Rattle.node_machine.proofs.enabled.PlansByBody.{plan_one}
 use Rattle.node_machine.proofs.decisions.choose_decide.Goals as goal
 
 pub returns-then-not-decide_apt : goal.returns-then-not-decide_apt

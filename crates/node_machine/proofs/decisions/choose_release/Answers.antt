@@ -3,8 +3,8 @@ use Rattle.letter_types.specs.declared.bodies.Body.TheVariants.{Release}
 use Rattle.tree_step.specs.Core.{core_of}
 use Rattle.tree_step.specs.Meant.{core_meant}
 use Rattle.node_machine.specs.steps.ChosenStep.{Still, Does}
-use Rattle.node_machine.proofs.Aptness.{freed_apt}
-use Rattle.node_machine.proofs.Planned.{plan_one}
+use Rattle.node_machine.proofs.enabled.TestsSayEnabled.{freed_apt}
+use Rattle.node_machine.proofs.enabled.PlansByBody.{plan_one}
 use Rattle.node_machine.proofs.decisions.choose_release.Goals as goal
 
 pub returns-then-not-release_apt : goal.returns-then-not-release_apt

@@ -5,7 +5,7 @@ use Rattle.world_model.specs.Strict.{answer_letters}
 use Rattle.tree_step.specs.Meant.{core_meant}
 use Rattle.tree_step.specs.declared.plan.Plan.{Plan}
 use Rattle.tree_step.specs.declared.plan.Scratch.{Scratch}
-use Rattle.node_machine.proofs.Decided.{acked_plan, acked_step}
+use Rattle.node_machine.proofs.tree_rows.DecisionApplied.{acked_plan, acked_step}
 use Rattle.node_machine.specs.Answering.{IsAckedStep}
 use Rattle.node_machine.specs.inside.Decided.{plan_with}
 use Rattle.node_machine.proofs.decisions.plan_acked.Goals as goal

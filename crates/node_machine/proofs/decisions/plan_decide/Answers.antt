@@ -10,7 +10,7 @@ use Rattle.tree_step.specs.declared.plan.HoldPlan.TheVariants.{Stay}
 use Rattle.tree_step.specs.declared.plan.Plan.{Plan}
 use Rattle.tree_step.specs.declared.plan.Scratch.{Scratch}
 use Rattle.tree_step.specs.declared.plan.VotePlan.TheVariants.{Free}
-use Rattle.node_machine.proofs.Decided.{decide_plan, decide_step}
+use Rattle.node_machine.proofs.tree_rows.DecisionApplied.{decide_plan, decide_step}
 use Rattle.node_machine.specs.Answering.{IsDecideStep}
 use Rattle.node_machine.specs.inside.Decided.{plan_with}
 use Rattle.node_machine.proofs.decisions.plan_decide.Goals as goal

@@ -1,7 +1,7 @@
 use Rattle.std.proofs.Common.{sym}
 use Rattle.tree_step.specs.Core.{core_of}
-use Rattle.node_machine.proofs.Aptness.{other_unapt}
-use Rattle.node_machine.proofs.Planned.{own_plan}
+use Rattle.node_machine.proofs.enabled.TestsSayEnabled.{other_unapt}
+use Rattle.node_machine.proofs.enabled.PlansByBody.{own_plan}
 use Rattle.node_machine.proofs.letters.choose_core.Goals as goal
 
 pub returns-then-not-suits_coordinator : goal.returns-then-not-suits_coordinator

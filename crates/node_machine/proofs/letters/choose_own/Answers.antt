@@ -1,5 +1,5 @@
 use Rattle.std.proofs.Common.{refl}
-use Rattle.node_machine.proofs.Planned.{root_plan, sub_plan}
+use Rattle.node_machine.proofs.enabled.PlansByBody.{root_plan, sub_plan}
 use Rattle.node_machine.proofs.letters.choose_own.Goals as goal
 
 pub choose_tree-requires-clause-asks : goal.choose_tree-requires-clause-asks

@@ -10,8 +10,8 @@ use Rattle.tree_step.specs.Meant.{core_meant}
 use Rattle.node_machine.specs.Meant.{IsPlanned}
 use Rattle.node_machine.specs.State.{keeping_of}
 use Rattle.node_machine.specs.declared.node_plan.NodePlan.{NodePlan}
-use Rattle.node_machine.proofs.Brought.{brought_to}
-use Rattle.node_machine.proofs.Rows.{does_row, keeps_row, kept_asks}
+use Rattle.node_machine.proofs.node_rows.BroughtAddressed.{brought_to}
+use Rattle.node_machine.proofs.node_rows.DeferredOrDoneRows.{does_row, keeps_row, kept_asks}
 use Rattle.node_machine.proofs.letters.plan_letter.Goals as goal
 
 pub choose_core-requires-clause-ready : goal.choose_core-requires-clause-ready

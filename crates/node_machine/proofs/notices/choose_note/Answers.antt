@@ -1,7 +1,7 @@
 use Rattle.std.proofs.Common.{sym}
 use Rattle.tree_step.specs.Meant.{core_meant}
 use Rattle.world_model.specs.Notices.{values_of}
-use Rattle.node_machine.proofs.Noting.{note_far, note_plan, note_undue}
+use Rattle.node_machine.proofs.tree_rows.NoticePlan.{note_far, note_plan, note_undue}
 use Rattle.node_machine.proofs.notices.choose_note.Goals as goal
 
 pub returns-then-not-is_due : goal.returns-then-not-is_due

@@ -11,8 +11,8 @@ use Rattle.tree_step.specs.CoreChanges.{IsCoreStepOf}
 use Rattle.tree_step.specs.Core.{core_of}
 use Rattle.tree_step.specs.Meant.{core_meant, part_meant, votes_meant}
 use Rattle.tree_step.specs.declared.plan.Scratch.{Scratch}
-use Rattle.node_machine.proofs.Apart.{apart_noted, apart_part}
-use Rattle.node_machine.proofs.Voting.{note_answered, note_decided, note_decides}
+use Rattle.node_machine.proofs.tree_rows.NoHeldAnswerOpen.{apart_noted, apart_part}
+use Rattle.node_machine.proofs.tree_rows.VoteRows.{note_answered, note_decided, note_decides}
 use Rattle.node_machine.proofs.notices.plan_note.Goals as goal
 
 pub plan_answered-requires-clause-apart : goal.plan_answered-requires-clause-apart

@@ -1,5 +1,5 @@
 use Rattle.std.proofs.Common.{sym}
-use Rattle.node_machine.proofs.CoreOrdering.{far_order, old_order, order_plan}
+use Rattle.node_machine.proofs.coordinator_rows.OrderOfCore.{far_order, old_order, order_plan}
 use Rattle.node_machine.proofs.orders.choose_order.Goals as goal
 
 pub returns-then-epoch-core : goal.returns-then-epoch-core

@@ -4,7 +4,7 @@ use Rattle.tree_step.specs.Changes.{IsNodeStepOf}
 use Rattle.tree_step.specs.Meant.{parts_meant}
 use Rattle.tree_step.specs.Node.{data_of}
 use Rattle.node_machine.specs.Orders.{ordered_row}
-use Rattle.node_machine.proofs.CoreOrdering.{plain_far, plain_plan}
+use Rattle.node_machine.proofs.coordinator_rows.OrderOfCore.{plain_far, plain_plan}
 use Rattle.node_machine.proofs.orders.choose_plain.Goals as goal
 
 pub returns-then-not-can_obey : goal.returns-then-not-can_obey

@@ -3,7 +3,7 @@ use Rattle.letter_types.specs.declared.acts.Act.{Act}
 use Rattle.letter_types.specs.declared.entries.Outgoing.{Outgoing}
 use Rattle.world_model.specs.Advancing.{to_coordinator}
 use Rattle.node_machine.specs.inside.Advancing.{acts_if}
-use Rattle.node_machine.proofs.Ordering.{ordered}
+use Rattle.node_machine.proofs.coordinator_rows.OrderOfParts.{ordered}
 use Rattle.node_machine.proofs.orders.plan_order.Goals as goal
 
 pub returns-clause-step : goal.returns-clause-step

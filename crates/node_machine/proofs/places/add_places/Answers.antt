@@ -1,4 +1,4 @@
-use Rattle.node_machine.proofs.Placing.{added_back, added_two}
+use Rattle.node_machine.proofs.deferred.PlacesAddedTaken.{added_back, added_two}
 use Rattle.std.proofs.Common.{sym, ◌∙◌}
 use Rattle.node_machine.proofs.places.add_places.Goals as goal
 

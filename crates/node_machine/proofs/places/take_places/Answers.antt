@@ -1,5 +1,5 @@
 use Rattle.std.proofs.Common.{◌∙◌, sym}
-use Rattle.node_machine.proofs.Placing.{taken_two}
+use Rattle.node_machine.proofs.deferred.PlacesAddedTaken.{taken_two}
 use Rattle.node_machine.proofs.places.take_places.Goals as goal
 
 pub returns-in-Some-clause-taken : goal.returns-in-Some-clause-taken

@@ -4,7 +4,7 @@ use Rattle.tree_step.specs.Changes.{IsNodeStepOf}
 use Rattle.tree_step.specs.Meant.{parts_meant}
 use Rattle.tree_step.specs.Node.{data_of}
 use Rattle.node_machine.specs.Orders.{told_row}
-use Rattle.node_machine.proofs.CoreOrdering.{ask_plan, old_ask}
+use Rattle.node_machine.proofs.coordinator_rows.OrderOfCore.{ask_plan, old_ask}
 use Rattle.node_machine.proofs.questions.choose_ask.Goals as goal
 
 pub returns-then-epoch-core : goal.returns-then-epoch-core

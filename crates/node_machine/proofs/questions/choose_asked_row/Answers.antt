@@ -5,8 +5,8 @@ use Rattle.tree_step.specs.Meant.{core_meant}
 use Rattle.tree_step.specs.Node.{data_of}
 use Rattle.tree_step.specs.Core.{core_of}
 use Rattle.node_machine.specs.inside.Stays.{hearing}
-use Rattle.node_machine.proofs.Aptness.{asked_row_apt}
-use Rattle.node_machine.proofs.CoreOrdering.{of_parts_step, own_done}
+use Rattle.node_machine.proofs.enabled.TestsSayEnabled.{asked_row_apt}
+use Rattle.node_machine.proofs.coordinator_rows.OrderOfCore.{of_parts_step, own_done}
 use Rattle.node_machine.proofs.questions.choose_asked_row.Goals as goal
 
 pub returns : goal.returns

@@ -10,8 +10,8 @@ use Rattle.node_machine.specs.Apt.{makes_by}
 use Rattle.node_machine.specs.Choices.{choice_meant}
 use Rattle.node_machine.specs.Plans.{IsPlanBy}
 use Rattle.node_machine.specs.declared.node_plan.CoreChoice.{CoreChoice}
-use Rattle.node_machine.proofs.Planned.{kind_plan}
-use Rattle.node_machine.proofs.Waiting.{reads_free}
+use Rattle.node_machine.proofs.enabled.PlansByBody.{kind_plan}
+use Rattle.node_machine.proofs.tree_rows.DeferredSubs.{reads_free}
 use Rattle.node_machine.proofs.subs.choose_kind.Goals as goal
 
 pub returns-in_default : goal.returns-in_default

@@ -6,7 +6,7 @@ use Rattle.world_model.specs.Strict.{is_unheld}
 use Rattle.tree_step.specs.Due.{is_due}
 use Rattle.tree_step.specs.Node.{data_of}
 use Rattle.node_machine.specs.Apt.{makes_by}
-use Rattle.node_machine.proofs.Planned.{tree_plan, unfree}
+use Rattle.node_machine.proofs.enabled.PlansByBody.{tree_plan, unfree}
 use Rattle.node_machine.proofs.subs.choose_tree.Goals as goal
 
 pub returns-then-not-is_free : goal.returns-then-not-is_free

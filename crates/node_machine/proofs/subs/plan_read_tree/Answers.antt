@@ -4,7 +4,7 @@ use Rattle.tree_home.specs.HeldAnswers.{held_answers}
 use Rattle.tree_step.specs.Meant.{part_meant}
 use Rattle.tree_step.specs.Node.{data_of}
 use Rattle.world_model.specs.Asked.{asked_ops, asked_version}
-use Rattle.node_machine.proofs.Apart.{apart_part, apart_tree}
+use Rattle.node_machine.proofs.tree_rows.NoHeldAnswerOpen.{apart_part, apart_tree}
 use Rattle.node_machine.proofs.subs.plan_read_tree.Goals as goal
 
 pub plan_answered-requires-clause-apart : goal.plan_answered-requires-clause-apart

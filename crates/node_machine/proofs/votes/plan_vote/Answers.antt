@@ -13,8 +13,8 @@ use Rattle.tree_step.specs.CoreChanges.{IsCoreStepOf}
 use Rattle.tree_step.specs.Meant.{core_meant, part_meant, votes_meant}
 use Rattle.tree_step.specs.declared.plan.Scratch.{Scratch}
 use Rattle.world_model.specs.Asked.{tree_part}
-use Rattle.node_machine.proofs.Apart.{apart_part, apart_tree}
-use Rattle.node_machine.proofs.Voting.{vote_decides, vote_row}
+use Rattle.node_machine.proofs.tree_rows.NoHeldAnswerOpen.{apart_part, apart_tree}
+use Rattle.node_machine.proofs.tree_rows.VoteRows.{vote_decides, vote_row}
 use Rattle.node_machine.proofs.votes.plan_vote.Goals as goal
 
 pub plan_tree-requires-clause-fits : goal.plan_tree-requires-clause-fits

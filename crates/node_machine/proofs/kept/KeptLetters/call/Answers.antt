@@ -1,6 +1,6 @@
 use Rattle.std.proofs.Common.{sym, ◌∙◌}
 use Rattle.node_machine.specs.Waits.{waits_alike}
-use Rattle.node_machine.proofs.Calling.{none_alike, none_called}
+use Rattle.node_machine.proofs.deferred.AllCalled.{none_alike, none_called}
 use Rattle.node_machine.proofs.kept.KeptLetters.call.Goals as goal
 
 pub returns-in_default : goal.returns-in_default

@@ -3,7 +3,7 @@ use Rattle.std.proofs.lemmas.List.{append-nil}
 use Rattle.letter_types.specs.declared.entries.Outgoing.{Outgoing}
 use Rattle.letter_types.proofs.Ids.{none_woken}
 use Rattle.node_machine.specs.Waits.{waits_alike}
-use Rattle.node_machine.proofs.Calling.{none_alike}
+use Rattle.node_machine.proofs.deferred.AllCalled.{none_alike}
 use Rattle.node_machine.proofs.kept.KeptLetters.push_wakes.Goals as goal
 
 pub returns-in-None : goal.returns-in-None

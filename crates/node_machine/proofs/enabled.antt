@@ -1,0 +1,3 @@
+pub mod DecisionTests
+pub mod PlansByBody
+pub mod TestsSayEnabled

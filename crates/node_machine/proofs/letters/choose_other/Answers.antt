@@ -1,7 +1,0 @@
-use Rattle.node_machine.proofs.CoreOrdering.{other_plan}
-use Rattle.node_machine.proofs.letters.choose_other.Goals as goal
-
-pub returns : goal.returns
-returns c =
-    other_plan c.args.script.now c.args.letter.now c.args.core.now c.still_plan.result c.args.scratch.now
-    c.requires.ready c.requires.other c.still_plan.ensures c.requires.empty

@@ -1,0 +1,4 @@
+pub mod BroughtAddressed
+pub mod DeferredOrDoneRows
+pub mod WakesBehindStep
+pub mod WhatIsWoken
