@@ -1,4 +1,4 @@
--- When the tree of a message may be answered, or decided, and what a plan and a scratch mean then.
+-- When the tree of a message may be answered, or decided, and what a scratch plans then.
 use Rattle.std.specs.Prelude.{◌≡◌, ◌<◌, ⊤, if◌then◌else◌, Bool, List, [], length, IsTrue, Option, Some, None}
 use Rattle.tv_base.specs.declared.numbers.TreeNo.{TreeNo}
 use Rattle.item_versions.specs.Window.{in_window}
@@ -14,7 +14,7 @@ use Rattle.world_model.specs.Decisions.{can_decide}
 use Rattle.world_model.specs.Strict.{acked_core, answered, decide_core, decided, marks, release_core, to_each}
 use Rattle.nc_commit.specs.declared.decisions.Decision.{Decision}
 use Rattle.tree_step.specs.Changes.{after_change, part_row}
-use Rattle.tree_step.specs.Meant.{core_meant, part_meant, votes_meant}
+use Rattle.tree_step.specs.Meant.{core_in, part_meant, votes_meant}
 use Rattle.tree_step.specs.Node.{IsOf, data_of}
 use Rattle.tree_step.specs.steps.TreeStep.{TreeStep}
 use Rattle.tree_step.specs.Core.{AreApart, core_of}
@@ -22,8 +22,6 @@ use Rattle.tree_step.specs.CoreChanges.{IsCoreStepOf, with_votes}
 use Rattle.tree_step.specs.steps.CoreStep.{CoreStep}
 use Rattle.tree_step.specs.steps.VoteChange.{VoteChange}
 use Rattle.tree_step.specs.declared.node_core.NodeCore.{NodeCore}
-use Rattle.tree_step.specs.declared.plan.PartPlan.{PartPlan}
-use Rattle.tree_step.specs.declared.plan.Plan.{Plan}
 use Rattle.tree_step.specs.declared.plan.Scratch.{Scratch}
 use Rattle.tree_step.specs.declared.plan.VotePlan.{VotePlan}
 use Rattle.node_machine.specs.declared.decisions.Acknowledgement.{Acknowledgement}
@@ -64,12 +62,12 @@ abbrev pub IsDecidedStep : ScriptData → VoteChange → TreeStep → NodeCore �
 IsDecidedStep s votes p n step =
     IsCoreStepOf (decided s (with_votes votes (core_of n)) (part_row p (data_of n.parts)) p.answered) n step
 
--- a plan and scratch y mean such a step, if the plan of the part and that of the votes go by scratch x
-abbrev pub IsAnsweredPlan : ScriptData → VotePlan → PartPlan → NodeCore → Scratch → Scratch → Plan → Type 0
-IsAnsweredPlan s v part n x y plan = IsAnsweredStep s (votes_meant v x) (part_meant part x) n (core_meant plan y)
+-- scratch y plans such a step, if scratch x plans the part, and the plan of the votes goes by it
+abbrev pub IsAnsweredPlan : ScriptData → VotePlan → NodeCore → Scratch → Scratch → Type 0
+IsAnsweredPlan s v n x y = IsAnsweredStep s (votes_meant v x) (part_meant x) n (core_in y)
 
-abbrev pub IsDecidedPlan : ScriptData → VotePlan → PartPlan → NodeCore → Scratch → Scratch → Plan → Type 0
-IsDecidedPlan s v part n x y plan = IsDecidedStep s (votes_meant v x) (part_meant part x) n (core_meant plan y)
+abbrev pub IsDecidedPlan : ScriptData → VotePlan → NodeCore → Scratch → Scratch → Type 0
+IsDecidedPlan s v n x y = IsDecidedStep s (votes_meant v x) (part_meant x) n (core_in y)
 
 -- the decision that a message brings can be applied at the node
 abbrev pub can_decide_at : ScriptData → Letter → Decision → NodeCore → Bool

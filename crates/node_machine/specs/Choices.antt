@@ -6,7 +6,7 @@ use Rattle.letter_types.specs.declared.entries.Letter.{Letter}
 use Rattle.tx_trees.specs.ScriptData.{ScriptData}
 use Rattle.tx_trees.specs.declared.parts.TreeKind.{TreeKind}
 use Rattle.world_model.specs.Named.{tree_kind_at}
-use Rattle.tree_step.specs.Meant.{core_meant}
+use Rattle.tree_step.specs.Meant.{core_in}
 use Rattle.tree_step.specs.declared.node_core.NodeCore.{NodeCore}
 use Rattle.tree_step.specs.declared.plan.Scratch.{Scratch}
 use Rattle.node_machine.specs.Apt.{IsOwnPlan, IsPlanOfKind, IsPlanOfTree}
@@ -25,7 +25,7 @@ kept_by_plan k acts = record { tree = k.tree; sub = k.sub; why = k.why; raises =
 abbrev pub choice_meant : CoreChoice → Scratch → ChosenStep
 choice_meant choices.Still x = plans.Still
 choice_meant (choices.Keeps k) x = plans.Keeps (kept_by_plan k x.acts)
-choice_meant (choices.Does p) x = plans.Does (core_meant p x)
+choice_meant choices.Does x = plans.Does (core_in x)
 
 -- a choice and a scratch are a plan of a message that the script's kind of coordinator allows
 abbrev pub IsOwnChoice : ScriptData → Letter → NodeCore → Scratch → CoreChoice → Type 0

@@ -3,7 +3,7 @@ use Rattle.std.specs.Prelude.{Ok, Option, Some, None}
 use Rattle.letter_types.specs.declared.entries.Letter.{Letter}
 use Rattle.letter_types.specs.Steps.{Out}
 use Rattle.world_model.specs.Keeping.{KeepingNode}
-use Rattle.tree_step.specs.Meant.{core_meant, out_in}
+use Rattle.tree_step.specs.Meant.{core_in, out_in}
 use Rattle.tree_step.specs.declared.plan.Scratch.{Scratch}
 use Rattle.node_machine.specs.steps.Keep.{Keep, New, Again}
 use Rattle.node_machine.specs.steps.KeepingStep.{KeepingStep}
@@ -23,7 +23,7 @@ keep_meant k None = Again k.tree k.sub k.why
 abbrev pub node_meant : NodePlan → Scratch → KeepingStep
 node_meant nodes.Still x = steps.Still (out_in x)
 node_meant (nodes.Keeps k) x = steps.Keeps (keep_meant k x.letter) k.raises (out_in x)
-node_meant (nodes.Does p k) x = steps.Does (core_meant p x) k
+node_meant (nodes.Does k) x = steps.Does (core_in x) k
 
 -- a plan and a scratch are this row of a node, and the node may do it
 abbrev pub IsPlanned : Out KeepingNode → KeepingParts → NodePlan → Scratch → Type 0

@@ -1,6 +1,6 @@
 // What becomes of a tree once its home misses no notice: an update tree or a read tree is answered, a strict tree
 // decided.
-ghost use Rattle.std.specs.Prelude.{[], ◌++◌, ◌<◌, ◌≡◌, IfOk, OnOk, length};
+ghost use Rattle.std.specs.Prelude.{[], ◌++◌, ◌<◌, ◌≡◌, OnOk, length};
 ghost use Rattle.tx_trees.specs.ScriptData.{subs_at, updates, visited_by};
 ghost use Rattle.tree_step.specs.CoreChanges.{numbers_of_nodes};
 ghost use Rattle.world_model.specs.Strict.{marks, none_refuses, release_letters};
@@ -16,7 +16,7 @@ use nc_commit::Decision;
 use script_parts::children::visits;
 use tree_home::Answered;
 use tree_step::{
-    HoldPlan, NodeCore, PartPlan, Plan, Refusals, Scratch, Visited, VotePlan, kind_of, push_reply,
+    HoldPlan, NodeCore, Refusals, Scratch, Visited, VotePlan, kind_of, push_reply,
 };
 use tv_base::{ActorNo, NoMemory, NodeNo, TreeNo};
 use tx_trees::{Script, TreeKind};
@@ -27,20 +27,20 @@ use tx_trees::{Script, TreeKind};
 pub(crate) fn plan_answered(
     core: &NodeCore,
     script: &Script,
-    part: PartPlan,
     votes: VotePlan,
     scratch: &mut Scratch,
-) -> Result<Plan, NoMemory>
+) -> Result<(), NoMemory>
     // What the caller knows.
-    requires may { MayDo (doing_meant part.doing scratch.old) scratch.old.sent core.now.parts }
-    requires apart { IsApartAfter (part_meant part scratch.old) core.now }
+    requires may { MayDo (doing_meant scratch.old.plan.doing scratch.old) scratch.old.sent core.now.parts }
+    requires apart { IsApartAfter (part_meant scratch.old) core.now }
     // What is planned.
-    ensures { IfOk result (IsAnsweredPlan script.now votes part core.now scratch.old scratch.new) }
+    ensures { OnOk result (IsAnsweredPlan script.now votes core.now scratch.old scratch.new) }
 {
-    let PartPlan { doing, answered } = part;
+    let answered = scratch.answered.take();
     push_releases(&mut scratch.sent, script, &answered)?;
     push_reply(&mut scratch.sent, client_of(script), answered)?;
-    Ok(plan_with(doing, votes, HoldPlan::Stay))
+    scratch.plan = plan_with(scratch.plan.doing, votes, HoldPlan::Stay);
+    Ok(())
 }
 
 /// Adds a message to each node that a tree visits, which lets the tree's marks go, if the tree is answered and marks its
@@ -96,21 +96,21 @@ fn is_update(script: &Script, tree: TreeNo) -> bool
 pub(crate) fn plan_decided(
     core: &NodeCore,
     script: &Script,
-    part: PartPlan,
     votes: VotePlan,
     scratch: &mut Scratch,
-) -> Result<Plan, NoMemory>
+) -> Result<(), NoMemory>
     // What the caller knows.
-    requires may { MayDo (doing_meant part.doing scratch.old) scratch.old.sent core.now.parts }
-    requires apart { IsApartAfter (part_meant part scratch.old) core.now }
-    requires decide { MayDecide script.now (part_meant part scratch.old) core.now part.answered }
+    requires may { MayDo (doing_meant scratch.old.plan.doing scratch.old) scratch.old.sent core.now.parts }
+    requires apart { IsApartAfter (part_meant scratch.old) core.now }
+    requires decide { MayDecide script.now (part_meant scratch.old) core.now scratch.old.answered }
     requires none_told { scratch.old.told ≡ [] }
     // What is planned.
-    ensures { IfOk result (IsDecidedPlan script.now votes part core.now scratch.old scratch.new) }
+    ensures { OnOk result (IsDecidedPlan script.now votes core.now scratch.old scratch.new) }
 {
-    let PartPlan { doing, answered } = part;
-    let Some(answered) = answered else {
-        return Ok(plan_with(doing, votes, HoldPlan::Stay));
+    let doing = scratch.plan.doing;
+    let Some(answered) = scratch.answered.take() else {
+        scratch.plan = plan_with(doing, votes, HoldPlan::Stay);
+        return Ok(());
     };
     let Answered {
         tree,
@@ -127,7 +127,8 @@ pub(crate) fn plan_decided(
     push_decides(&mut scratch.sent, decision, scratch.told.items())?;
     scratch.acts.push(Act::Decided { tree, commit })?;
     scratch.held = values;
-    Ok(plan_with(doing, votes, HoldPlan::Hold { tree, version }))
+    scratch.plan = plan_with(doing, votes, HoldPlan::Hold { tree, version });
+    Ok(())
 }
 
 /// Whether a tree commits after these changes of the negative votes: it has none.

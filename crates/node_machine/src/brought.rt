@@ -4,7 +4,7 @@ ghost use Rattle.world_model.specs.Keeping.{AsksFor};
 ghost use Rattle.tree_step.specs.Raising.{RaisesNear};
 ghost use Rattle.tree_step.specs.Core.{core_of};
 ghost use Rattle.tree_step.specs.CoreChanges.{MayDoCore};
-ghost use Rattle.tree_step.specs.Meant.{core_meant};
+ghost use Rattle.tree_step.specs.Meant.{core_in};
 ghost use Rattle.node_machine.specs.Meant.{keep_meant};
 ghost use Rattle.node_machine.specs.inside.Bringing.{IsBroughtBy, IsDonePlan, IsKeptPlan, IsWakingPlan, keep_as, reason_of_order, woken_reason};
 ghost use Rattle.node_machine.specs.Changes.{IsSettled};
@@ -15,7 +15,7 @@ use crate::orders::is_obeyed_now;
 use crate::state::KeepingParts;
 use letter_types::{Body, KeepReason, Letter, What};
 use std::alloc::Global;
-use tree_step::{NodeCore, Plan, Scratch};
+use tree_step::{NodeCore, Scratch};
 use tv_base::{NoMemory, Version};
 
 /// Plans that what a message brought is deferred, with the acts in the scratch.
@@ -93,27 +93,23 @@ pub(crate) fn plan_does(
     node: &KeepingParts,
     letter: &Letter,
     brought: &Letter,
-    plan: Plan,
     scratch: &mut Scratch,
 ) -> Result<NodePlan, NoMemory>
     // What the caller knows.
-    requires may { MayDoCore (core_meant plan scratch.old) node.now.core }
+    requires may { MayDoCore (core_in scratch.old) node.now.core }
     requires brought { IsBroughtBy letter.now brought.now node.now }
     // What is planned.
-    ensures { IfOk result (IsDonePlan letter.now brought.now (core_meant plan scratch.old) node.now scratch.new) }
+    ensures { IfOk result (IsDonePlan letter.now brought.now (core_in scratch.old) node.now scratch.new) }
 {
     let _ = brought;
     match &letter.body {
-        Body::Wake { tree, sub } => Ok(NodePlan::Does {
-            plan,
-            kept: KeptPlan::LetGo {
-                tree: *tree,
-                sub: *sub,
-            },
-        }),
+        Body::Wake { tree, sub } => Ok(NodePlan::Does(KeptPlan::LetGo {
+            tree: *tree,
+            sub: *sub,
+        })),
         _ => {
             let woken = woken_by(&node.core, &letter.body);
-            plan_waking(node, woken, plan, scratch)
+            plan_waking(node, woken, scratch)
         }
     }
 }
@@ -158,21 +154,14 @@ fn woken_by_order(core: &NodeCore, epoch: u64, what: What, version: Version) -> 
 pub(crate) fn plan_waking(
     node: &KeepingParts,
     woken: Option<KeepReason>,
-    plan: Plan,
     scratch: &mut Scratch,
 ) -> Result<NodePlan, NoMemory>
-    requires { MayDoCore (core_meant plan scratch.old) node.now.core }
-    ensures { IfOk result (IsWakingPlan woken (core_meant plan scratch.old) node.now scratch.new) }
+    requires { MayDoCore (core_in scratch.old) node.now.core }
+    ensures { IfOk result (IsWakingPlan woken (core_in scratch.old) node.now scratch.new) }
 {
     let Some(why) = woken else {
-        return Ok(NodePlan::Does {
-            plan,
-            kept: KeptPlan::Stay,
-        });
+        return Ok(NodePlan::Does(KeptPlan::Stay));
     };
     node.kept.push_wakes(why, &mut scratch.sent)?;
-    Ok(NodePlan::Does {
-        plan,
-        kept: KeptPlan::Call(why),
-    })
+    Ok(NodePlan::Does(KeptPlan::Call(why)))
 }

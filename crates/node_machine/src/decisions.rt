@@ -1,7 +1,7 @@
 // A decision, an acknowledgement of one, and marks that go.
 ghost use Rattle.std.specs.Prelude.{[], ◌++◌, ◌<◌, ◌≡◌, IfOk, IsTrue, OnOk, Some, length};
 ghost use Rattle.tree_step.specs.Core.{CanCoreStep, IsCoreReady, core_of};
-ghost use Rattle.tree_step.specs.Meant.{IsEmpty, core_meant};
+ghost use Rattle.tree_step.specs.Meant.{IsEmpty, core_in};
 ghost use Rattle.letter_types.specs.declared.bodies.Body.TheVariants.{Decide, Decided, Release};
 ghost use Rattle.item_versions.specs.Window.{in_window};
 ghost use Rattle.tx_trees.specs.ScriptData.{client_of, subs_at};
@@ -23,7 +23,7 @@ use script_parts::children::visits;
 use std::alloc::Global;
 use tree_home::{Answered, Held, Homes};
 use tree_step::{
-    Counting, Doing, HoldPlan, HomePlan, NodeCore, Plan, Refusals, Scratch, TreePlan, VotePlan,
+    Counting, Doing, HoldPlan, HomePlan, NodeCore, Refusals, Scratch, TreePlan, VotePlan,
     is_near,
 };
 use tv_base::{ActorNo, NoMemory, NodeNo, SubNo, TreeNo, Version};
@@ -60,8 +60,8 @@ pub(crate) fn choose_decide(
     if !decide_apt(core, letter, script, decision) {
         return Ok(CoreChoice::Still);
     }
-    let plan = plan_decide(alloc, core, letter, script, decision, scratch)?;
-    Ok(CoreChoice::Does(plan))
+    plan_decide(alloc, core, letter, script, decision, scratch)?;
+    Ok(CoreChoice::Does)
 }
 
 /// Whether a decision is enabled: its tree is strict and has a subtransaction here, its version is one that the node
@@ -93,7 +93,7 @@ pub(crate) fn plan_decide(
     script: &Script,
     decision: Decision,
     scratch: &mut Scratch,
-) -> Result<Plan, NoMemory>
+) -> Result<(), NoMemory>
     // What the caller knows.
     requires ready { IsCoreReady script.now letter.now.from.0 core.now }
     requires strict { IsTrue (is_strict_at script.now decision.tree.0) }
@@ -102,7 +102,7 @@ pub(crate) fn plan_decide(
     requires can { IsTrue (can_decide_at script.now letter.now decision core.now) }
     requires empty { IsEmpty scratch.old }
     // What is planned.
-    ensures { IfOk result (λ plan. IsDecideStep script.now letter.now decision core.now (core_meant plan scratch.new)) }
+    ensures { OnOk result (IsDecideStep script.now letter.now decision core.now (core_in scratch.new)) }
 {
     let items = &core.parts.items;
     // The readers say that the versions of each item ascend, and that a tree's nodes are the script's.
@@ -121,7 +121,8 @@ pub(crate) fn plan_decide(
     })?;
     scratch.acts.push(Act::Applied { tree, commit })?;
     let doing = completing(tree, NodeNo(letter.from.0), version, 1);
-    Ok(plan_with(doing, VotePlan::Free(tree), HoldPlan::Stay))
+    scratch.plan = plan_with(doing, VotePlan::Free(tree), HoldPlan::Stay);
+    Ok(())
 }
 
 /// What a node's parts do for a completion: one from node `from` is counted in this version, and the first `asked` of the
@@ -185,8 +186,8 @@ pub(crate) fn choose_acked(
     if !acked_apt(core, letter, script, acked.tree, acked.version) {
         return Ok(CoreChoice::Still);
     }
-    let plan = plan_acked(alloc, core, script, acked, scratch)?;
-    Ok(CoreChoice::Does(plan))
+    plan_acked(alloc, core, script, acked, scratch)?;
+    Ok(CoreChoice::Does)
 }
 
 /// Whether an acknowledgement is enabled.
@@ -217,13 +218,13 @@ pub(crate) fn plan_acked(
     script: &Script,
     acked: Acknowledgement,
     scratch: &mut Scratch,
-) -> Result<Plan, NoMemory>
+) -> Result<(), NoMemory>
     // What the caller knows.
     requires ready { IsCoreReady script.now acked.from.0 core.now }
     requires near { IsTrue (in_window core.now.parts.turns.low.0 acked.version.0) }
     requires empty { IsEmpty scratch.old }
     // What is planned.
-    ensures { IfOk result (λ plan. IsAckedStep script.now acked core.now (core_meant plan scratch.new)) }
+    ensures { OnOk result (IsAckedStep script.now acked core.now (core_in scratch.new)) }
 {
     let Acknowledgement {
         tree,
@@ -235,7 +236,8 @@ pub(crate) fn plan_acked(
     let votes = dropping(&answered);
     push_answer(alloc, &mut scratch.sent, script, &core.refusals, answered)?;
     let doing = completing(tree, from, version, 0);
-    Ok(plan_with(doing, votes, acking(homes, tree)))
+    scratch.plan = plan_with(doing, votes, acking(homes, tree));
+    Ok(())
 }
 
 /// What becomes of the held answers at an acknowledgement of a tree: they stay if none of this tree is held.
@@ -345,8 +347,8 @@ pub(crate) fn choose_release(
     if !release_apt(script, letter.to, tree) {
         return Ok(CoreChoice::Still);
     }
-    let plan = plan_release(core, tree, scratch)?;
-    Ok(CoreChoice::Does(plan))
+    plan_release(core, tree, scratch)?;
+    Ok(CoreChoice::Does)
 }
 
 /// Whether it is enabled that a tree's marks go at a node: the script has strict trees, and the tree a subtransaction
@@ -362,14 +364,15 @@ pub(crate) fn plan_release(
     core: &NodeCore,
     tree: TreeNo,
     scratch: &mut Scratch,
-) -> Result<Plan, NoMemory>
+) -> Result<(), NoMemory>
     requires can { CanCoreStep core.now }
     requires none_sent { scratch.old.sent ≡ [] }
     requires no_acts { scratch.old.acts ≡ [] }
-    ensures { IfOk result (λ plan. IsReleaseStep tree core.now (core_meant plan scratch.new)) }
+    ensures { OnOk result (IsReleaseStep tree core.now (core_in scratch.new)) }
 {
     scratch.acts.push(Act::Freed { tree })?;
-    Ok(plan_with(Doing::Still, VotePlan::Free(tree), HoldPlan::Stay))
+    scratch.plan = plan_with(Doing::Still, VotePlan::Free(tree), HoldPlan::Stay);
+    Ok(())
 }
 
 /// The client's number.

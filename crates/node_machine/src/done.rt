@@ -1,7 +1,7 @@
 // How a node changes in a step, once the step is planned.
 ghost use Rattle.std.specs.Prelude.{◌≡◌, OnErr, OnOk};
 ghost use Rattle.tree_step.specs.Raising.{raised_by};
-ghost use Rattle.tree_step.specs.Meant.{core_meant, out_in};
+ghost use Rattle.tree_step.specs.Meant.{core_in, out_in};
 ghost use Rattle.tree_step.specs.CoreChanges.{MayDoCore};
 ghost use Rattle.node_machine.specs.Changes.{MayBeKept, MayDoKeeping, MayKeepLetter, kept_after, kept_with};
 ghost use Rattle.node_machine.specs.Meant.{IsNodeDone, keep_meant, node_meant};
@@ -12,7 +12,7 @@ use crate::state::KeepingParts;
 use letter_types::{KeptLetter, Letter};
 use node_versions::Turns;
 use std::alloc::Global;
-use tree_step::{Plan, Scratch, do_plan};
+use tree_step::{Scratch, do_plan};
 use tv_base::{NoMemory, Version};
 
 /// Does what is planned; what goes out stays in the scratch. If memory runs out, the node is as it was.
@@ -31,7 +31,7 @@ pub fn do_node(
     match plan {
         NodePlan::Still => Ok(()),
         NodePlan::Keeps(keep) => do_keep(node, keep, scratch),
-        NodePlan::Does { plan, kept } => do_row(alloc, node, plan, kept, scratch),
+        NodePlan::Does(kept) => do_row(alloc, node, kept, scratch),
     }
 }
 
@@ -87,16 +87,15 @@ fn raise_by(turns: &mut Turns, raises: Option<Version>)
 fn do_row(
     alloc: Global,
     node: &mut KeepingParts,
-    plan: Plan,
     kept: KeptPlan,
     scratch: &mut Scratch,
 ) -> Result<(), NoMemory>
-    requires { MayDoCore (core_meant plan scratch.old) node.old.core }
-    ensures done { OnOk result (IsNodeDone (NodePlan.Does plan kept) scratch.old node.old node.new) }
+    requires { MayDoCore (core_in scratch.old) node.old.core }
+    ensures done { OnOk result (IsNodeDone (NodePlan.Does kept) scratch.old node.old node.new) }
     ensures err { OnErr result (node.new ≡ node.old) }
     ensures out { out_in scratch.new ≡ out_in scratch.old }
 {
-    do_plan(alloc, &mut node.core, plan, scratch)?;
+    do_plan(alloc, &mut node.core, scratch)?;
     change_kept(&mut node.kept, kept);
     Ok(())
 }

@@ -47,7 +47,7 @@ pub fn plan_letter(
     match choose_core(alloc, &node.core, brought, script, scratch)? {
         CoreChoice::Still => Ok(still(node, scratch)),
         CoreChoice::Keeps(keep) => plan_keep(alloc, node, letter, brought, keep, scratch),
-        CoreChoice::Does(plan) => plan_does(node, letter, brought, plan, scratch),
+        CoreChoice::Does => plan_does(node, letter, brought, scratch),
     }
 }
 

@@ -1,6 +1,5 @@
-// What a node is to do with a message: a plan, whose rest lies in a scratch.
-ghost use Rattle.std.specs.Prelude.{◌≡◌, None};
-ghost use Rattle.tree_step.specs.declared.plan.Doing.TheVariants.{Still};
+// What a node is to do with a message. The plan of its core lies in the scratch.
+ghost use Rattle.std.specs.Prelude.{◌≡◌};
 ghost use Rattle.node_machine.specs.inside.Decided.{plan_with};
 ghost use Rattle.node_machine.specs.inside.Stays.{plan_of};
 
@@ -38,25 +37,23 @@ pub enum NodePlan {
     Still,
     /// The message is deferred.
     Keeps(KeepPlan),
-    /// The core does its step.
-    Does { plan: Plan, kept: KeptPlan },
+    /// The core does the step that the scratch plans, and then this becomes of the deferred messages.
+    Does(KeptPlan),
 }
 
-/// What a core is to do with a message. What takes memory lies in a scratch.
+/// What a core is to do with a message.
 #[derive(Clone, Copy)]
 pub enum CoreChoice {
     /// The message isn't enabled: nothing.
     Still,
     /// It is deferred: it can't be done yet. The acts are in the scratch.
     Keeps(KeepPlan),
-    /// Its row is done.
-    Does(Plan),
+    /// Its row is done, as the scratch plans it.
+    Does,
 }
 
-// A plan is copied, so it is small; what is large lies in the scratch.
-const _: () = prove!(size_of::<Plan>() <= 112);
-
-const _: () = prove!(size_of::<NodePlan>() <= 144);
+// A plan is copied from call to call, so it is small; what is large lies in the scratch.
+const _: () = prove!(size_of::<NodePlan>() <= 40);
 
 /// The plan in which a node's parts do this, locks, negative votes and held answers stay, and the node hears of this
 /// epoch, if of one.
@@ -81,11 +78,4 @@ pub(crate) fn plan_with(doing: Doing, votes: VotePlan, holds: HoldPlan) -> Plan
         holds,
         epoch: None,
     }
-}
-
-/// The plan in which nothing changes.
-pub(crate) fn still_plan() -> Plan
-    ensures { result ≡ plan_of Still None }
-{
-    plan_of(Doing::Still, None)
 }

@@ -1,10 +1,10 @@
 // A notice at its tree's home: whether it may come, and what is planned of it.
-ghost use Rattle.std.specs.Prelude.{[], ◌<◌, ◌≡◌, IfOk, IsTrue, length};
+ghost use Rattle.std.specs.Prelude.{[], ◌<◌, ◌≡◌, IfOk, IsTrue, OnOk, length};
 ghost use Rattle.tree_home.specs.Homes.{Gets};
 ghost use Rattle.tree_step.specs.AtNode.{IsNoteStep, answers_near};
 ghost use Rattle.world_model.specs.Core.{lesser};
 ghost use Rattle.tree_home.specs.Maps.{by_tree};
-ghost use Rattle.tree_step.specs.Meant.{ChangesNo, IsEmpty, core_meant, votes_meant};
+ghost use Rattle.tree_step.specs.Meant.{ChangesNo, IsEmpty, core_in, votes_meant};
 ghost use Rattle.item_versions.specs.Window.{in_window};
 ghost use Rattle.tx_trees.specs.ScriptData.{subs_at};
 ghost use Rattle.world_model.specs.Notices.{values_of};
@@ -20,7 +20,7 @@ use commute_ops::Values;
 use letter_types::{Cause, Letter, Notice};
 use std::alloc::Global;
 use tree_step::{
-    NodeCore, Plan, Refusals, Request, Scratch, VotePlan, is_due, is_near, is_strict, plan_notice,
+    NodeCore, Refusals, Request, Scratch, VotePlan, is_due, is_near, is_strict, plan_notice,
 };
 use tv_base::{NoMemory, NodeNo, SubNo, TreeNo, Version};
 use tx_trees::Script;
@@ -77,8 +77,8 @@ pub(crate) fn choose_note(
     if !decides_near(core, script, request) {
         return Ok(CoreChoice::Still);
     }
-    let plan = plan_note(alloc, core, script, request, notice, scratch)?;
-    Ok(CoreChoice::Does(plan))
+    plan_note(alloc, core, script, request, notice, scratch)?;
+    Ok(CoreChoice::Does)
 }
 
 /// Whether the answer that a notice completes, if its tree is strict, is of a version in which the home counts,
@@ -104,7 +104,7 @@ pub(crate) fn plan_note(
     request: Request,
     notice: &Notice,
     scratch: &mut Scratch,
-) -> Result<Plan, NoMemory>
+) -> Result<(), NoMemory>
     // What the caller knows.
     requires ready { IsCoreReady script.now request.from.0 core.now }
     requires there { 0 < length (subs_at script.now request.tree.0) }
@@ -112,19 +112,17 @@ pub(crate) fn plan_note(
     requires decides { IsTrue (answers_near script.now request (values_of notice.now) core.now.parts) }
     requires empty { IsEmpty scratch.old }
     // What is planned.
-    ensures { IfOk result (λ plan. IsNoteStep script.now request notice.now core.now (core_meant plan scratch.new)) }
+    ensures { OnOk result (IsNoteStep script.now request notice.now core.now (core_in scratch.new)) }
 {
     let none = Values::new(alloc);
     let values = values_of(notice, &none);
     if !is_strict(script, request.tree) {
-        let part = plan_notice(alloc, &core.parts, request, values, scratch)?;
-        let plan = plan_answered(core, script, part, VotePlan::Stay, scratch)?;
-        return Ok(plan);
+        plan_notice(alloc, &core.parts, request, values, scratch)?;
+        return plan_answered(core, script, VotePlan::Stay, scratch);
     }
     let votes = refused_there(core, request, notice, scratch);
-    let part = plan_notice(alloc, &core.parts, request, values, scratch)?;
-    let plan = plan_decided(core, script, part, votes, scratch)?;
-    Ok(plan)
+    plan_notice(alloc, &core.parts, request, values, scratch)?;
+    plan_decided(core, script, votes, scratch)
 }
 
 /// The values that a notice brings. If it is a negative vote, they are `none`, an empty list.

@@ -13,7 +13,7 @@ ghost use Rattle.node_machine.specs.inside.Advancing.{acts_if, order_acts, order
 ghost use Rattle.node_machine.specs.Orders.{obeyed_row, ordered_row, plain_answer};
 ghost use Rattle.node_machine.specs.inside.Own.{is_of_tree};
 
-use crate::node_plan::{CoreChoice, plan_of, still_plan};
+use crate::node_plan::{CoreChoice, plan_of};
 use crate::questions::{
     RoundVersion, choose_ask, choose_asked_row, choose_done_row, plan_told, push_answer,
 };
@@ -88,7 +88,8 @@ fn choose_plain(
     }
     let answer = plain_answer(what, version);
     let doing = plan_order(&core.parts, script, what, version, answer, scratch)?;
-    Ok(CoreChoice::Does(plan_of(doing, None)))
+    scratch.plan = plan_of(doing, None);
+    Ok(CoreChoice::Does)
 }
 
 /// The answer to an order of a coordinator that remembers.
@@ -131,13 +132,14 @@ fn choose_order(
         version,
     } = order;
     if epoch < core.epoch {
-        return Ok(CoreChoice::Does(still_plan()));
+        return Ok(CoreChoice::Does);
     }
     if !can_obey(&core.parts.turns, what, version) {
         return Ok(CoreChoice::Still);
     }
     let doing = plan_obeyed(&core.parts, script, epoch, what, version, scratch)?;
-    Ok(CoreChoice::Does(plan_of(doing, Some(epoch))))
+    scratch.plan = plan_of(doing, Some(epoch));
+    Ok(CoreChoice::Does)
 }
 
 /// Whether an order of a coordinator that forgets takes effect: it isn't of an epoch before the node's, and wasn't
@@ -275,5 +277,5 @@ pub(crate) fn choose_other(
     let _ = letter;
     let _ = script;
     let _ = scratch;
-    CoreChoice::Does(still_plan())
+    CoreChoice::Does
 }

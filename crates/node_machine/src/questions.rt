@@ -8,7 +8,7 @@ ghost use Rattle.tree_step.specs.Core.{IsCoreReady};
 ghost use Rattle.node_machine.specs.Orders.{told_row};
 ghost use Rattle.node_machine.specs.Choices.{IsOwnChoice};
 
-use crate::node_plan::{CoreChoice, plan_of, still_plan};
+use crate::node_plan::{CoreChoice, plan_of};
 use letter_types::{Body, Letter, Letters, Outgoing};
 use node_versions::Turns;
 use std::alloc::Global;
@@ -40,7 +40,8 @@ pub(crate) fn choose_done_row(
     let _ = letter;
     let RoundVersion { version, round } = asked;
     let doing = plan_done_row(alloc, &core.parts, script, version, round, scratch)?;
-    Ok(CoreChoice::Does(plan_of(doing, None)))
+    scratch.plan = plan_of(doing, None);
+    Ok(CoreChoice::Does)
 }
 
 /// Plans that a node answers a round with its completions of this version, by sender. After out of memory the scratch
@@ -88,7 +89,8 @@ pub(crate) fn choose_asked_row(
     let _ = letter;
     let RoundVersion { version, round } = asked;
     let doing = plan_asked_row(alloc, &core.parts, script, version, round, scratch)?;
-    Ok(CoreChoice::Does(plan_of(doing, None)))
+    scratch.plan = plan_of(doing, None);
+    Ok(CoreChoice::Does)
 }
 
 /// Plans that a node answers a round with its requests of this version, by addressee. After out of memory the scratch
@@ -137,9 +139,10 @@ pub(crate) fn choose_ask(
     if epoch >= core.epoch {
         let answer = numbers(epoch, &core.parts.turns);
         let told = plan_told(&core.parts, script, answer, scratch)?;
-        return Ok(CoreChoice::Does(plan_of(told, Some(epoch))));
+        scratch.plan = plan_of(told, Some(epoch));
+        return Ok(CoreChoice::Does);
     }
-    Ok(CoreChoice::Does(still_plan()))
+    Ok(CoreChoice::Does)
 }
 
 /// What a node of these versions tells a coordinator that has forgotten.

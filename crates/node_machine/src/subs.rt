@@ -1,5 +1,6 @@
 // Subtransactions: whether one may come, and what is planned of it by its tree's kind.
-ghost use Rattle.std.specs.Prelude.{◌≡◌, IfOk, IfSome, IsTrue, is_some};
+ghost use Rattle.std.specs.Prelude.{◌≡◌, IfOk, IsTrue, is_some};
+ghost use Rattle.std.specs.Bool.{OnTrue};
 ghost use Rattle.tree_home.specs.HeldAnswers.{held_answers, held_in};
 ghost use Rattle.world_model.specs.Strict.{is_unheld};
 ghost use Rattle.tree_step.specs.AtNode.{IsDueAt, IsUnheldAt, is_free_at};
@@ -19,7 +20,7 @@ use letter_types::{Body, Letter};
 use read_step::plan_read;
 use std::alloc::Global;
 use tree_home::Homes;
-use tree_step::{NodeCore, Plan, Scratch, VotePlan, is_due, kind_of};
+use tree_step::{NodeCore, Scratch, VotePlan, is_due, kind_of};
 use tv_base::{NoMemory, TreeNo};
 use tx_trees::{Script, TreeKind};
 
@@ -116,32 +117,32 @@ fn choose_read(
     // What is planned.
     ensures { IfOk result (λ choice. IsReadPlan script.now letter.now core.now (choice_meant choice scratch.new)) }
 {
-    let Some(plan) = plan_read_tree(alloc, core, letter, script, scratch)? else {
+    if !plan_read_tree(alloc, core, letter, script, scratch)? {
         return Ok(CoreChoice::Still);
-    };
-    Ok(CoreChoice::Does(plan))
+    }
+    Ok(CoreChoice::Does)
 }
 
-/// Plans a subtransaction of a read tree. None exactly if its operations may not be made.
+/// Plans a subtransaction of a read tree. False exactly if its operations may not be made.
 pub(crate) fn plan_read_tree(
     alloc: Global,
     core: &NodeCore,
     letter: &Letter,
     script: &Script,
     scratch: &mut Scratch,
-) -> Result<Option<Plan>, NoMemory>
+) -> Result<bool, NoMemory>
     // What the caller knows.
     requires ready { IsCoreReady script.now letter.now.to.0 core.now }
     requires due { IsDueAt script.now letter.now core.now.parts }
     requires unheld { IsUnheldAt letter.now core.now.parts }
     requires empty { IsEmpty scratch.old }
     // What is planned.
-    ensures can { IfOk result (λ found. is_some found ≡ can_read script.now (data_of core.now.parts) letter.now.body) }
-    ensures step { IfOk result (λ found. IfSome found (IsReadBy script.now letter.now core.now scratch.new)) }
+    ensures can { IfOk result (λ can. can ≡ can_read script.now (data_of core.now.parts) letter.now.body) }
+    ensures step { IfOk result (λ can. OnTrue can (IsReadBy script.now letter.now core.now scratch.new)) }
 {
-    let Some(part) = plan_read(alloc, &core.parts, letter, script, scratch)? else {
-        return Ok(None);
-    };
-    let plan = plan_answered(core, script, part, VotePlan::Stay, scratch)?;
-    Ok(Some(plan))
+    if !plan_read(alloc, &core.parts, letter, script, scratch)? {
+        return Ok(false);
+    }
+    plan_answered(core, script, VotePlan::Stay, scratch)?;
+    Ok(true)
 }

@@ -1,5 +1,6 @@
 // A subtransaction of an update tree: whether it is blocked, and what is planned of it.
-ghost use Rattle.std.specs.Prelude.{[], ◌++◌, ◌∷◌, ◌≡◌, IfOk, IfSome, IsTrue, OnOk, Some, is_some};
+ghost use Rattle.std.specs.Prelude.{[], ◌++◌, ◌∷◌, ◌≡◌, IfOk, IsTrue, OnOk, Some};
+ghost use Rattle.std.specs.Bool.{OnTrue};
 ghost use Rattle.world_model.specs.Strict.{marks_of, meets};
 ghost use Rattle.nc_locks.specs.Locks.{met_in};
 ghost use Rattle.world_model.specs.Asked.{asked_ops};
@@ -20,7 +21,7 @@ use letter_types::{Act, Acts, Body, KeepReason, Letter};
 use nc_locks::{Locks, Met, Mode, WantedLocks};
 use node_versions::Turns;
 use std::alloc::Global;
-use tree_step::{NodeCore, Plan, Scratch, VotePlan, asked_ops, asked_version, is_above};
+use tree_step::{NodeCore, Scratch, VotePlan, asked_ops, asked_version, is_above};
 use tv_base::{NoMemory, SubNo, TreeNo, Version};
 use tx_trees::{Script, SubOp};
 use update_step::{can_update, plan_update};
@@ -49,10 +50,10 @@ pub(crate) fn choose_update(
         }
         return choose_parked(core, letter, script, tree, met, scratch);
     }
-    let Some(plan) = plan_update_tree(alloc, core, letter, script, tree, scratch)? else {
+    if !plan_update_tree(alloc, core, letter, script, tree, scratch)? {
         return Ok(CoreChoice::Still);
-    };
-    Ok(CoreChoice::Does(plan))
+    }
+    Ok(CoreChoice::Does)
 }
 
 /// A subtransaction of an update tree that meets a lock, and whose operations may be made: it is parked.
@@ -79,7 +80,7 @@ fn choose_parked(
     Ok(CoreChoice::Keeps(keep))
 }
 
-/// Plans a subtransaction of an update tree: if there are strict trees it marks its items. None exactly if its
+/// Plans a subtransaction of an update tree: if there are strict trees it marks its items. False exactly if its
 /// operations may not be made.
 pub(crate) fn plan_update_tree(
     alloc: Global,
@@ -88,22 +89,22 @@ pub(crate) fn plan_update_tree(
     script: &Script,
     tree: TreeNo,
     scratch: &mut Scratch,
-) -> Result<Option<Plan>, NoMemory>
+) -> Result<bool, NoMemory>
     // What the caller knows.
     requires ready { IsCoreReady script.now letter.now.to.0 core.now }
     requires due { IsDueAt script.now letter.now core.now.parts }
     requires unheld { IsUnheldAt letter.now core.now.parts }
     requires empty { IsEmpty scratch.old }
     // What is planned.
-    ensures can { IfOk result (λ found. is_some found ≡ can_update script.now (data_of core.now.parts) letter.now.body) }
-    ensures step { IfOk result (λ found. IfSome found (IsUpdateBy script.now letter.now tree core.now scratch.new)) }
+    ensures can { IfOk result (λ can. can ≡ can_update script.now (data_of core.now.parts) letter.now.body) }
+    ensures step { IfOk result (λ can. OnTrue can (IsUpdateBy script.now letter.now tree core.now scratch.new)) }
 {
     push_marks(&mut scratch.wanted, script, asked_ops(letter, script))?;
-    let Some(part) = plan_update(alloc, &core.parts, letter, script, scratch)? else {
-        return Ok(None);
-    };
-    let plan = plan_answered(core, script, part, VotePlan::Take(tree), scratch)?;
-    Ok(Some(plan))
+    if !plan_update(alloc, &core.parts, letter, script, scratch)? {
+        return Ok(false);
+    }
+    plan_answered(core, script, VotePlan::Take(tree), scratch)?;
+    Ok(true)
 }
 
 /// Adds the marks that operations of an update tree take: none if there is no strict tree.

@@ -5,7 +5,7 @@ ghost use Rattle.tree_step.specs.Node.{data_of};
 ghost use Rattle.tree_step.specs.AtNode.{IsDueAt, IsUnheldAt, IsVoteStep};
 ghost use Rattle.tx_trees.specs.declared.parts.TreeKind.TheVariants.{Strict};
 ghost use Rattle.tree_step.specs.Core.{IsCoreReady};
-ghost use Rattle.tree_step.specs.Meant.{ChangesNo, ChangesVotes, IsEmpty, MeansVotes, core_meant, votes_meant};
+ghost use Rattle.tree_step.specs.Meant.{ChangesNo, ChangesVotes, IsEmpty, MeansVotes, core_in, votes_meant};
 ghost use Rattle.tree_home.specs.Maps.{by_tree};
 ghost use Rattle.node_machine.specs.Meeting.{root_kept, waits_for_show};
 ghost use Rattle.node_machine.specs.Choices.{IsChoiceOfKind, kept_by_plan};
@@ -19,7 +19,7 @@ use nc_commit::{push_wanted, vote_on};
 use node_versions::Turns;
 use std::alloc::Global;
 use tree_step::{
-    InVersion, NodeCore, Plan, Refusals, Scratch, SubTurn, VotePlan, asked_ops, asked_version,
+    InVersion, NodeCore, Refusals, Scratch, SubTurn, VotePlan, asked_ops, asked_version,
     is_above, plan_tree,
 };
 use tv_base::{NoMemory, SubNo, TreeNo};
@@ -46,8 +46,8 @@ pub(crate) fn choose_strict(
         let keep = plan_waiting(&core.parts.turns, tree, &mut scratch.acts)?;
         return Ok(CoreChoice::Keeps(keep));
     }
-    let plan = plan_vote(alloc, core, letter, script, tree, scratch)?;
-    Ok(CoreChoice::Does(plan))
+    plan_vote(alloc, core, letter, script, tree, scratch)?;
+    Ok(CoreChoice::Does)
 }
 
 /// Whether a message that asks a strict tree's subtransaction for its vote is a root that has to wait.
@@ -100,14 +100,14 @@ pub(crate) fn plan_vote(
     script: &Script,
     tree: TreeNo,
     scratch: &mut Scratch,
-) -> Result<Plan, NoMemory>
+) -> Result<(), NoMemory>
     // What the caller knows.
     requires ready { IsCoreReady script.now letter.now.to.0 core.now }
     requires due { IsDueAt script.now letter.now core.now.parts }
     requires unheld { IsUnheldAt letter.now core.now.parts }
     requires empty { IsEmpty scratch.old }
     // What is planned.
-    ensures { IfOk result (λ plan. IsVoteStep script.now letter.now tree core.now (core_meant plan scratch.new)) }
+    ensures { OnOk result (IsVoteStep script.now letter.now tree core.now (core_in scratch.new)) }
 {
     let version = asked_version(letter, core.parts.turns.update);
     let ops = asked_ops(letter, script);
@@ -118,9 +118,8 @@ pub(crate) fn plan_vote(
         within: InVersion { version, raises },
         notice: notice_by(vote),
     };
-    let part = plan_tree(alloc, &core.parts, letter, script, turn, scratch)?;
-    let plan = plan_decided(core, script, part, votes, scratch)?;
-    Ok(plan)
+    plan_tree(alloc, &core.parts, letter, script, turn, scratch)?;
+    plan_decided(core, script, votes, scratch)
 }
 
 /// What a vote changes: a positive one takes the locks that the operations want.

@@ -6,7 +6,7 @@ ghost use Rattle.tree_step.specs.Core.{IsCoreReady};
 ghost use Rattle.node_machine.specs.Apt.{wake_apt};
 ghost use Rattle.node_machine.specs.Choices.{IsOwnChoice};
 
-use crate::node_plan::{CoreChoice, still_plan};
+use crate::node_plan::CoreChoice;
 use letter_types::Letter;
 use tree_step::{NodeCore, Scratch, node_of};
 use tv_base::{ActorNo, SubNo, TreeNo};
@@ -33,7 +33,7 @@ pub(crate) fn choose_wake(
     if !wake_apt(script, letter.to, tree, sub) {
         return CoreChoice::Still;
     }
-    CoreChoice::Does(still_plan())
+    CoreChoice::Does
 }
 
 /// Whether a Wake is enabled: the script has strict trees, and the subtransaction is at the node.

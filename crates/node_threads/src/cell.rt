@@ -16,7 +16,7 @@ use stamp_post::{ActorSeat, Envelope, Outbox, Post};
 use std::alloc::Global;
 use std::collections::VecDeque;
 use std::marker::Model;
-use tree_step::{Scratch, new_scratch, wipe};
+use tree_step::{Scratch, new_scratch, take_out, wipe};
 use tv_base::{ActorNo, NoMemory};
 use tx_trees::Script;
 use world_core::{ActorState, actor_done, actor_plan};
@@ -77,8 +77,8 @@ fn step(
 {
     let plan = actor_plan(alloc, state, letter, script, scratch)?;
     let copy = copy_letters(alloc, plan.sent(scratch))?;
-    let out = actor_done(alloc, state, plan, scratch)?;
-    Ok((out, copy))
+    actor_done(alloc, state, plan, scratch)?;
+    Ok((take_out(alloc, scratch), copy))
 }
 
 impl<K: ClusterName> ActorCell<K> {

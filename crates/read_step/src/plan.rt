@@ -1,6 +1,8 @@
 // A subtransaction of a read tree is planned.
-ghost use Rattle.std.specs.Prelude.{◌≡◌, [], is_some, IfOk, IfSome};
+ghost use Rattle.std.specs.Prelude.{◌≡◌, [], is_some, IfOk, IfSome, None, OnOk};
+ghost use Rattle.std.specs.Bool.{OnFalse, OnTrue};
 ghost use Rattle.std.specs.Option.{option_copied};
+ghost use Rattle.tree_step.specs.Meant.{ChangesPart, out_in};
 ghost use Rattle.tree_step.specs.Node.{data_of, IsReady};
 ghost use Rattle.read_step.specs.Rows.{can_get, can_read, gets, got_by_deed, IsReadPartPlan};
 ghost use Rattle.tree_step.specs.AtNode.{IsDueAt};
@@ -10,7 +12,7 @@ use item_versions::ItemTable;
 use letter_types::{Letter, Notice};
 use std::alloc::Global;
 use tree_step::{
-    InVersion, NodeParts, PartPlan, Scratch, SubTurn, asked_ops, asked_version, plan_tree,
+    InVersion, NodeParts, Scratch, SubTurn, asked_ops, asked_version, plan_tree,
 };
 use tv_base::{NoMemory, Version};
 use tx_trees::{Deed, Script, SubOp};
@@ -50,29 +52,32 @@ pub(crate) fn get_values(
 }
 
 /// Plans what a node does with a message that asks it for a subtransaction of a read tree (docs/ALGORITHM.md, "Nodes"),
-/// before the tree is answered. None exactly if the operations may not be made. After out of memory the scratch may hold
-/// a part of the plan.
+/// before the tree is answered. False exactly if the operations may not be made; then nothing goes out. After out of
+/// memory the scratch may hold a part of the plan.
 pub fn plan_read(
     alloc: Global,
     node: &NodeParts,
     letter: &Letter,
     script: &Script,
     scratch: &mut Scratch,
-) -> Result<Option<PartPlan>, NoMemory>
+) -> Result<bool, NoMemory>
     // What the caller knows.
     requires ready { IsReady script.now letter.now.to.0 node.now }
     requires due { IsDueAt script.now letter.now node.now }
+    requires unanswered { scratch.old.answered ≡ None }
     requires none_staged { scratch.old.staged ≡ [] }
     requires no_values { scratch.old.values ≡ [] }
     requires none_sent { scratch.old.sent ≡ [] }
     requires no_acts { scratch.old.acts ≡ [] }
     // What is planned.
-    ensures can { IfOk result (λ found. is_some found ≡ can_read script.now (data_of node.now) letter.now.body) }
-    ensures part { IfOk result (λ found. IfSome found (IsReadPartPlan script.now letter.now node.now scratch.new)) }
+    ensures can { IfOk result (λ can. can ≡ can_read script.now (data_of node.now) letter.now.body) }
+    ensures part { IfOk result (λ can. OnTrue can (IsReadPartPlan script.now letter.now node.now scratch.new)) }
+    ensures none { IfOk result (λ can. OnFalse can (out_in scratch.new ≡ record { sent = []; acts = [] })) }
+    ensures rest { OnOk result (ChangesPart scratch.old scratch.new) }
 {
     let version = asked_version(letter, node.turns.read);
     let Some(values) = get_values(alloc, &node.items, version, asked_ops(letter, script))? else {
-        return Ok(None);
+        return Ok(false);
     };
     let within = InVersion {
         version,
@@ -80,6 +85,6 @@ pub fn plan_read(
     };
     let notice = Notice::Did(values);
     let turn = SubTurn { within, notice };
-    let part = plan_tree(alloc, node, letter, script, turn, scratch)?;
-    Ok(Some(part))
+    plan_tree(alloc, node, letter, script, turn, scratch)?;
+    Ok(true)
 }

@@ -43,8 +43,8 @@ fn step_read(
     let notice = Notice::Did(values);
     let turn = SubTurn { within, notice };
     let mut scratch = new_scratch(alloc);
-    let part = plan_tree(alloc, node, letter, script, turn, &mut scratch)?;
-    let step = do_part(alloc, node, script, part, &mut scratch)?;
+    plan_tree(alloc, node, letter, script, turn, &mut scratch)?;
+    let step = do_part(alloc, node, script, &mut scratch)?;
     Ok(step)
 }
 

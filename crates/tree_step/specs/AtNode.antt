@@ -28,7 +28,6 @@ use Rattle.tree_step.specs.steps.TreeStep.{TreeStep}
 use Rattle.tree_step.specs.steps.CoreStep.{CoreStep}
 use Rattle.tree_step.specs.declared.node.NodeParts.{NodeParts}
 use Rattle.tree_step.specs.declared.node_core.NodeCore.{NodeCore}
-use Rattle.tree_step.specs.declared.plan.PartPlan.{PartPlan}
 use Rattle.tree_step.specs.declared.plan.Scratch.{Scratch}
 
 -- a message is named, new and timely at a node
@@ -45,9 +44,9 @@ IsTreePartAt s l within e n p = IsTreePartOf
     (tree_part s l.to.0 l.from.0 within.version within.raises (effect_on n.items e) l.body (data_of n)) n p
 
 -- the same, planned: of a turn, before a scratch x and with a scratch y
-abbrev pub IsTreePlanAt : ScriptData → Letter → SubTurn → NodeParts → Scratch → Scratch → PartPlan → Type 0
-IsTreePlanAt s l turn n x y part =
-    IsTreePartAt s l turn.within (record { staged = x.staged; notice = turn.notice }) n (part_meant part y)
+abbrev pub IsTreePlanAt : ScriptData → Letter → SubTurn → NodeParts → Scratch → Scratch → Type 0
+IsTreePlanAt s l turn n x y =
+    IsTreePartAt s l turn.within (record { staged = x.staged; notice = turn.notice }) n (part_meant y)
 
 -- the root of a tree
 abbrev pub IsRootPart : ScriptData → Request → Staging → NodeParts → TreeStep → Type 0
@@ -56,9 +55,8 @@ IsRootPart s r e n p = IsTreePartOf
     (with_open_tree r.tree.0 (length (subs_at s r.tree.0)) r.version.0 (data_of n))) n p
 
 -- the same, planned
-abbrev pub IsRootPlan : ScriptData → Request → Notice → NodeParts → Scratch → Scratch → PartPlan → Type 0
-IsRootPlan s r notice n x y part =
-    IsRootPart s r (record { staged = x.staged; notice = notice }) n (part_meant part y)
+abbrev pub IsRootPlan : ScriptData → Request → Notice → NodeParts → Scratch → Scratch → Type 0
+IsRootPlan s r notice n x y = IsRootPart s r (record { staged = x.staged; notice = notice }) n (part_meant y)
 
 -- another subtransaction
 abbrev pub IsSubPart : ScriptData → Request → Bool → Staging → NodeParts → TreeStep → Type 0
@@ -68,9 +66,9 @@ IsSubPart s r raises e n p = IsTreePartOf (record {
 }) n p
 
 -- the same, planned
-abbrev pub IsSubPlan : ScriptData → Request → SubTurn → NodeParts → Scratch → Scratch → PartPlan → Type 0
-IsSubPlan s r turn n x y part =
-    IsSubPart s r turn.within.raises (record { staged = x.staged; notice = turn.notice }) n (part_meant part y)
+abbrev pub IsSubPlan : ScriptData → Request → SubTurn → NodeParts → Scratch → Scratch → Type 0
+IsSubPlan s r turn n x y =
+    IsSubPart s r turn.within.raises (record { staged = x.staged; notice = turn.notice }) n (part_meant y)
 
 -- a notice of these values at its tree's home
 abbrev pub IsNotedPart : Request → List (ItemNo × Value) → NodeParts → TreeStep → Type 0

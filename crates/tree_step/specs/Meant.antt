@@ -41,7 +41,6 @@ use Rattle.tree_step.specs.declared.plan.HoldPlan.{HoldPlan}
 use Rattle.tree_step.specs.declared.plan.HoldPlan.TheVariants as hold_plans
 use Rattle.tree_step.specs.declared.plan.VotePlan.{VotePlan}
 use Rattle.tree_step.specs.declared.plan.VotePlan.TheVariants as vote_plans
-use Rattle.tree_step.specs.declared.plan.PartPlan.{PartPlan}
 use Rattle.tree_step.specs.declared.plan.Plan.{Plan}
 use Rattle.tree_step.specs.declared.plan.Scratch.{Scratch}
 
@@ -90,12 +89,12 @@ abbrev pub IsDoingPlan : (Node → Out Node) → NodeParts → Scratch → Doing
 IsDoingPlan row n x d = IsNodeStepOf (row (data_of n)) n (parts_meant d x)
 
 -- before the tree is answered
-abbrev pub part_meant : PartPlan → Scratch → TreeStep
-part_meant p x = record { parts = parts_meant p.doing x; answered = p.answered }
+abbrev pub part_meant : Scratch → TreeStep
+part_meant x = record { parts = parts_meant x.plan.doing x; answered = x.answered }
 
 -- its row, with the answer to the client of script s behind what it sends
-abbrev pub replied_part : ScriptData → PartPlan → Scratch → NodeParts → Out Node
-replied_part s part x n = replied s (part_row (part_meant part x) (data_of n))
+abbrev pub replied_part : ScriptData → Scratch → NodeParts → Out Node
+replied_part s x n = replied s (part_row (part_meant x) (data_of n))
 
 -- what becomes of locks or negative votes, by the locks that are wanted and by the negative vote, if there is one
 abbrev pub noted_by : TreeNo → Option NegativeVote → VoteChange
@@ -145,9 +144,19 @@ meant_held p t v x = meant_with p x (held_by t v x.held x.told)
 abbrev pub core_meant : Plan → Scratch → CoreStep
 core_meant p x = meant_with p x (holds_meant p.holds x)
 
+-- the step that a scratch plans
+abbrev pub core_in : Scratch → CoreStep
+core_in x = core_meant x.plan x
+
+-- all stays
+abbrev pub no_plan : Plan
+no_plan = record { doing = doings.Still; votes = vote_plans.Stay; holds = hold_plans.Stay; epoch = None }
+
 -- nothing is in the scratch
 abbrev pub IsEmpty : Scratch → Type 0
 IsEmpty x = x ≡ record {
+  plan = no_plan;
+  answered = None;
   staged = [];
   values = [];
   held = [];
@@ -159,13 +168,36 @@ IsEmpty x = x ≡ record {
   acts = [];
 }
 
--- what of a scratch changes, from x to y: what a part of a step makes, with what is staged or without, and what goes
--- out
+-- of a plan p, what the parts do is planned anew, as in q
+abbrev pub planning : Plan → Plan → Plan
+planning p q = record p { doing = q.doing }
+
+-- what of a scratch changes, from x to y: what a part of a step plans and makes, with what is staged or without; what
+-- another subtransaction than a root does; what a notice brings; what goes out alone
 abbrev pub ChangesPart : Scratch → Scratch → Type 0
-ChangesPart x y = y ≡ record x { staged = y.staged; values = y.values; sent = y.sent; acts = y.acts }
+ChangesPart x y = y ≡ record x {
+  plan = planning x.plan y.plan;
+  answered = y.answered;
+  staged = y.staged;
+  values = y.values;
+  sent = y.sent;
+  acts = y.acts;
+}
 
 abbrev pub ChangesRoot : Scratch → Scratch → Type 0
-ChangesRoot x y = y ≡ record x { values = y.values; sent = y.sent; acts = y.acts }
+ChangesRoot x y = y ≡ record x {
+  plan = planning x.plan y.plan;
+  answered = y.answered;
+  values = y.values;
+  sent = y.sent;
+  acts = y.acts;
+}
+
+abbrev pub ChangesSub : Scratch → Scratch → Type 0
+ChangesSub x y = y ≡ record x { plan = planning x.plan y.plan; sent = y.sent; acts = y.acts }
+
+abbrev pub ChangesAnswer : Scratch → Scratch → Type 0
+ChangesAnswer x y = y ≡ record x { answered = y.answered; values = y.values }
 
 abbrev pub ChangesOut : Scratch → Scratch → Type 0
 ChangesOut x y = y ≡ record x { sent = y.sent; acts = y.acts }

@@ -1,5 +1,5 @@
 // What a message asks of a node.
-ghost use Rattle.std.specs.Prelude.{◌≡◌, [], IfOk, IsTrue, OnOk};
+ghost use Rattle.std.specs.Prelude.{◌≡◌, [], IsTrue, None, OnOk};
 ghost use Rattle.item_versions.specs.Table.{pending};
 ghost use Rattle.item_versions.specs.Window.{in_window, IsWindowedTable};
 ghost use Rattle.world_model.specs.Asked.{asked_ops, asked_version};
@@ -9,7 +9,7 @@ ghost use Rattle.tree_step.specs.AtNode.{IsDueAt, IsTreePlanAt};
 
 use crate::lookups::ops_of;
 use crate::node::NodeParts;
-use crate::plan::{Doing, PartPlan, Scratch};
+use crate::plan::{Doing, Scratch};
 use crate::subs::{plan_root, plan_sub};
 use letter_types::{Body, Letter, Notice};
 use std::alloc::Global;
@@ -65,7 +65,7 @@ pub struct SubTurn {
 }
 
 /// Plans the subtransaction that a message asks for, and that makes what is staged in the scratch, before the tree is
-/// answered.
+/// answered. If no memory is found, the scratch may have anything.
 pub fn plan_tree(
     alloc: Global,
     node: &NodeParts,
@@ -73,17 +73,18 @@ pub fn plan_tree(
     script: &Script,
     turn: SubTurn,
     scratch: &mut Scratch,
-) -> Result<PartPlan, NoMemory>
+) -> Result<(), NoMemory>
     // What the caller knows.
     requires ready { IsReady script.now letter.now.to.0 node.now }
     requires due { IsDueAt script.now letter.now node.now }
     requires near { IsTrue (in_window node.now.turns.low.0 turn.within.version.0) }
     requires fits { IsWindowedTable node.now.turns.low.0 (pending scratch.old.staged node.now.items) }
+    requires unanswered { scratch.old.answered ≡ None }
     requires no_values { scratch.old.values ≡ [] }
     requires none_sent { scratch.old.sent ≡ [] }
     requires no_acts { scratch.old.acts ≡ [] }
     // What is planned.
-    ensures part { IfOk result (IsTreePlanAt script.now letter.now turn node.now scratch.old scratch.new) }
+    ensures part { OnOk result (IsTreePlanAt script.now letter.now turn node.now scratch.old scratch.new) }
     ensures rest { OnOk result (ChangesPart scratch.old scratch.new) }
 {
     let version = turn.within.version;
@@ -106,9 +107,9 @@ pub fn plan_tree(
             };
             plan_sub(alloc, node, script, request, turn, scratch)
         }
-        _ => Ok(PartPlan {
-            doing: Doing::Still,
-            answered: None,
-        }),
+        _ => {
+            scratch.plan.doing = Doing::Still;
+            Ok(())
+        }
     }
 }

@@ -7,7 +7,7 @@ ghost use Rattle.tree_step.specs.Changes.{home_after, MayDo, MayHome, OpensNone,
 ghost use Rattle.tree_step.specs.steps.Change.{Tree};
 ghost use Rattle.tree_step.specs.steps.HoldChange.{Stay, Ack};
 ghost use Rattle.tree_step.specs.CoreChanges.{MayDoCore, epoch_with, numbers_of_nodes};
-ghost use Rattle.tree_step.specs.Meant.{core_meant, doing_meant, home_meant, IsDoingDone, IsStepDone, locks_meant, meant_held, meant_with, out_in, refusals_meant, tree_meant};
+ghost use Rattle.tree_step.specs.Meant.{core_in, core_meant, doing_meant, home_meant, IsDoingDone, IsStepDone, locks_meant, meant_held, meant_with, out_in, refusals_meant, tree_meant};
 ghost use Rattle.tree_step.specs.inside.PlanOpening.{doing_once_open, opening_by, plan_once_open};
 ghost use Rattle.tree_step.specs.AtNode.{asked_counts};
 ghost use Rattle.world_model.specs.Done.{raised_if};
@@ -329,21 +329,17 @@ fn do_open(
     }
 }
 
-/// Does what is planned; what goes out stays in the scratch. Only its first calls may need memory: to open a tree, to
+/// Does what is planned in the scratch; what goes out stays there. Only its first calls may need memory: to open a tree, to
 /// hold an answer, for locks and negative votes. If no memory is found, the node is unchanged, and the scratch may have
 /// anything.
 #[inline(always)]
-pub fn do_plan(
-    alloc: Global,
-    core: &mut NodeCore,
-    plan: Plan,
-    scratch: &mut Scratch,
-) -> Result<(), NoMemory>
-    requires { MayDoCore (core_meant plan scratch.old) core.old }
-    ensures done { OnOk result (IsStepDone (core_meant plan scratch.old) scratch.old core.old core.new) }
+pub fn do_plan(alloc: Global, core: &mut NodeCore, scratch: &mut Scratch) -> Result<(), NoMemory>
+    requires { MayDoCore (core_in scratch.old) core.old }
+    ensures done { OnOk result (IsStepDone (core_in scratch.old) scratch.old core.old core.new) }
     ensures err { OnErr result (core.new ≡ core.old) }
     ensures out { out_in scratch.new ≡ out_in scratch.old }
 {
+    let plan = scratch.plan;
     match opening_by(plan.doing) {
         None => do_holds(alloc, core, plan, scratch),
         Some(opening) => do_open(alloc, core, opening, plan, scratch),

@@ -27,8 +27,8 @@ pub use node::NodeParts;
 pub use node_core::NodeCore;
 pub use notices::plan_notice;
 pub use plan::{
-    Doing, HoldPlan, HomePlan, PartPlan, Plan, Scratch, TreePlan, Visited, VotePlan, new_scratch,
-    take_out, wipe,
+    Doing, HoldPlan, HomePlan, Plan, Scratch, TreePlan, Visited, VotePlan, new_scratch, take_out,
+    wipe,
 };
 pub use public::do_part;
 pub use refusals::Refusals;

@@ -1,6 +1,6 @@
 // What a step is to do: a plan, and a scratch with all that takes memory.
 ghost use Rattle.std.specs.Prelude.{◌≡◌};
-ghost use Rattle.tree_step.specs.Meant.{IsEmpty, out_in};
+ghost use Rattle.tree_step.specs.Meant.{IsEmpty, no_plan, out_in};
 
 use crate::counting::Counting;
 use commute_ops::Values;
@@ -55,14 +55,6 @@ pub enum Doing {
     Sweep(Version),
 }
 
-/// What a node's parts do for a tree's message, before the tree is answered; and its answer if its home misses no notice
-/// any more.
-#[derive(Drop)]
-pub struct PartPlan {
-    pub doing: Doing,
-    pub answered: Option<Answered>,
-}
-
 /// What becomes of locks, or of the negative votes.
 #[derive(Clone, Copy)]
 pub enum VotePlan {
@@ -100,9 +92,24 @@ pub struct Plan {
     pub epoch: Option<u64>,
 }
 
-/// What a step makes and takes memory for. The places are used again by the next step.
+/// A plan by which all stays.
+fn no_plan() -> Plan
+    ensures { result ≡ no_plan }
+{
+    Plan {
+        doing: Doing::Still,
+        votes: VotePlan::Stay,
+        holds: HoldPlan::Stay,
+        epoch: None,
+    }
+}
+
+/// What a step plans and makes, with all that takes memory. Its places are used again by the next step.
 #[derive(Drop)]
 pub struct Scratch {
+    pub plan: Plan,
+    /// The answer of the tree whose message it is, if its home misses no notice any more.
+    pub answered: Option<Answered>,
     pub staged: Staged,
     /// The values of a notice.
     pub values: Values,
@@ -124,6 +131,8 @@ pub fn new_scratch(alloc: Global) -> Scratch
     ensures { IsEmpty result }
 {
     Scratch {
+        plan: no_plan(),
+        answered: None,
         staged: Staged::new(alloc),
         values: Values::new(alloc),
         held: Values::new(alloc),
@@ -151,6 +160,8 @@ pub fn take_out(alloc: Global, scratch: &mut Scratch) -> StepOut
 pub fn wipe(scratch: &mut Scratch)
     ensures { IsEmpty scratch.new }
 {
+    scratch.plan = no_plan();
+    scratch.answered = None;
     scratch.staged.clear();
     scratch.values.clear();
     scratch.held.clear();

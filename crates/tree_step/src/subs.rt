@@ -1,10 +1,10 @@
 // The plans of a root and of another subtransaction.
-ghost use Rattle.std.specs.Prelude.{◌≡◌, ◌<◌, ◌≤◌, length, IfOk, IsTrue, None, OnOk};
+ghost use Rattle.std.specs.Prelude.{◌≡◌, ◌<◌, ◌≤◌, length, IsTrue, None, OnOk};
 ghost use Rattle.item_versions.specs.Table.{pending};
 ghost use Rattle.item_versions.specs.Window.{in_window, IsWindowedTable};
 ghost use Rattle.tree_home.specs.Homes.{home_in, open_trees};
 ghost use Rattle.tx_trees.specs.ScriptData.{subs_at};
-ghost use Rattle.tree_step.specs.Meant.{ChangesOut, ChangesRoot};
+ghost use Rattle.tree_step.specs.Meant.{ChangesSub, ChangesRoot};
 ghost use Rattle.tree_step.specs.Node.{IsReady};
 ghost use Rattle.world_model.specs.Notices.{values_of};
 ghost use Rattle.tree_step.specs.inside.Noting.{IsHomeRooted};
@@ -15,7 +15,7 @@ use crate::asked::{Request, SubTurn};
 use crate::counting::Counting;
 use crate::letters::{push_done, root_acts, sub_acts, sub_letters};
 use crate::node::NodeParts;
-use crate::plan::{Doing, HomePlan, PartPlan, Scratch, TreePlan};
+use crate::plan::{Doing, HomePlan, Scratch, TreePlan};
 use commute_ops::Values;
 use letter_types::Notice;
 use std::alloc::Global;
@@ -72,7 +72,7 @@ pub(crate) fn plan_root(
     request: Request,
     notice: Notice,
     scratch: &mut Scratch,
-) -> Result<PartPlan, NoMemory>
+) -> Result<(), NoMemory>
     // What the caller knows.
     requires ready { IsReady script.now request.from.0 node.now }
     requires there { 0 < length (subs_at script.now request.tree.0) }
@@ -80,7 +80,7 @@ pub(crate) fn plan_root(
     requires near { IsTrue (in_window node.now.turns.low.0 request.version.0) }
     requires fits { IsWindowedTable node.now.turns.low.0 (pending scratch.old.staged node.now.items) }
     // What is planned.
-    ensures part { IfOk result (IsRootPlan script.now request notice node.now scratch.old scratch.new) }
+    ensures part { OnOk result (IsRootPlan script.now request notice node.now scratch.old scratch.new) }
     ensures rest { OnOk result (ChangesRoot scratch.old scratch.new) }
 {
     let Request {
@@ -111,10 +111,9 @@ pub(crate) fn plan_root(
         counting,
         home,
     };
-    Ok(PartPlan {
-        doing: Doing::Tree(plan),
-        answered,
-    })
+    scratch.plan.doing = Doing::Tree(plan);
+    scratch.answered = answered;
+    Ok(())
 }
 
 /// Plans the turn of a subtransaction that isn't a root: it is counted, its children are asked for, and its notice goes
@@ -126,15 +125,16 @@ pub(crate) fn plan_sub(
     request: Request,
     turn: SubTurn,
     scratch: &mut Scratch,
-) -> Result<PartPlan, NoMemory>
+) -> Result<(), NoMemory>
     // What the caller knows.
     requires ready { IsReady script.now request.from.0 node.now }
     requires there { 0 < length (subs_at script.now request.tree.0) }
     requires near { IsTrue (in_window node.now.turns.low.0 request.version.0) }
     requires fits { IsWindowedTable node.now.turns.low.0 (pending scratch.old.staged node.now.items) }
+    requires unanswered { scratch.old.answered ≡ None }
     // What is planned.
-    ensures part { IfOk result (IsSubPlan script.now request turn node.now scratch.old scratch.new) }
-    ensures rest { OnOk result (ChangesOut scratch.old scratch.new) }
+    ensures part { OnOk result (IsSubPlan script.now request turn node.now scratch.old scratch.new) }
+    ensures rest { OnOk result (ChangesSub scratch.old scratch.new) }
 {
     let SubTurn { within, notice } = turn;
     let raises = within.raises;
@@ -165,8 +165,6 @@ pub(crate) fn plan_sub(
         counting,
         home: HomePlan::Stay,
     };
-    Ok(PartPlan {
-        doing: Doing::Tree(plan),
-        answered: None,
-    })
+    scratch.plan.doing = Doing::Tree(plan);
+    Ok(())
 }

@@ -1,8 +1,8 @@
 // A subtransaction of an update tree is planned.
-ghost use Rattle.std.specs.Prelude.{◌≡◌, [], is_some, IfOk, IfSome, IsTrue, OnOk};
-ghost use Rattle.std.specs.Bool.{OnTrue};
+ghost use Rattle.std.specs.Prelude.{◌≡◌, [], IfOk, IsTrue, None, OnOk};
+ghost use Rattle.std.specs.Bool.{OnFalse, OnTrue};
 ghost use Rattle.item_versions.specs.Window.{in_window, IsWindowedTable};
-ghost use Rattle.tree_step.specs.Meant.{ChangesPart};
+ghost use Rattle.tree_step.specs.Meant.{ChangesPart, out_in};
 ghost use Rattle.tree_step.specs.Node.{data_of, IsReady};
 ghost use Rattle.update_step.specs.Rows.{can_touch, can_update, FitsStaged, IsStagedBy, IsUpdatePartPlan};
 ghost use Rattle.tree_step.specs.AtNode.{IsDueAt};
@@ -12,7 +12,7 @@ use item_versions::Staged;
 use letter_types::{Letter, Notice};
 use std::alloc::Global;
 use tree_step::{
-    InVersion, NodeParts, PartPlan, Scratch, SubTurn, asked_ops, asked_version, is_above, plan_tree,
+    InVersion, NodeParts, Scratch, SubTurn, asked_ops, asked_version, is_above, plan_tree,
 };
 use tv_base::{NoMemory, Version};
 use tx_trees::{Deed, Script, SubOp};
@@ -65,36 +65,38 @@ pub fn can_update(
 }
 
 /// Plans what a node does with a message that asks it for a subtransaction of an update tree (docs/ALGORITHM.md,
-/// "Nodes"), before the tree is answered. None exactly if the operations may not be made; then a part may be staged, as
-/// after out of memory.
+/// "Nodes"), before the tree is answered. False exactly if the operations may not be made; then nothing goes out, and a part
+/// may be staged, as after out of memory.
 pub fn plan_update(
     alloc: Global,
     node: &NodeParts,
     letter: &Letter,
     script: &Script,
     scratch: &mut Scratch,
-) -> Result<Option<PartPlan>, NoMemory>
+) -> Result<bool, NoMemory>
     // What the caller knows.
     requires ready { IsReady script.now letter.now.to.0 node.now }
     requires due { IsDueAt script.now letter.now node.now }
+    requires unanswered { scratch.old.answered ≡ None }
     requires none_staged { scratch.old.staged ≡ [] }
     requires no_values { scratch.old.values ≡ [] }
     requires none_sent { scratch.old.sent ≡ [] }
     requires no_acts { scratch.old.acts ≡ [] }
     // What is planned.
-    ensures can { IfOk result (λ found. is_some found ≡ can_update script.now (data_of node.now) letter.now.body) }
-    ensures part { IfOk result (λ found. IfSome found (IsUpdatePartPlan script.now letter.now node.now scratch.new)) }
+    ensures can { IfOk result (λ can. can ≡ can_update script.now (data_of node.now) letter.now.body) }
+    ensures part { IfOk result (λ can. OnTrue can (IsUpdatePartPlan script.now letter.now node.now scratch.new)) }
+    ensures none { IfOk result (λ can. OnFalse can (out_in scratch.new ≡ record { sent = []; acts = [] })) }
     ensures rest { OnOk result (ChangesPart scratch.old scratch.new) }
 {
     let version = asked_version(letter, node.turns.update);
     let ops = asked_ops(letter, script);
     if !stage_ops(node, version, ops, &mut scratch.staged)? {
-        return Ok(None);
+        return Ok(false);
     }
     let raises = is_above(&node.turns, version);
     let within = InVersion { version, raises };
     let notice = Notice::Did(Values::new(alloc));
     let turn = SubTurn { within, notice };
-    let part = plan_tree(alloc, node, letter, script, turn, scratch)?;
-    Ok(Some(part))
+    plan_tree(alloc, node, letter, script, turn, scratch)?;
+    Ok(true)
 }

@@ -30,10 +30,10 @@ fn step_update(
     ensures { IsDoneTwice (update_at script.now letter.now node.old) node.old node.new result }
 {
     let mut scratch = new_scratch(alloc);
-    let Some(part) = plan_update(alloc, node, letter, script, &mut scratch)? else {
+    if !plan_update(alloc, node, letter, script, &mut scratch)? {
         return Ok(Step::still(alloc));
-    };
-    let step = do_part(alloc, node, script, part, &mut scratch)?;
+    }
+    let step = do_part(alloc, node, script, &mut scratch)?;
     Ok(step)
 }
 

@@ -1,6 +1,6 @@
 -- A step of an actor that was planned and done is its row.
 use Rattle.std.proofs.Common.{◌≡◌, ◌<◌, ℕ, List, length, get_or, refl, ap, ◌∙◌, subst, sym, Result, Ok, Err}
-use Rattle.std.specs.Prelude.{IfOk, MatchResult, OnErr, slice_set}
+use Rattle.std.specs.Prelude.{OnErr, OnOk, slice_set}
 use Rattle.std.proofs.lemmas.List.{set-get_or}
 use Rattle.std.proofs.lemmas.Option.{slice_get_read}
 use Rattle.tv_base.specs.declared.numbers.NoMemory.{NoMemory}
@@ -99,7 +99,7 @@ out_made : (p : NodePlan) (x : Scratch) (n m : KeepingNode) (out : StepOut) → 
     → out ≡ out_in x
 out_made StillPlan x n m out is = λ i. record { sent = (is i).sent; acts = (is i).acts }
 out_made (KeepsPlan k) x n m out is = λ i. record { sent = (is i).sent; acts = (is i).acts }
-out_made (DoesPlan p k) x n m out is = λ i. record { sent = (is i).sent; acts = (is i).acts }
+out_made (DoesPlan k) x n m out is = λ i. record { sent = (is i).sent; acts = (is i).acts }
 
 -- what goes out is what was planned
 pub out_is : (p : ActorPlan) (x : Scratch) (old new : ActorState) (out : StepOut) → IsActorDone p x old new out → out ≡ out_of p x
@@ -133,22 +133,22 @@ out_is (ClientStep p) x (Coordinator c) new out done = absurd done
 out_is (ClientStep p) x (Restarting c) new out done = absurd done
 
 -- the actor at a place did it, and the others stay
-pub acted_at : (a : ℕ) (p : ActorPlan) (x : Scratch) (old : List ActorState) (before after : ActorState) (r : Result StepOut NoMemory)
-    → a < length old → before ≡ get_or old a before → MatchResult r (IsActorDone p x before after) (λ _. after ≡ before)
-    → IfOk r (Acted a p x old (slice_set old a after))
-acted_at a p x old before after (Ok out) lt at done = record {
+pub acted_at : {T : Type 0} (a : ℕ) (p : ActorPlan) (x : Scratch) (old : List ActorState) (before after : ActorState)
+    (out : StepOut) (r : Result T NoMemory)
+    → a < length old → before ≡ get_or old a before → OnOk r (IsActorDone p x before after out)
+    → OnOk r (Acted a p x old (slice_set old a after) out)
+acted_at a p x old before after out (Ok done_with) lt at done = record {
   before = before;
   after = after;
   there = slice_get_read old (length old) a before refl lt at;
   set = refl;
   done = done;
 }
-acted_at a p x old before after (Err e) lt at same = tt
+acted_at a p x old before after out (Err e) lt at done = tt
 
 -- or found no memory, and all stay
-pub stays_at : (a : ℕ) (p : ActorPlan) (x : Scratch) (old : List ActorState) (before after : ActorState) (r : Result StepOut NoMemory)
-    → before ≡ get_or old a before → MatchResult r (IsActorDone p x before after) (λ _. after ≡ before)
-    → OnErr r (slice_set old a after ≡ old)
-stays_at a p x old before after (Ok out) at done = tt
-stays_at a p x old before after (Err e) at same =
+pub stays_at : {T : Type 0} (a : ℕ) (old : List ActorState) (before after : ActorState) (r : Result T NoMemory)
+    → before ≡ get_or old a before → OnErr r (after ≡ before) → OnErr r (slice_set old a after ≡ old)
+stays_at a old before after (Ok done_with) at same = tt
+stays_at a old before after (Err e) at same =
     ap (λ (st : ActorState). slice_set old a st) (same ∙ at) ∙ set-get_or old a before

@@ -1,9 +1,11 @@
 // The actors as one, and their steps.
-ghost use Rattle.std.specs.Prelude.{◌≡◌, ◌<◌, ◌+◌, [], IfOk, MatchResult, OnOk, OnErr};
-ghost use Rattle.node_machine.specs.Changes.{MayDoKeeping};
-ghost use Rattle.node_machine.specs.Meant.{IsNodeDone, node_meant};
+ghost use Rattle.std.specs.Prelude.{◌≡◌, ◌<◌, ◌+◌, [], IfOk, OnOk, OnErr};
+ghost use Rattle.advance_coord.specs.Changes.{MayKeep, IsCoordinatorStepOf, after_coordinator_change};
+ghost use Rattle.client_rows.specs.Changes.{IsClientStepOf, after_client_change};
+ghost use Rattle.client_rows.specs.Kept.{IsKeptOf};
+ghost use Rattle.coord_restart.specs.RestartChanges.{MayTakeUp, IsRestartStepOf, after_restart_change};
 ghost use Rattle.tree_step.specs.Meant.{IsEmpty, out_in};
-ghost use Rattle.world_model.specs.Tables.{start_coordination};
+ghost use Rattle.world_model.specs.Tables.{client_table, coordinator_table, restarting_table, start_coordination};
 ghost use Rattle.world_core.specs.Actors.{actor_data, IsFor, IsStateOf};
 ghost use Rattle.world_core.specs.Steps.{ActorMayDo, IsActorDone, IsActorStepOf, MayTake, out_of};
 ghost use Rattle.pair_counters.specs.Numbers.{MOST_COUNT};
@@ -15,7 +17,7 @@ use coord_restart::{RestartPrepared, Restarting};
 use letter_types::{Boxed, Letter, Letters, StepOut};
 use node_machine::NodePlan;
 use std::alloc::Global;
-use tree_step::{Scratch, take_out, wipe};
+use tree_step::Scratch;
 use tv_base::{ActorNo, NoMemory, NodeNo};
 use tx_trees::Script;
 
@@ -43,17 +45,18 @@ impl Drop for ActorState {
     }
 }
 
-/// A step of an actor that is planned: what it does. What goes out of a node lies in the scratch.
+/// A step of an actor that is planned: what it does. It is passed on from call to call, so it is small: what a node is
+/// to do lies in the scratch, and what another actor is to do behind a pointer.
 #[derive(Drop)]
 pub enum ActorPlan {
     /// A node's step.
     Node(NodePlan),
-    /// The coordinator's step, which is rare, and large.
+    /// The coordinator's step.
     Coordinator(Boxed<CoordinatorPrepared>),
     /// The same of one that may forget.
     Restarting(Boxed<RestartPrepared>),
     /// The client's step.
-    Client(ClientPrepared),
+    Client(Boxed<ClientPrepared>),
 }
 
 impl ActorPlan {
@@ -65,7 +68,7 @@ impl ActorPlan {
             ActorPlan::Node(_) => &scratch.sent,
             ActorPlan::Coordinator(prepared) => &prepared.get().out().sent,
             ActorPlan::Restarting(prepared) => &prepared.get().out().sent,
-            ActorPlan::Client(prepared) => &prepared.out().sent,
+            ActorPlan::Client(prepared) => &prepared.get().out().sent,
         }
     }
 }
@@ -120,76 +123,148 @@ pub fn actor_plan(
             Ok(ActorPlan::Node(plan))
         }
         ActorState::Coordinator(coordinator) => {
-            let prepared = Boxed::new(alloc, coordinator.prepare(alloc, letter)?)?;
+            let prepared = prepare_coordinator(alloc, coordinator, letter)?;
             Ok(ActorPlan::Coordinator(prepared))
         }
-        ActorState::Restarting(coordinator) => {
-            let prepared = Boxed::new(alloc, coordinator.prepare(alloc, letter)?)?;
+        ActorState::Restarting(restarting) => {
+            let prepared = prepare_restarting(alloc, restarting, letter)?;
             Ok(ActorPlan::Restarting(prepared))
         }
         ActorState::Client(client) => {
-            let prepared = client.prepare(alloc, letter, script)?;
+            let prepared = prepare_client(alloc, client, letter, script)?;
             Ok(ActorPlan::Client(prepared))
         }
     }
 }
 
-/// A node does what was planned, and gives what goes out.
-#[inline(always)]
-fn node_acts(
+// What the coordinators and the client prepare is large: in a call of its own it costs nothing where a node acts.
+
+/// Prepares the coordinator's step.
+#[inline(never)]
+fn prepare_coordinator(
     alloc: Global,
-    node: &mut NodeState,
-    plan: NodePlan,
-    scratch: &mut Scratch,
-) -> Result<StepOut, NoMemory>
-    requires { MayDoKeeping (node_meant plan scratch.old) node.old }
-    ensures done { OnOk result (IsNodeDone plan scratch.old node.old node.new) }
-    ensures out { IfOk result (λ out. out ≡ out_in scratch.old) }
-    ensures empty { OnOk result (IsEmpty scratch.new) }
-    ensures err { OnErr result (node.new ≡ node.old) }
+    coordinator: &Coordinator,
+    letter: &Letter,
+) -> Result<Boxed<CoordinatorPrepared>, NoMemory>
+    ensures { IfOk result (IsCoordinatorStepOf (coordinator_table coordinator.now letter.now) coordinator.now) }
 {
-    node.act(alloc, plan, scratch)?;
-    Ok(take_out(alloc, scratch))
+    let prepared = coordinator.prepare(alloc, letter)?;
+    Ok(Boxed::new(alloc, prepared)?)
 }
 
-/// Does a step that was planned for this actor, and gives what goes out; then the scratch is empty. If a node finds no
-/// memory, it is as it was; the coordinator and the client need none.
+/// The same of a coordinator that may forget.
+#[inline(never)]
+fn prepare_restarting(
+    alloc: Global,
+    restarting: &Restarting,
+    letter: &Letter,
+) -> Result<Boxed<RestartPrepared>, NoMemory>
+    ensures { IfOk result (IsRestartStepOf (restarting_table restarting.now letter.now) restarting.now) }
+{
+    let prepared = restarting.prepare(alloc, letter)?;
+    Ok(Boxed::new(alloc, prepared)?)
+}
+
+/// Prepares the client's step.
+#[inline(never)]
+fn prepare_client(
+    alloc: Global,
+    client: &Client,
+    letter: &Letter,
+    script: &Script,
+) -> Result<Boxed<ClientPrepared>, NoMemory>
+    requires { IsKeptOf script.now client.now }
+    ensures { IfOk result
+        (IsClientStepOf script.now (client_table script.now client.now.client letter.now) client.now) }
+{
+    let prepared = client.prepare(alloc, letter, script)?;
+    Ok(Boxed::new(alloc, prepared)?)
+}
+
+/// Does a step that was planned for this actor; what goes out lies in the scratch then. If a node finds no memory, it
+/// is as it was, and the scratch may have anything; the coordinator and the client need none.
 #[inline(always)]
 pub fn actor_done(
     alloc: Global,
     state: &mut ActorState,
     plan: ActorPlan,
     scratch: &mut Scratch,
-) -> Result<StepOut, NoMemory>
+) -> Result<(), NoMemory>
     requires { ActorMayDo plan scratch.old state.old }
-    ensures done { MatchResult result (IsActorDone plan scratch.old state.old state.new) (λ _. state.new ≡ state.old) }
-    ensures empty { OnOk result (IsEmpty scratch.new) }
+    ensures done { OnOk result (IsActorDone plan scratch.old state.old state.new (out_in scratch.new)) }
+    ensures err { OnErr result (state.new ≡ state.old) }
 {
     match plan {
         ActorPlan::Node(plan) => match state {
-            ActorState::Node(node) => node_acts(alloc, node, plan, scratch),
+            ActorState::Node(node) => node.act(alloc, plan, scratch),
             _ => unreachable!(),
         },
         ActorPlan::Coordinator(prepared) => match state {
             ActorState::Coordinator(coordinator) => {
-                wipe(scratch);
-                Ok(coordinator.done(prepared.into_inner()))
+                coordinator_done(coordinator, prepared, scratch);
+                Ok(())
             }
             _ => unreachable!(),
         },
         ActorPlan::Restarting(prepared) => match state {
             ActorState::Restarting(restarting) => {
-                wipe(scratch);
-                Ok(restarting.done(prepared.into_inner()))
+                restarting_done(restarting, prepared, scratch);
+                Ok(())
             }
             _ => unreachable!(),
         },
         ActorPlan::Client(prepared) => match state {
             ActorState::Client(client) => {
-                wipe(scratch);
-                Ok(client.done(prepared))
+                client_done(client, prepared, scratch);
+                Ok(())
             }
             _ => unreachable!(),
         },
     }
+}
+
+/// Puts what goes out into the scratch.
+fn put_out(scratch: &mut Scratch, out: StepOut)
+    ensures { out_in scratch.new ≡ out }
+{
+    let StepOut { sent, acts } = out;
+    scratch.sent = sent;
+    scratch.acts = acts;
+}
+
+/// The coordinator does its step.
+#[inline(never)]
+fn coordinator_done(
+    coordinator: &mut Coordinator,
+    prepared: Boxed<CoordinatorPrepared>,
+    scratch: &mut Scratch,
+)
+    requires { MayKeep prepared.change.row coordinator.old.count.current }
+    ensures done { coordinator.new ≡ after_coordinator_change prepared.change coordinator.old }
+    ensures out { out_in scratch.new ≡ prepared.out }
+{
+    put_out(scratch, coordinator.done(prepared.into_inner()));
+}
+
+/// The same of a coordinator that may forget.
+#[inline(never)]
+fn restarting_done(
+    restarting: &mut Restarting,
+    prepared: Boxed<RestartPrepared>,
+    scratch: &mut Scratch,
+)
+    requires { MayTakeUp prepared.change.taken restarting.old }
+    ensures done { restarting.new ≡ after_restart_change prepared.change restarting.old }
+    ensures out { out_in scratch.new ≡ prepared.out }
+{
+    put_out(scratch, restarting.done(prepared.into_inner()));
+}
+
+/// The client does its step.
+#[inline(never)]
+fn client_done(client: &mut Client, prepared: Boxed<ClientPrepared>, scratch: &mut Scratch)
+    ensures done { client.new ≡ after_client_change prepared.change client.old }
+    ensures out { out_in scratch.new ≡ prepared.out }
+{
+    put_out(scratch, client.done(prepared.into_inner()));
 }

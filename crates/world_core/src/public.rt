@@ -9,7 +9,7 @@ ghost use Rattle.pair_counters.specs.Numbers.{MOST_COUNT};
 use crate::actor::{ActorPlan, ActorState, actor_done, actor_plan};
 use letter_types::{Acts, Letter, Step, StepOut, copy_acts, copy_letters};
 use std::alloc::Global;
-use tree_step::{Scratch, new_scratch};
+use tree_step::{Scratch, new_scratch, take_out};
 use tv_base::NoMemory;
 use tx_trees::Script;
 
@@ -22,7 +22,7 @@ impl ActorPlan {
             ActorPlan::Node(_) => &scratch.acts,
             ActorPlan::Coordinator(prepared) => &prepared.get().out().acts,
             ActorPlan::Restarting(prepared) => &prepared.get().out().acts,
-            ActorPlan::Client(prepared) => &prepared.out().acts,
+            ActorPlan::Client(prepared) => &prepared.get().out().acts,
         }
     }
 }
@@ -50,6 +50,7 @@ pub fn actor_step(
         sent: copy_letters(alloc, plan.sent(&scratch))?,
         acts: copy_acts(alloc, plan.acts(&scratch))?,
     };
-    let given = actor_done(alloc, state, plan, &mut scratch)?;
+    actor_done(alloc, state, plan, &mut scratch)?;
+    let given = take_out(alloc, &mut scratch);
     Ok(Step { given, kept })
 }

@@ -5,7 +5,7 @@ ghost use Rattle.letter_types.specs.Letters.{sealed};
 ghost use Rattle.tv_base.specs.declared.numbers.TheConstants.{MOST_ENTRIES};
 ghost use Rattle.tx_trees.specs.ScriptData.{ScriptData};
 ghost use Rattle.world_core.specs.Actors.{AreStatesOf, IsLedTo, IsWorldOf, TookLetter};
-ghost use Rattle.tree_step.specs.Meant.{IsEmpty};
+ghost use Rattle.tree_step.specs.Meant.{IsEmpty, out_in};
 ghost use Rattle.world_core.specs.Steps.{ActorMayDo, MayTake, out_of};
 ghost use Rattle.world_core.specs.inside.Actors.{Acted, IsPlanFor, letters_made, with_last_entry, world_in};
 ghost use Rattle.pair_counters.specs.Numbers.{MOST_COUNT};
@@ -16,7 +16,7 @@ use letter_types::{Acts, Entry, History, Letter, LetterId, Letters, StepOut, go}
 use std::alloc::Global;
 use std::marker::Model;
 use std::mem;
-use tree_step::{Scratch, new_scratch, wipe};
+use tree_step::{Scratch, new_scratch, take_out, wipe};
 use tv_base::{ActorNo, NoMemory, Stamp};
 use tx_trees::Script;
 
@@ -142,18 +142,18 @@ fn plan(
     Ok(plan)
 }
 
-/// Lets an actor do a step that was planned; then the scratch is empty.
+/// Lets an actor do a step that was planned. What goes out lies in the scratch then.
 fn act(
     alloc: Global,
     actors: &mut Vec<ActorState>,
     actor: ActorNo,
     plan: ActorPlan,
     scratch: &mut Scratch,
-) -> Result<StepOut, NoMemory>
+) -> Result<(), NoMemory>
     requires here { actor.0 < length actors.old.items }
     requires may { IfSome (slice_get actors.old.items actor.0) (ActorMayDo plan scratch.old) }
-    ensures acted { IfOk result (Acted actor.0 plan scratch.old actors.old.items actors.new.items) }
-    ensures empty { OnOk result (IsEmpty scratch.new) }
+    ensures acted { OnOk result
+        (Acted actor.0 plan scratch.old actors.old.items actors.new.items (out_in scratch.new)) }
     ensures err { OnErr result (actors.new.items ≡ actors.old.items) }
 {
     let place = actor.0 as usize;
@@ -185,7 +185,8 @@ fn finish(bag: &mut OrderedBag<Letter>, history: &mut History, stamp: Stamp, k: 
     mem::forget(placeholder);
 }
 
-/// Sends an equal copy of what goes out, and lets the actor do its step. If memory runs out, both are as they were.
+/// Sends an equal copy of what goes out, and lets the actor do its step; what goes out lies in the scratch then. If
+/// memory runs out, messages and actors are as they were.
 fn pass(
     alloc: Global,
     flow: &mut Flow,
@@ -193,20 +194,20 @@ fn pass(
     actor: ActorNo,
     plan: ActorPlan,
     scratch: &mut Scratch,
-) -> Result<StepOut, NoMemory>
+) -> Result<(), NoMemory>
     requires here { actor.0 < length flow.old.actors.items }
     requires may { IfSome (slice_get flow.old.actors.items actor.0) (ActorMayDo plan scratch.old) }
     requires room { length (out_of plan scratch.old).sent ≤ flow.old.bag.room }
-    ensures acted { IfOk result (Acted actor.0 plan scratch.old flow.old.actors.items flow.new.actors.items) }
+    ensures acted { OnOk result
+        (Acted actor.0 plan scratch.old flow.old.actors.items flow.new.actors.items (out_in scratch.new)) }
     ensures sent { OnOk result (flow.new.bag.items ≡ flow.old.bag.items ++ letters_made stamp actor plan scratch.old) }
     ensures history { flow.new.history ≡ flow.old.history }
-    ensures empty { OnOk result (IsEmpty scratch.new) }
     ensures err { OnErr result (world_in flow.new ≡ world_in flow.old) }
 {
     let before = flow.bag.len();
     send(alloc, &mut flow.bag, stamp, actor, plan.sent(scratch))?;
     match act(alloc, &mut flow.actors, actor, plan, scratch) {
-        Ok(out) => Ok(out),
+        Ok(()) => Ok(()),
         Err(refused) => {
             take_back(&mut flow.bag, before);
             Err(refused)
@@ -253,7 +254,8 @@ fn advance(
     make_room(&mut flow.bag, plan.sent(scratch).items().len())?;
     flow.history.push(placeholder(alloc, stamp))?;
     match pass(alloc, flow, stamp, actor, plan, scratch) {
-        Ok(out) => {
+        Ok(()) => {
+            let out = take_out(alloc, scratch);
             finish(&mut flow.bag, &mut flow.history, stamp, k, out);
             Ok(stamp)
         }

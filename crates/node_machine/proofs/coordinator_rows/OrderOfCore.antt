@@ -24,10 +24,9 @@ use Rattle.tree_step.specs.Node.{data_of}
 use Rattle.tree_step.specs.steps.Change as changes
 use Rattle.tree_step.specs.steps.PartsStep.{PartsStep}
 use Rattle.tree_step.specs.declared.plan.Doing.{Doing}
-use Rattle.tree_step.specs.declared.plan.Doing.TheVariants as doings
 use Rattle.tree_step.specs.declared.plan.Plan.{Plan}
 use Rattle.tree_step.specs.declared.plan.Scratch.{Scratch}
-use Rattle.tree_step.specs.Meant.{IsEmpty, core_meant, parts_meant}
+use Rattle.tree_step.specs.Meant.{IsEmpty, core_in, core_meant, parts_meant}
 use Rattle.node_machine.specs.Orders.{obeyed_row, ordered_row, plain_answer, told_row}
 use Rattle.tree_step.specs.CoreChanges.{IsCoreStepOf}
 use Rattle.tree_step.specs.Core.{AreApart, IsCoreReady, core_of}
@@ -63,15 +62,14 @@ of_parts_step o n d x epoch q made is same apart =
     (of_node o n (parts_meant d x) epoch is same apart)
 
 -- nothing changes
-still_meant : (q : Plan) (x : Scratch) → q ≡ plan_of doings.Still None → IsEmpty x → core_meant q x ≡ still_step
-still_meant q x made empty =
-    ap (λ (y : Plan). core_meant y x) made ∙ ap (λ (y : Scratch). core_meant (plan_of doings.Still None) y) empty
+still_meant : (x : Scratch) → IsEmpty x → core_in x ≡ still_step
+still_meant x empty = ap (λ (y : Scratch). core_in y) empty
 
-pub still_done : (s : ScriptData) (p : ℕ) (n : NodeCore) (q : Plan) (x : Scratch) → IsCoreReady s p n
-    → q ≡ plan_of doings.Still None → IsEmpty x → IsCoreStepOf (still (core_of n)) n (core_meant q x)
-still_done s p n q x ready made empty =
+pub still_done : (s : ScriptData) (p : ℕ) (n : NodeCore) (x : Scratch) → IsCoreReady s p n → IsEmpty x
+    → IsCoreStepOf (still (core_of n)) n (core_in x)
+still_done s p n x ready empty =
     let none : PartsStep = record { change = changes.Still; out = record { sent = []; acts = [] } } in
-    subst (λ (y : CoreStep). IsCoreStepOf (still (core_of n)) n y) (sym (still_meant q x made empty))
+    subst (λ (y : CoreStep). IsCoreStepOf (still (core_of n)) n y) (sym (still_meant x empty))
     (of_node (still (data_of n.parts)) n none None
     (record {
       row = refl;
@@ -124,17 +122,17 @@ plain_far s l n what v is far =
     (plain_apt s l.to.0 l.from.0 (core_of n) what v) far
 
 -- One of a coordinator that forgets: of an epoch before the node's
-pub old_order : (s : ScriptData) (l : Letter) (n : NodeCore) (e : ℕ) (what : What) (v : Version) (q : Plan) (x : Scratch)
-    → l.body ≡ Order e what v → IsCoreReady s l.to.0 n → e < n.epoch → q ≡ plan_of doings.Still None → IsEmpty x
-    → IsOwnPlan s l n (Does (core_meant q x))
-old_order s l n e what v q x is ready before made empty =
+pub old_order : (s : ScriptData) (l : Letter) (n : NodeCore) (e : ℕ) (what : What) (v : Version) (x : Scratch)
+    → l.body ≡ Order e what v → IsCoreReady s l.to.0 n → e < n.epoch → IsEmpty x
+    → IsOwnPlan s l n (Does (core_in x))
+old_order s l n e what v x is ready before empty =
     let c = core_of n in
     let old = lt-ltb e n.epoch before in
-    own_done s l n (Order e what v) (still c) (core_meant q x) is
+    own_done s l n (Order e what v) (still c) (core_in x) is
     (sym (ap (λ (b : Bool). b || can_obey what v n.parts.turns) old) ∙ order_apt s l.to.0 l.from.0 c e what v) refl
     (sym (ap (λ (b : Bool). if b then still c else heard_in s e (Obeyed e what v)
     (if was_obeyed what v c.node then still c else in_core c (advancing_row s (plain_order what v) c.node))) old))
-    (still_done s l.to.0 n q x ready made empty)
+    (still_done s l.to.0 n x ready empty)
 
 -- of a version that the node can't go by
 pub far_order : (s : ScriptData) (l : Letter) (n : NodeCore) (e : ℕ) (what : What) (v : Version)
@@ -199,15 +197,14 @@ order_plan s l n e what v d x q is ready later can step made =
     (of_parts_step row n d x (Some e) q made step (obeyed_homes s e what v (data_of n.parts)) ready.apart)
 
 -- A node is asked for its versions: in an epoch before its own
-pub old_ask : (s : ScriptData) (l : Letter) (n : NodeCore) (e : ℕ) (q : Plan) (x : Scratch) → l.body ≡ Ask e
-    → IsCoreReady s l.to.0 n → e < n.epoch → q ≡ plan_of doings.Still None → IsEmpty x
-    → IsOwnPlan s l n (Does (core_meant q x))
-old_ask s l n e q x is ready before made empty =
+pub old_ask : (s : ScriptData) (l : Letter) (n : NodeCore) (e : ℕ) (x : Scratch) → l.body ≡ Ask e
+    → IsCoreReady s l.to.0 n → e < n.epoch → IsEmpty x → IsOwnPlan s l n (Does (core_in x))
+old_ask s l n e x is ready before empty =
     let c = core_of n in
-    own_done s l n (Ask e) (still c) (core_meant q x) is (ask_apt s l.to.0 l.from.0 c e) refl
+    own_done s l n (Ask e) (still c) (core_in x) is (ask_apt s l.to.0 l.from.0 c e) refl
     (sym (ap (λ (b : Bool). if b then still c else heard_in s e
     (Numbers e c.node.turns.update c.node.turns.read c.node.turns.low) (still c)) (lt-ltb e n.epoch before)))
-    (still_done s l.to.0 n q x ready made empty)
+    (still_done s l.to.0 n x ready empty)
 
 -- and in one that it hears of
 asked_done : (s : ScriptData) (c : Core) (e : ℕ) → c.epoch ≤ e
@@ -229,13 +226,13 @@ ask_plan s l n e d x q is ready later step made =
     (of_parts_step row n d x (Some e) q made step refl ready.apart)
 
 -- a message without a row of its own
-pub other_plan : (s : ScriptData) (l : Letter) (n : NodeCore) (q : Plan) (x : Scratch) → IsCoreReady s l.to.0 n
-    → is_own l.body ≡ false → q ≡ plan_of doings.Still None → IsEmpty x → IsOwnPlan s l n (Does (core_meant q x))
-other_plan s l n q x ready own made empty =
+pub other_plan : (s : ScriptData) (l : Letter) (n : NodeCore) (x : Scratch) → IsCoreReady s l.to.0 n
+    → is_own l.body ≡ false → IsEmpty x → IsOwnPlan s l n (Does (core_in x))
+other_plan s l n x ready own empty =
     let row = other_row s l.to.0 l.from.0 (core_of n) l.body own in
     record {
       apt = sym row.0;
       free = row.1;
-      step = subst (λ (o : Out Core). IsCoreStepOf o n (core_meant q x)) (sym row.2)
-          (still_done s l.to.0 n q x ready made empty);
+      step = subst (λ (o : Out Core). IsCoreStepOf o n (core_in x)) (sym row.2)
+          (still_done s l.to.0 n x ready empty);
     }

@@ -13,8 +13,9 @@ pub returns-in_default : goal.returns-in_default
 returns-in_default c =
     let s = c.args.script.now in
     let x = c.args.scratch.now in
-    subst (λ (p : Plan). IsDecidedPlan s c.args.votes c.args.part c.args.core.now x x p) (sym c.plan_with.ensures)
-    (undecided s c.args.part c.args.votes c.args.core.now x c.requires.may c.requires.apart c.in_default.is)
+    subst (λ (p : Plan). IsDecidedPlan s c.args.votes c.args.core.now x (record x { plan = p })) (sym c.plan_with.ensures)
+    (undecided s c.args.votes c.args.core.now x c.requires.may c.requires.apart
+    (sym c.take.ensures.value ∙ c.in_default.is))
 
 pub returns : goal.returns
 returns c =
@@ -23,10 +24,12 @@ returns c =
     let a = c.in-Some.answered in
     let told = c.push_visited.new.told in
     let commit = c.commits-commit.result in
-    let y = deciding x a told c.push_decides.new.sent c.push.new.self in
-    subst (λ (p : Plan). IsDecidedPlan s c.args.votes c.args.part c.args.core.now x y p) (sym c.plan_with-2.ensures)
-    (decided_planned s c.args.part c.args.votes c.args.core.now a commit x told c.push_decides.new.sent
-    c.push.new.self c.requires.may c.requires.apart c.requires.decide c.in-Some.is
+    let sent = c.push_decides.new.sent in
+    let acts = c.push.new.self in
+    subst (λ (p : Plan). IsDecidedPlan s c.args.votes c.args.core.now x (deciding x p a told sent acts))
+    (sym c.plan_with-2.ensures)
+    (decided_planned s c.args.votes c.args.core.now a commit x told sent acts c.requires.may c.requires.apart
+    c.requires.decide (sym c.take.ensures.value ∙ c.in-Some.is)
     c.items.ensures.limit c.in_ok-push_visited.ensures.some c.commits-commit.ensures
     (c.in_ok-push_visited.ensures.nodes
     ∙ ap (λ (qs : List NodeNo). numbers_of_nodes qs ++ visited_by s a.tree.0) c.requires.none_told)

@@ -5,7 +5,7 @@ use Rattle.letter_types.specs.Steps.{Out}
 use Rattle.world_model.specs.Keeping.{KeepingNode}
 use Rattle.tree_step.specs.CoreChanges.{core_step_row}
 use Rattle.tree_step.specs.Core.{core_of}
-use Rattle.tree_step.specs.Meant.{core_meant}
+use Rattle.tree_step.specs.Meant.{core_in}
 use Rattle.node_machine.specs.Meant.{IsPlanned}
 use Rattle.node_machine.specs.State.{keeping_of}
 use Rattle.node_machine.specs.declared.node_plan.NodePlan.{NodePlan}
@@ -19,7 +19,7 @@ returns-in-Wake c =
     let from = c.requires.brought in
     record {
       row = wake_done c.args.letter.now.to.0 c.in-Wake.tree c.in-Wake.sub c.args.letter.now c.args.brought.now
-          (keeping_of n) (core_step_row (core_meant c.args.plan c.args.scratch.now) (core_of n.core)) c.in-Wake.is
+          (keeping_of n) (core_step_row (core_in c.args.scratch.now) (core_of n.core)) c.in-Wake.is
           from.kept from.brings;
       may = c.requires.may;
     }
@@ -28,7 +28,7 @@ pub returns-in_default : goal.returns-in_default
 returns-in_default c =
     let n = c.args.node.now in
     let l = c.args.letter.now in
-    let o = core_step_row (core_meant c.args.plan c.args.scratch.now) (core_of n.core) in
+    let o = core_step_row (core_in c.args.scratch.now) (core_of n.core) in
     subst (λ (out : Out KeepingNode). IfOk c.plan_waking.result
     (λ (p : NodePlan). IsPlanned out n p c.plan_waking.new.scratch))
     (ap (λ (r : Option KeepReason). waking_out (woken_for r) (keeping_of n) o) c.woken_by-woken.ensures

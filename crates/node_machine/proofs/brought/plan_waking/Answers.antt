@@ -4,7 +4,7 @@ use Rattle.letter_types.specs.declared.kept.KeepReason.{KeepReason}
 use Rattle.letter_types.specs.Kept.{wakes}
 use Rattle.tree_step.specs.CoreChanges.{core_step_row}
 use Rattle.tree_step.specs.Core.{core_of}
-use Rattle.tree_step.specs.Meant.{core_meant}
+use Rattle.tree_step.specs.Meant.{core_in}
 use Rattle.node_machine.specs.Meant.{IsPlanned}
 use Rattle.node_machine.specs.State.{keeping_of}
 use Rattle.node_machine.specs.Waits.{waits_alike}
@@ -19,8 +19,8 @@ pub returns-in_default : goal.returns-in_default
 returns-in_default c =
     let n = c.args.node.now in
     let x = c.args.scratch.now in
-    let row = core_step_row (core_meant c.args.plan x) (core_of n.core) in
-    subst (λ (w : Option KeepReason). IsPlanned (waking_out (woken_for w) (keeping_of n) row) n (Does c.args.plan Stay) x)
+    let row = core_step_row (core_in x) (core_of n.core) in
+    subst (λ (w : Option KeepReason). IsPlanned (waking_out (woken_for w) (keeping_of n) row) n (Does Stay) x)
     (sym c.in_default.is) (record { row = silent (keeping_of n) row; may = c.requires })
 
 pub returns : goal.returns
@@ -28,9 +28,9 @@ returns c =
     let n = c.args.node.now in
     let x = c.args.scratch.now in
     let r = c.in-Some.why in
-    let done = core_meant c.args.plan x in
+    let done = core_in x in
     let row = core_step_row done (core_of n.core) in
-    let plan = Does c.args.plan (Call r) in
+    let plan = Does (Call r) in
     subst (λ (w : Option KeepReason). IsPlanned (waking_out (woken_for w) (keeping_of n) row) n plan
     (record x { sent = c.push_wakes.new.sent }))
     (sym c.in-Some.is)

@@ -3,7 +3,7 @@ use Rattle.letter_types.specs.declared.bodies.Body.TheVariants.{Decided}
 use Rattle.world_model.specs.Strict.{acked_core}
 use Rattle.tree_step.specs.Core.{IsCoreReady, core_of}
 use Rattle.tree_step.specs.CoreChanges.{IsCoreStepOf}
-use Rattle.tree_step.specs.Meant.{core_meant}
+use Rattle.tree_step.specs.Meant.{core_in}
 use Rattle.node_machine.specs.steps.ChosenStep.{Still, Does}
 use Rattle.node_machine.proofs.enabled.TestsSayEnabled.{ack_apt}
 use Rattle.node_machine.proofs.enabled.DecisionTests.{is_ack, ready_from}
@@ -40,12 +40,12 @@ returns c =
     let l = c.args.letter.now in
     let n = c.args.core.now in
     let a = c.args.acked in
-    let plan = core_meant c.in_ok-plan.plan c.plan_acked.new.scratch in
+    let plan = core_in c.plan_acked.new.scratch in
     plan_one s l n (Decided a.tree a.version) _ (Does plan) c.requires.body
     (ack_apt s l.to.0 l.from.0 (core_of n) a.tree a.version)
     (record {
       apt = sym c.if-not-acked_apt.ensures;
       free = refl;
       step = subst (λ (p : ℕ). IsCoreStepOf (acked_core s p a.tree a.version (core_of n)) n plan) c.requires.from
-          c.in_ok-plan.ensures;
+          c.in_ok-plan_acked.ensures;
     })

@@ -1,7 +1,7 @@
 use Rattle.std.proofs.Common.{refl, sym}
 use Rattle.letter_types.specs.declared.bodies.Body.TheVariants.{Decide}
 use Rattle.tree_step.specs.Core.{core_of}
-use Rattle.tree_step.specs.Meant.{core_meant}
+use Rattle.tree_step.specs.Meant.{core_in}
 use Rattle.node_machine.specs.steps.ChosenStep.{Still, Does}
 use Rattle.node_machine.proofs.enabled.TestsSayEnabled.{decision_apt}
 use Rattle.node_machine.proofs.enabled.DecisionTests.{is_decision, ready_from}
@@ -61,6 +61,6 @@ returns c =
     let n = c.args.core.now in
     let d = c.args.decision in
     plan_one s l n (Decide d.tree d.version d.commit) _
-    (Does (core_meant c.in_ok-plan.plan c.plan_decide.new.scratch)) c.requires.body
+    (Does (core_in c.plan_decide.new.scratch)) c.requires.body
     (decision_apt s l.to.0 l.from.0 (core_of n) d.tree d.version d.commit)
-    (record { apt = sym c.if-not-decide_apt.ensures; free = refl; step = c.in_ok-plan.ensures })
+    (record { apt = sym c.if-not-decide_apt.ensures; free = refl; step = c.in_ok-plan_decide.ensures })

@@ -1,7 +1,7 @@
 use Rattle.std.proofs.Common.{refl, sym}
 use Rattle.letter_types.specs.declared.bodies.Body.TheVariants.{Release}
 use Rattle.tree_step.specs.Core.{core_of}
-use Rattle.tree_step.specs.Meant.{core_meant}
+use Rattle.tree_step.specs.Meant.{core_in}
 use Rattle.node_machine.specs.steps.ChosenStep.{Still, Does}
 use Rattle.node_machine.proofs.enabled.TestsSayEnabled.{freed_apt}
 use Rattle.node_machine.proofs.enabled.PlansByBody.{plan_one}
@@ -20,6 +20,6 @@ returns c =
     let s = c.args.script.now in
     let l = c.args.letter.now in
     let n = c.args.core.now in
-    plan_one s l n (Release c.args.tree) _ (Does (core_meant c.in_ok-plan.plan c.plan_release.new.scratch))
+    plan_one s l n (Release c.args.tree) _ (Does (core_in c.plan_release.new.scratch))
     c.requires.body (freed_apt s l.to.0 l.from.0 (core_of n) c.args.tree)
-    (record { apt = sym c.if-not-release_apt.ensures; free = refl; step = c.in_ok-plan.ensures })
+    (record { apt = sym c.if-not-release_apt.ensures; free = refl; step = c.in_ok-plan_release.ensures })

@@ -6,7 +6,7 @@ use Rattle.node_machine.specs.Choices.{kept_by_plan}
 use Rattle.node_machine.specs.Plans.{kept_core}
 use Rattle.tree_step.specs.CoreChanges.{core_step_row}
 use Rattle.tree_step.specs.Core.{IsCoreReady, core_of}
-use Rattle.tree_step.specs.Meant.{core_meant}
+use Rattle.tree_step.specs.Meant.{core_in}
 use Rattle.node_machine.specs.Meant.{IsPlanned}
 use Rattle.node_machine.specs.State.{keeping_of}
 use Rattle.node_machine.specs.declared.node_plan.NodePlan.{NodePlan}
@@ -47,7 +47,7 @@ returns-in-Does c =
     let l = c.args.letter.now in
     let r = c.in-Some.brought.now in
     let s = c.args.script.now in
-    let done = core_meant c.in-Does.plan c.choose_core.new.scratch in
+    let done = core_in c.choose_core.new.scratch in
     let to = brought_to n.kept l r c.requires.ready.kept (sym c.in-Some.ensures) in
     let plan = rw c.in-Does.is at c.in_ok-choose_core.ensures in
     subst (λ (o : Out KeepingNode). IfOk c.plan_does.result (λ (p : NodePlan). IsPlanned o n p c.plan_does.new.scratch))

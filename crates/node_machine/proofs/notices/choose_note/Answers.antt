@@ -1,5 +1,5 @@
 use Rattle.std.proofs.Common.{sym}
-use Rattle.tree_step.specs.Meant.{core_meant}
+use Rattle.tree_step.specs.Meant.{core_in}
 use Rattle.world_model.specs.Notices.{values_of}
 use Rattle.node_machine.proofs.tree_rows.NoticePlan.{note_far, note_plan, note_undue}
 use Rattle.node_machine.proofs.notices.choose_note.Goals as goal
@@ -24,5 +24,5 @@ returns c =
     let r = c.args.noted.request in
     let notice = c.args.noted.notice.now in
     note_plan c.args.script.now c.args.letter.now c.args.core.now r.tree r.sub r.version notice r.from.0
-    (core_meant c.in_ok-plan.plan c.plan_note.new.scratch) c.requires.body c.if-not-is_due.ensures
-    (sym (c.if-not-decides_near.ensures (values_of notice))) c.requires.from c.in_ok-plan.ensures
+    (core_in c.plan_note.new.scratch) c.requires.body c.if-not-is_due.ensures
+    (sym (c.if-not-decides_near.ensures (values_of notice))) c.requires.from c.in_ok-plan_note.ensures

@@ -1,4 +1,5 @@
 use Rattle.std.proofs.Common.{◌∙◌, ap, subst, sym}
+use Rattle.std.specs.Prelude.{OnOk}
 use Rattle.letter_types.specs.Steps.{Out}
 use Rattle.tree_home.specs.HeldAnswers.{held_answers}
 use Rattle.tree_home.specs.Homes.{Gets, open_trees}
@@ -9,7 +10,7 @@ use Rattle.tree_step.specs.Changes.{part_row}
 use Rattle.tree_step.specs.Node.{data_of}
 use Rattle.tree_step.specs.CoreChanges.{IsCoreStepOf}
 use Rattle.tree_step.specs.Core.{core_of}
-use Rattle.tree_step.specs.Meant.{core_meant, part_meant, votes_meant}
+use Rattle.tree_step.specs.Meant.{core_in, part_meant, votes_meant}
 use Rattle.tree_step.specs.declared.plan.Scratch.{Scratch}
 use Rattle.node_machine.proofs.tree_rows.NoHeldAnswerOpen.{apart_noted, apart_part}
 use Rattle.node_machine.proofs.tree_rows.VoteRows.{note_answered, note_decided, note_decides}
@@ -20,49 +21,49 @@ plan_answered-requires-clause-apart c =
     let r = c.args.request in
     let n = c.args.core.now in
     let values = c.values_of-values.result.now in
-    apart_part (part_meant c.in_ok-part.part c.plan_notice.new.scratch) n
+    apart_part (part_meant c.plan_notice.new.scratch) n
     (note_part r.from.0 r.tree.0 r.sub.0 r.version.0 values (data_of n.parts))
-    c.in_ok-part.ensures.part.row
+    c.in_ok-plan_notice.ensures.part.row
     (apart_noted r.tree r.sub values (open_trees n.parts.homes) (held_answers n.parts.homes) c.requires.ready.apart)
 
 pub returns-then-not-is_strict : goal.returns-then-not-is_strict
 returns-then-not-is_strict c =
     let r = c.args.request in
     let n = c.args.core.now in
-    let row = c.in_ok-part.ensures.part.row
+    let row = c.in_ok-plan_notice.ensures.part.row
     ∙ ap (λ (vs : Gets). note_part r.from.0 r.tree.0 r.sub.0 r.version.0 vs (data_of n.parts))
     c.values_of-values.ensures in
-    subst (λ (o : Out Core). IsCoreStepOf o n (core_meant c.in_ok-plan.plan c.plan_answered.new.scratch))
+    subst (λ (o : Out Core). OnOk c.plan_answered.result (IsCoreStepOf o n (core_in c.plan_answered.new.scratch)))
     (note_answered c.args.script.now r.from.0 r.tree r.sub r.version c.args.notice.now (core_of n)
-    (part_row (part_meant c.in_ok-part.part c.plan_notice.new.scratch) (data_of n.parts))
+    (part_row (part_meant c.plan_notice.new.scratch) (data_of n.parts))
     (sym c.if-not-is_strict.ensures) row)
-    c.in_ok-plan.ensures
+    c.plan_answered.ensures
 
 pub plan_decided-requires-clause-apart : goal.plan_decided-requires-clause-apart
 plan_decided-requires-clause-apart c =
     let r = c.args.request in
     let n = c.args.core.now in
     let values = c.values_of-values.result.now in
-    apart_part (part_meant c.in_ok-part-2.part c.plan_notice-2.new.scratch) n
+    apart_part (part_meant c.plan_notice-2.new.scratch) n
     (note_part r.from.0 r.tree.0 r.sub.0 r.version.0 values (data_of n.parts))
-    c.in_ok-part-2.ensures.part.row
+    c.in_ok-plan_notice-2.ensures.part.row
     (apart_noted r.tree r.sub values (open_trees n.parts.homes) (held_answers n.parts.homes) c.requires.ready.apart)
 
 pub plan_decided-requires-clause-decide : goal.plan_decided-requires-clause-decide
 plan_decided-requires-clause-decide c =
     let r = c.args.request in
     let n = c.args.core.now in
-    let row = c.in_ok-part-2.ensures.part.row
+    let row = c.in_ok-plan_notice-2.ensures.part.row
     ∙ ap (λ (vs : Gets). note_part r.from.0 r.tree.0 r.sub.0 r.version.0 vs (data_of n.parts))
     c.values_of-values.ensures in
     note_decides c.args.script.now r.from.0 r.tree r.sub r.version (values_of c.args.notice.now) n
-    (part_meant c.in_ok-part-2.part c.plan_notice-2.new.scratch)
+    (part_meant c.plan_notice-2.new.scratch)
     c.requires.ready.parts.script c.requires.there (sym c.if-not-is_strict.ensures) c.requires.decides
     c.requires.ready.apart row
 
 pub plan_decided-requires-clause-none_told : goal.plan_decided-requires-clause-none_told
 plan_decided-requires-clause-none_told c =
-    ap (λ (x : Scratch). x.told) c.in_ok-part-2.ensures.rest
+    ap (λ (x : Scratch). x.told) c.in_ok-plan_notice-2.ensures.rest
     ∙ ap (λ (x : Scratch). x.told) c.refused_there-votes.ensures.rest ∙ ap (λ (x : Scratch). x.told) c.requires.empty
 
 pub returns : goal.returns
@@ -70,12 +71,12 @@ returns c =
     let r = c.args.request in
     let n = c.args.core.now in
     let x = c.plan_notice-2.new.scratch in
-    let row = c.in_ok-part-2.ensures.part.row
+    let row = c.in_ok-plan_notice-2.ensures.part.row
     ∙ ap (λ (vs : Gets). note_part r.from.0 r.tree.0 r.sub.0 r.version.0 vs (data_of n.parts))
     c.values_of-values.ensures in
-    let votes = ap (λ (w : Scratch). votes_meant c.refused_there-votes.result w) c.in_ok-part-2.ensures.rest
+    let votes = ap (λ (w : Scratch). votes_meant c.refused_there-votes.result w) c.in_ok-plan_notice-2.ensures.rest
     ∙ c.refused_there-votes.ensures.votes in
-    subst (λ (o : Out Core). IsCoreStepOf o n (core_meant c.in_ok-plan-2.plan c.plan_decided.new.scratch))
+    subst (λ (o : Out Core). OnOk c.plan_decided.result (IsCoreStepOf o n (core_in c.plan_decided.new.scratch)))
     (note_decided c.args.script.now r.from.0 r.tree r.sub r.version c.args.notice.now (core_of n)
-    (part_row (part_meant c.in_ok-part-2.part x) (data_of n.parts)) _ (sym c.if-not-is_strict.ensures) row votes)
-    c.in_ok-plan-2.ensures
+    (part_row (part_meant x) (data_of n.parts)) _ (sym c.if-not-is_strict.ensures) row votes)
+    c.plan_decided.ensures

@@ -5,8 +5,7 @@ use Rattle.node_machine.proofs.orders.choose_order.Goals as goal
 pub returns-then-epoch-core : goal.returns-then-epoch-core
 returns-then-epoch-core c =
     old_order c.args.script.now c.args.letter.now c.args.core.now c.args.order.epoch c.args.order.what c.args.order.version
-    c.still_plan.result c.args.scratch.now c.requires.body c.requires.ready c.if-epoch-core.true c.still_plan.ensures
-    c.requires.empty
+    c.args.scratch.now c.requires.body c.requires.ready c.if-epoch-core.true c.requires.empty
 
 pub returns-then-not-can_obey : goal.returns-then-not-can_obey
 returns-then-not-can_obey c =

@@ -19,5 +19,5 @@ returns-then-epoch-core c =
 
 pub returns : goal.returns
 returns c =
-    old_ask c.args.script.now c.args.letter.now c.args.core.now c.args.epoch c.still_plan.result c.args.scratch.now
-    c.requires.body c.requires.ready c.if-epoch-core.false c.still_plan.ensures c.requires.empty
+    old_ask c.args.script.now c.args.letter.now c.args.core.now c.args.epoch c.args.scratch.now c.requires.body
+    c.requires.ready c.if-epoch-core.false c.requires.empty

@@ -1,9 +1,10 @@
-use Rattle.std.proofs.Common.{refl, sym}
+use Rattle.std.proofs.Common.{◌∙◌, refl, sym}
+use Rattle.std.proofs.lemmas.Bool.{OnTrue_at}
 use Rattle.node_machine.proofs.subs.choose_read.Goals as goal
 
 pub returns : goal.returns
 returns c = record {
-  apt = sym (rw c.in-Some.is at c.in_ok-plan.ensures.can);
+  apt = sym c.in_ok-plan_read_tree.ensures.can ∙ c.if-not-branch.false;
   free = refl;
-  step = rw c.in-Some.is at c.in_ok-plan.ensures.step;
+  step = OnTrue_at c.if-not-branch.false c.in_ok-plan_read_tree.ensures.step;
 }

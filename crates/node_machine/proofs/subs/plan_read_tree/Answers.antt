@@ -1,4 +1,5 @@
 use Rattle.std.proofs.Common.{false}
+use Rattle.std.proofs.lemmas.Bool.{OnTrue_at}
 use Rattle.read_step.specs.Rows.{getting, read_part}
 use Rattle.tree_home.specs.HeldAnswers.{held_answers}
 use Rattle.tree_step.specs.Meant.{part_meant}
@@ -14,8 +15,8 @@ plan_answered-requires-clause-apart c =
     let body = c.args.letter.now.body in
     let st = data_of n.parts in
     let v = asked_version st.turns.read body in
-    let part = rw c.in-Some.is at c.in_ok-part.ensures.part in
-    apart_part (part_meant c.in-Some.part c.plan_read.new.scratch) n
+    let part = OnTrue_at c.if-not-branch.false c.in_ok-plan_read.ensures.part in
+    apart_part (part_meant c.plan_read.new.scratch) n
     (read_part s c.args.letter.now.to.0 st c.args.letter.now.from.0 body) part.row
     (apart_tree s c.args.letter.now.to.0 c.args.letter.now.from.0 v false (getting v (asked_ops s body) st.items) body st
     (held_answers n.parts.homes) c.requires.unheld c.requires.ready.apart)

@@ -1,4 +1,5 @@
 use Rattle.std.proofs.Common.{◌≡◌, ◌∙◌, List, ap}
+use Rattle.std.proofs.lemmas.Bool.{OnTrue_at}
 use Rattle.std.specs.Prelude.{nat_lt}
 use Rattle.nc_locks.specs.Locks.{with_locks}
 use Rattle.tx_trees.specs.declared.parts.SubOp.{SubOp}
@@ -20,8 +21,8 @@ plan_answered-requires-clause-apart c =
     let body = c.args.letter.now.body in
     let st = data_of n.parts in
     let v = asked_version st.turns.update body in
-    let part = rw c.in-Some.is at c.in_ok-part.ensures.part in
-    apart_part (part_meant c.in-Some.part c.plan_update.new.scratch) n
+    let part = OnTrue_at c.if-not-branch.false c.in_ok-plan_update.ensures.part in
+    apart_part (part_meant c.plan_update.new.scratch) n
     (update_part s c.args.letter.now.to.0 st c.args.letter.now.from.0 body) part.row
     (apart_tree s c.args.letter.now.to.0 c.args.letter.now.from.0 v (nat_lt st.turns.update.0 v.0)
     (touching v (asked_ops s body) st.items) body st (held_answers n.parts.homes) c.requires.unheld
@@ -33,11 +34,11 @@ returns-clause-step c =
     let n = c.args.core.now in
     let x = c.plan_update.new.scratch in
     let wanted : x.wanted ≡ marks_of s (asked_ops s c.args.letter.now.body) =
-    ap (λ (y : Scratch). y.wanted) c.in_ok-part.ensures.rest ∙ c.in_ok-push_marks.ensures
+    ap (λ (y : Scratch). y.wanted) c.in_ok-plan_update.ensures.rest ∙ c.in_ok-push_marks.ensures
     ∙ ap (λ (ops : List SubOp). marks_of s ops) c.asked_ops.ensures in
-    let part = rw c.in-Some.is at c.in_ok-part.ensures.part in
+    let part = OnTrue_at c.if-not-branch.false c.in_ok-plan_update.ensures.part in
     record {
-      row = c.in_ok-plan.ensures.row
+      row = c.in_ok-plan_answered.ensures.row
           ∙ (λ i. answered s (record (core_of n) { locks = with_locks c.args.tree (wanted i) n.locks }) (part.row i));
-      may = c.in_ok-plan.ensures.may;
+      may = c.in_ok-plan_answered.ensures.may;
     }

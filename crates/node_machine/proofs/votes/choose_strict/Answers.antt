@@ -15,5 +15,5 @@ returns c = record {
   apt = refl;
   free = votes_free c.args.script.now (core_of c.args.core.now) c.args.tree c.args.letter.now.body
       (sym c.if-waits_for_show.ensures);
-  step = c.in_ok-plan.ensures;
+  step = c.in_ok-plan_vote.ensures;
 }

@@ -1,4 +1,5 @@
 use Rattle.std.proofs.Common.{◌≡◌, ◌∙◌, true, ap, subst, sym}
+use Rattle.std.specs.Prelude.{OnOk}
 use Rattle.tv_base.specs.declared.numbers.Version.{Version}
 use Rattle.item_versions.proofs.Window.{in_window-is}
 use Rattle.item_versions.specs.Table.{StagedItems, pending}
@@ -10,7 +11,7 @@ use Rattle.world_model.specs.Node.{Effect}
 use Rattle.tree_step.proofs.Dues.{asked_near}
 use Rattle.tree_step.specs.Node.{data_of}
 use Rattle.tree_step.specs.CoreChanges.{IsCoreStepOf}
-use Rattle.tree_step.specs.Meant.{core_meant, part_meant, votes_meant}
+use Rattle.tree_step.specs.Meant.{core_in, part_meant, votes_meant}
 use Rattle.tree_step.specs.declared.plan.Scratch.{Scratch}
 use Rattle.world_model.specs.Asked.{tree_part}
 use Rattle.node_machine.proofs.tree_rows.NoHeldAnswerOpen.{apart_part, apart_tree}
@@ -24,6 +25,10 @@ plan_tree-requires-clause-fits c =
     ∙ ap (λ (x : Scratch). x.staged) c.requires.empty in
     subst (λ (staged : StagedItems). IsWindowedTable n.turns.low.0 (pending staged n.items)) (sym none)
     c.requires.ready.parts.window.items
+
+pub plan_tree-requires-clause-unanswered : goal.plan_tree-requires-clause-unanswered
+plan_tree-requires-clause-unanswered c =
+    ap (λ (x : Scratch). x.answered) c.in_ok-votes.ensures.rest ∙ ap (λ (x : Scratch). x.answered) c.requires.empty
 
 pub plan_tree-requires-clause-no_values : goal.plan_tree-requires-clause-no_values
 plan_tree-requires-clause-no_values c =
@@ -44,9 +49,9 @@ plan_decided-requires-clause-apart c =
     let l = c.args.letter.now in
     let staged = c.change_by.new.scratch.staged in
     let e : Effect = record { items = pending staged n.parts.items; notice = c.notice_by.result } in
-    apart_part (part_meant c.in_ok-part.part c.plan_tree.new.scratch) n
+    apart_part (part_meant c.plan_tree.new.scratch) n
     (tree_part s l.to.0 l.from.0 c.asked_version-version.result c.is_above-raises.result e l.body (data_of n.parts))
-    c.in_ok-part.ensures.part.row
+    c.in_ok-plan_tree.ensures.part.row
     (apart_tree s l.to.0 l.from.0 c.asked_version-version.result c.is_above-raises.result e l.body (data_of n.parts)
     (held_answers n.parts.homes) c.requires.unheld c.requires.ready.apart)
 
@@ -63,13 +68,13 @@ plan_decided-requires-clause-decide c =
     let near = subst (λ (v : Version). in_window low v.0 ≡ true) (sym c.asked_version-version.ensures)
     (asked_near s l.to.0 l.from.0 (data_of n.parts) l.body n.parts.turns.update root c.requires.due) in
     vote_decides s l.to.0 l.from.0 c.asked_version-version.result c.is_above-raises.result e l.body n
-    (part_meant c.in_ok-part.part c.plan_tree.new.scratch)
+    (part_meant c.plan_tree.new.scratch)
     c.requires.ready.parts.script c.requires.ready.parts.there c.requires.due c.requires.unheld near
-    c.in_ok-part.ensures.part.row
+    c.in_ok-plan_tree.ensures.part.row
 
 pub plan_decided-requires-clause-none_told : goal.plan_decided-requires-clause-none_told
 plan_decided-requires-clause-none_told c =
-    ap (λ (x : Scratch). x.told) c.in_ok-part.ensures.rest
+    ap (λ (x : Scratch). x.told) c.in_ok-plan_tree.ensures.rest
     ∙ ap (λ (x : Scratch). x.told) c.in_ok-votes.ensures.rest ∙ ap (λ (x : Scratch). x.told) c.requires.empty
 
 pub returns : goal.returns
@@ -81,11 +86,11 @@ returns c =
     let x = c.plan_tree.new.scratch in
     let none = ap (λ (w : Scratch). w.staged) c.in_ok-votes.ensures.rest
     ∙ ap (λ (w : Scratch). w.staged) c.requires.empty in
-    let votes = ap (λ (w : Scratch). votes_meant c.in_ok-votes.votes w) c.in_ok-part.ensures.rest
+    let votes = ap (λ (w : Scratch). votes_meant c.in_ok-votes.votes w) c.in_ok-plan_tree.ensures.rest
     ∙ c.in_ok-votes.ensures.votes in
-    subst (λ (o : Out Core). IsCoreStepOf o n (core_meant c.in_ok-plan.plan c.plan_decided.new.scratch))
-    (vote_row s l.to.0 l.from.0 c.args.tree l.body n (part_meant c.in_ok-part.part x) c.asked_version-version.result
+    subst (λ (o : Out Core). OnOk c.plan_decided.result (IsCoreStepOf o n (core_in c.plan_decided.new.scratch)))
+    (vote_row s l.to.0 l.from.0 c.args.tree l.body n (part_meant x) c.asked_version-version.result
     c.is_above-raises.result before.staged c.notice_by.result c.in_ok-vote.vote c.asked_ops-ops.result.now
-    (votes_meant c.in_ok-votes.votes x) c.in_ok-part.ensures.part.row none c.notice_by.ensures
+    (votes_meant c.in_ok-votes.votes x) c.in_ok-plan_tree.ensures.part.row none c.notice_by.ensures
     c.is_above-raises.ensures votes c.asked_ops-ops.ensures c.in_ok-vote.ensures c.asked_version-version.ensures)
-    c.in_ok-plan.ensures
+    c.plan_decided.ensures

@@ -1,7 +1,7 @@
 use Rattle.std.proofs.Common.{refl, sym}
 use Rattle.letter_types.specs.declared.bodies.Body.TheVariants.{Wake}
 use Rattle.tree_step.specs.Core.{core_of}
-use Rattle.tree_step.specs.Meant.{core_meant}
+use Rattle.tree_step.specs.Meant.{core_in}
 use Rattle.node_machine.specs.steps.ChosenStep.{Still, Does}
 use Rattle.node_machine.proofs.enabled.TestsSayEnabled.{called_apt}
 use Rattle.node_machine.proofs.coordinator_rows.OrderOfCore.{still_done}
@@ -21,11 +21,10 @@ returns c =
     let s = c.args.script.now in
     let l = c.args.letter.now in
     let n = c.args.core.now in
-    plan_one s l n (Wake c.args.tree c.args.sub) _ (Does (core_meant c.still_plan.result c.args.scratch.now)) c.requires.body
+    plan_one s l n (Wake c.args.tree c.args.sub) _ (Does (core_in c.args.scratch.now)) c.requires.body
     (called_apt s l.to.0 l.from.0 (core_of n) c.args.tree c.args.sub)
     (record {
       apt = sym c.if-not-wake_apt.ensures;
       free = refl;
-      step = still_done s l.to.0 n c.still_plan.result c.args.scratch.now c.requires.ready c.still_plan.ensures
-          c.requires.empty;
+      step = still_done s l.to.0 n c.args.scratch.now c.requires.ready c.requires.empty;
     })

@@ -35,7 +35,7 @@ returns-clause-part c =
       row =
           part_read c.args.script.now l.to.0 l.from.0 l.body (data_of n) c.asked_version-version.result
           c.asked_ops.result.now e _ c.asked_version-version.ensures c.asked_ops.ensures
-          (λ i. record { items = pending (none i) n.items; notice = Did (got i) }) c.in_ok-part.ensures.part.row;
-      may = c.in_ok-part.ensures.part.may;
-      counted = c.in_ok-part.ensures.part.counted;
+          (λ i. record { items = pending (none i) n.items; notice = Did (got i) }) c.in_ok-plan_tree.ensures.part.row;
+      may = c.in_ok-plan_tree.ensures.part.may;
+      counted = c.in_ok-plan_tree.ensures.part.counted;
     }

@@ -22,7 +22,7 @@ returns c =
     let n = c.args.node.now in
     let done = c.in_ok-step.ensures in
     record {
-      row = done.row ∙ ap (λ (o : TreeOut). replied s o) c.in_ok-part.ensures.part.row
+      row = done.row ∙ ap (λ (o : TreeOut). replied s o) c.in_ok-plan_tree.ensures.part.row
           ∙ ap (λ (x : Scratch). read_done s l.to.0 l.from.0 c.args.version
           (record { items = pending x.staged n.items; notice = Did c.args.values }) l.body (data_of n))
           c.new_scratch-scratch.ensures;

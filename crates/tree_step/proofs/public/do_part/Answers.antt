@@ -8,14 +8,14 @@ use Rattle.tree_step.proofs.public.do_part.Goals as goal
 
 pub do_whole-requires : goal.do_whole-requires
 do_whole-requires c =
-    let with_answer = is_replied c.args.script.now (part_meant c.args.part c.args.scratch.now) (c.nodes.result + 1)
+    let with_answer = is_replied c.args.script.now (part_meant c.args.scratch.now) (c.nodes.result + 1)
     c.push_reply.new.sent (ap (λ (n : ℕ). n + 1) c.nodes.ensures.nodes) c.in_ok-push_reply.ensures.ok
     c.requires.counted in
     with_answer.may c.args.parts.now c.requires.may
 
 pub returns : goal.returns
 returns c =
-    let with_answer = is_replied c.args.script.now (part_meant c.args.part c.args.scratch.now) (c.nodes.result + 1)
+    let with_answer = is_replied c.args.script.now (part_meant c.args.scratch.now) (c.nodes.result + 1)
     c.push_reply.new.sent (ap (λ (n : ℕ). n + 1) c.nodes.ensures.nodes) c.in_ok-push_reply.ensures.ok
     c.requires.counted in
     let given = c.take_out-given.ensures.out ∙ c.do_whole.ensures.out in

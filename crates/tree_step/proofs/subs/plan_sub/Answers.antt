@@ -1,8 +1,6 @@
-use Rattle.std.proofs.Common.{List, None, ap, length, arith, ◌∙◌, ◌++◌, ◌∷◌, []}
+use Rattle.std.proofs.Common.{List, ap, length, arith, ◌∙◌, ◌++◌, ◌∷◌, []}
 use Rattle.letter_types.specs.declared.entries.Outgoing.{Outgoing}
 use Rattle.letter_types.specs.declared.entries.StepOut.{StepOut}
-use Rattle.letter_types.specs.Steps.{Out}
-use Rattle.tree_step.specs.Node.{Node}
 use Rattle.world_model.specs.Children.{done_letter}
 use Rattle.world_model.proofs.Addressed.{sent_nodes, sent_few}
 use Rattle.tree_step.proofs.Made.{all_requests, may_count, sub_ready}
@@ -24,10 +22,12 @@ returns-clause-part c =
     let count = ap (λ (os : List Outgoing). length os) c.items-asked.ensures.items in
     let home = home_there s q.tree.0 xs c.subs_of-subs.ensures.subs c.subs_of-subs.ensures.nodes c.requires.there in
     record {
-      row = ap (λ (o : Out Node). record { out = o; answered = None })
-          (sub_ready s q.from q.tree q.sub q.version c.home_of.result asked c.args.turn.within.raises notice
+      row = λ i. record {
+        out = (sub_ready s q.from q.tree q.sub q.version c.home_of.result asked c.args.turn.within.raises notice
           c.args.scratch.now.staged c.args.node.now out xs c.subs_of-subs.ensures.subs c.home_of.ensures count is
-          c.in_ok-acts.ensures);
+          c.in_ok-acts.ensures) i;
+        answered = c.requires.unanswered i;
+      };
       may = record {
         fits = record {
           counting = may_count s c.args.node.now q.version _ q.from asked sent sent c.requires.ready c.requires.near

@@ -35,7 +35,7 @@ returns-clause-part c =
           updated c.args.script.now l.to.0 l.from.0 l.body (data_of n) c.asked_version-version.result
           c.asked_ops-ops.result.now c.is_above-raises.result e _ c.asked_version-version.ensures c.asked_ops-ops.ensures
           c.is_above-raises.ensures (λ i. record { items = made i; notice = Did (c.new.ensures i) })
-          c.in_ok-part.ensures.part.row;
-      may = c.in_ok-part.ensures.part.may;
-      counted = c.in_ok-part.ensures.part.counted;
+          c.in_ok-plan_tree.ensures.part.row;
+      may = c.in_ok-plan_tree.ensures.part.may;
+      counted = c.in_ok-plan_tree.ensures.part.counted;
     }

@@ -1,4 +1,4 @@
-use Rattle.std.proofs.Common.{◌≡◌, ◌+◌, ◌^◌, ◌≤◌, ap, ◌∙◌, subst, arith, List, Some, ◌++◌, length}
+use Rattle.std.proofs.Common.{◌≡◌, ◌+◌, ◌^◌, ◌≤◌, ap, ◌∙◌, subst, sym, arith, List, Some, ◌++◌, length}
 use Rattle.std.specs.Prelude.{slice_get}
 use Rattle.std.specs.List.{remove}
 use Rattle.std.proofs.lemmas.List.Edits.{remove-append_left}
@@ -6,7 +6,8 @@ use Rattle.tv_base.proofs.ByPlace.{slice_get-old}
 use Rattle.tv_base.specs.declared.numbers.Stamp.{Stamp}
 use Rattle.letter_types.specs.declared.entries.Letter.{Letter}
 use Rattle.letter_types.specs.declared.entries.Entry.{Entry}
-use Rattle.world_core.specs.inside.Actors.{letters_made, with_last_entry, world_in}
+use Rattle.letter_types.specs.declared.entries.StepOut.{StepOut}
+use Rattle.world_core.specs.inside.Actors.{Acted, letters_made, with_last_entry, world_in}
 use Rattle.world_core.proofs.Events.{if_some, is_here, may_act, may_take, Event, event_world, event_took, event_count}
 use Rattle.world_core.proofs.world.advance.Goals as goal
 
@@ -26,13 +27,13 @@ pass-requires-clause-may c = may_act c.args.script.now c.at-letter.result.now _ 
     c.in_ok-plan.ensures
 
 event : (c : goal.After-finish) → Event c.args.script.now (world_in c.args.flow.now) c.args.k c.at-letter.result.now
-    c.in_ok-plan.plan c.plan.new.scratch c.in-Ok.out (record { 0 = length c.items.result.now + 1 }) c.placeholder.result
+    c.in_ok-plan.plan c.plan.new.scratch c.take_out-out.result (record { 0 = length c.items.result.now + 1 }) c.placeholder.result
     (record { actors = c.pass.new.flow.actors.items; bag = c.finish.new.bag.items; history = c.finish.new.history })
 event c =
     let w = world_in c.args.flow.now in
     let l = c.at-letter.result.now in
     let stamp : Stamp = record { 0 = length c.items.result.now + 1 } in
-    let out = c.in-Ok.out in
+    let out = c.take_out-out.result in
     let more = letters_made stamp l.to c.in_ok-plan.plan c.plan.new.scratch in
     let bag = c.pass.new.flow.bag.items in
     let sent : bag ≡ w.bag ++ more =
@@ -43,7 +44,8 @@ event c =
     record {
       letter = c.at-letter.ensures;
       step = c.in_ok-plan.ensures;
-      acted = c.in-Ok.ensures.acted;
+      acted = subst (λ (o : StepOut). Acted l.to.0 c.in_ok-plan.plan c.plan.new.scratch w.actors c.pass.new.flow.actors.items o)
+          (sym c.take_out-out.ensures.out) c.in-Ok.ensures.acted;
       stamp_is = omega (arith, ap (length {A = Entry}) c.items.ensures.items);
       bag = c.finish.ensures.bag ∙ ap (λ (ls : List Letter). remove ls c.args.k) sent
           ∙ remove-append_left w.bag more c.args.k c.requires.waits;
