@@ -11,7 +11,7 @@ pub returns-clause-part : goal.returns-clause-part
 returns-clause-part c =
     let q = c.args.request in
     let home = c.in_ok-home in
-    let made = c.notice_home-home.new.scratch in
+    let made = c.notice_home.new.scratch in
     let rest = home.ensures.rest in
     let does = home_planned_at q.tree q.sub made.values home.home in
     subst (λ (p : TreeStep). IsNotedPart q c.args.values.now c.args.node.now p)
