@@ -18,7 +18,7 @@ returns c =
     let sent = c.push_reply.new.sent in
     let a = c.take-answered.result in
     subst (λ (p : Plan). IsAnsweredPlan s c.args.votes c.args.core.now x (record x { plan = p; sent = sent }))
-    (sym c.plan_with.ensures)
+    (sym c.plan_with-scratch.ensures)
     (answered_planned s c.args.votes c.args.core.now x sent c.requires.may c.requires.apart
     (c.in_ok-push_reply.ensures.ok
     ∙ ap (λ (os : List Outgoing). os ++ reply_letters c.client_of.result.0 a) c.in_ok-push_releases.ensures

@@ -13,7 +13,7 @@ pub returns-in_default : goal.returns-in_default
 returns-in_default c =
     let s = c.args.script.now in
     let x = c.args.scratch.now in
-    subst (λ (p : Plan). IsDecidedPlan s c.args.votes c.args.core.now x (record x { plan = p })) (sym c.plan_with.ensures)
+    subst (λ (p : Plan). IsDecidedPlan s c.args.votes c.args.core.now x (record x { plan = p })) (sym c.plan_with-scratch.ensures)
     (undecided s c.args.votes c.args.core.now x c.requires.may c.requires.apart
     (sym c.take.ensures.value ∙ c.in_default.is))
 
@@ -27,7 +27,7 @@ returns c =
     let sent = c.push_decides.new.sent in
     let acts = c.push.new.self in
     subst (λ (p : Plan). IsDecidedPlan s c.args.votes c.args.core.now x (deciding x p a told sent acts))
-    (sym c.plan_with-2.ensures)
+    (sym c.plan_with-scratch-2.ensures)
     (decided_planned s c.args.votes c.args.core.now a commit x told sent acts c.requires.may c.requires.apart
     c.requires.decide (sym c.take.ensures.value ∙ c.in-Some.is)
     c.items.ensures.limit c.in_ok-push_visited.ensures.some c.commits-commit.ensures

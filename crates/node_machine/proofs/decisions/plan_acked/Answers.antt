@@ -18,9 +18,9 @@ returns c =
     let answered = c.in_ok-answered.answered in
     let x = c.args.scratch.now in
     let y : Scratch = record x { sent = c.push_answer.new.sent } in
-    let same : c.plan_with.result
+    let same : c.plan_with-scratch.result
     ≡ acked_plan a.tree a.from a.version answered (held_in a.tree (held_answers n.parts.homes)) =
-    c.plan_with.ensures
+    c.plan_with-scratch.ensures
     ∙ λ i. plan_with (c.completing-doing.ensures i) (c.dropping-votes.ensures i) (c.acking.ensures i) in
     subst (λ (p : Plan). IsAckedStep s a n (core_meant p y)) (sym same)
     (acked_step s a.from a.tree a.version n y answered c.requires.ready c.requires.near c.in_ok-answered.ensures

@@ -30,8 +30,8 @@ returns c =
       sent = c.push.new.self;
       acts = c.push-2.new.self;
     } in
-    let same : c.plan_with.result ≡ decide_plan d.tree from d.version =
-    c.plan_with.ensures ∙ ap (λ (doing : Doing). plan_with doing (Free d.tree) Stay) c.completing-doing.ensures in
+    let same : c.plan_with-scratch.result ≡ decide_plan d.tree from d.version =
+    c.plan_with-scratch.ensures ∙ ap (λ (doing : Doing). plan_with doing (Free d.tree) Stay) c.completing-doing.ensures in
     subst (λ (p : Plan). IsDecideStep s l d n (core_meant p y)) (sym same)
     (decide_step s l.to.0 from d.tree d.version d.commit n y c.home_of.result c.requires.ready c.requires.near
     c.count-count.ensures.held c.in_ok-stage_decided.ensures c.home_of.ensures home

@@ -15,5 +15,5 @@ returns-then-not-can_obey c =
 pub returns : goal.returns
 returns c =
     order_plan c.args.script.now c.args.letter.now c.args.core.now c.args.order.epoch c.args.order.what c.args.order.version
-    c.in_ok-doing.doing c.plan_obeyed.new.scratch c.plan_of.result c.requires.body c.requires.ready
-    c.if-epoch-core.false (sym c.if-not-can_obey.ensures) c.in_ok-doing.ensures.step c.plan_of.ensures
+    c.in_ok-doing.doing c.plan_obeyed.new.scratch c.plan_of-scratch.result c.requires.body c.requires.ready
+    c.if-epoch-core.false (sym c.if-not-can_obey.ensures) c.in_ok-doing.ensures.step c.plan_of-scratch.ensures

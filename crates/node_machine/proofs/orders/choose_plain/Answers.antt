@@ -19,5 +19,5 @@ returns c =
     let x = c.plan_order.new.scratch in
     let step = subst (λ (answer : Body). IsNodeStepOf (ordered_row s c.args.what c.args.version answer (data_of n.parts))
     n.parts (parts_meant c.in_ok-doing.doing x)) c.plain_answer-answer.ensures c.in_ok-doing.ensures.step in
-    plain_plan s c.args.letter.now n c.args.what c.args.version c.in_ok-doing.doing x c.plan_of.result c.requires.body
-    c.requires.ready (sym c.if-not-can_obey.ensures) step c.plan_of.ensures
+    plain_plan s c.args.letter.now n c.args.what c.args.version c.in_ok-doing.doing x c.plan_of-scratch.result c.requires.body
+    c.requires.ready (sym c.if-not-can_obey.ensures) step c.plan_of-scratch.ensures

@@ -14,8 +14,8 @@ returns-then-epoch-core c =
     let x = c.plan_told.new.scratch in
     let step = subst (λ (answer : Body). IsNodeStepOf (told_row s answer (data_of n.parts)) n.parts
     (parts_meant c.in_ok-told.told x)) c.numbers-answer.ensures c.in_ok-told.ensures.step in
-    ask_plan s c.args.letter.now n c.args.epoch c.in_ok-told.told x c.plan_of.result c.requires.body
-    c.requires.ready c.if-epoch-core.true step c.plan_of.ensures
+    ask_plan s c.args.letter.now n c.args.epoch c.in_ok-told.told x c.plan_of-scratch.result c.requires.body
+    c.requires.ready c.if-epoch-core.true step c.plan_of-scratch.ensures
 
 pub returns : goal.returns
 returns c =

@@ -18,7 +18,7 @@ returns c =
     let k = c.args.asked.round in
     let x = c.plan_asked_row.new.scratch in
     let row = asked_row s v k (data_of n.parts) in
-    own_done s l n (AskAsked v k) (hearing None (core_of n) row) (core_meant c.plan_of.result x) c.requires.body
+    own_done s l n (AskAsked v k) (hearing None (core_of n) row) (core_meant c.plan_of-scratch.result x) c.requires.body
     (asked_row_apt s l.to.0 l.from.0 (core_of n) v k) refl refl
-    (of_parts_step row n c.in_ok-doing.doing x None c.plan_of.result c.plan_of.ensures c.in_ok-doing.ensures.step refl
+    (of_parts_step row n c.in_ok-doing.doing x None c.plan_of-scratch.result c.plan_of-scratch.ensures c.in_ok-doing.ensures.step refl
     c.requires.ready.apart)
