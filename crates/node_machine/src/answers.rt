@@ -15,9 +15,7 @@ use letter_types::{Act, Body, Letters, Outgoing};
 use nc_commit::Decision;
 use script_parts::children::visits;
 use tree_home::Answered;
-use tree_step::{
-    HoldPlan, NodeCore, Refusals, Scratch, Visited, VotePlan, kind_of, push_reply,
-};
+use tree_step::{HoldPlan, NodeCore, Refusals, Scratch, Visited, VotePlan, kind_of, push_reply};
 use tv_base::{ActorNo, NoMemory, NodeNo, TreeNo};
 use tx_trees::{Script, TreeKind};
 

@@ -23,7 +23,7 @@ use script_parts::children::visits;
 use std::alloc::Global;
 use tree_home::{Answered, Held, Homes};
 use tree_step::{
-    Counting, Doing, HoldPlan, HomePlan, NodeCore, Refusals, Scratch, TreePlan, VotePlan,
+    Counting, Doing, HoldPlan, HomePlan, Incoming, NodeCore, Refusals, Scratch, TreePlan, VotePlan,
     is_near,
 };
 use tv_base::{ActorNo, NoMemory, NodeNo, SubNo, TreeNo, Version};
@@ -43,24 +43,22 @@ pub(crate) fn decision_on(tree: TreeNo, version: Version, commit: bool) -> Decis
 
 /// A decision on a strict tree.
 pub(crate) fn choose_decide(
-    alloc: Global,
     core: &NodeCore,
-    letter: &Letter,
-    script: &Script,
+    came: Incoming,
     decision: Decision,
     scratch: &mut Scratch,
 ) -> Result<CoreChoice, NoMemory>
     // What the caller knows.
-    requires ready { IsCoreReady script.now letter.now.to.0 core.now }
-    requires body { letter.now.body ≡ Decide decision.tree decision.version decision.commit }
+    requires ready { IsCoreReady came.script.now came.letter.now.to.0 core.now }
+    requires body { came.letter.now.body ≡ Decide decision.tree decision.version decision.commit }
     requires empty { IsEmpty scratch.old }
     // What is planned.
-    ensures { IfOk result (IsOwnChoice script.now letter.now core.now scratch.new) }
+    ensures { IfOk result (IsOwnChoice came.script.now came.letter.now core.now scratch.new) }
 {
-    if !decide_apt(core, letter, script, decision) {
+    if !decide_apt(core, came.letter, came.script, decision) {
         return Ok(CoreChoice::Still);
     }
-    plan_decide(alloc, core, letter, script, decision, scratch)?;
+    plan_decide(core, came, decision, scratch)?;
     Ok(CoreChoice::Does)
 }
 
@@ -87,40 +85,45 @@ fn decides_here(letter: &Letter, script: &Script, tree: TreeNo) -> bool
 /// Plans that a node applies the decision that a message brings. A commit writes what the tree sets and draws there. The
 /// tree's locks go, and its home gets an acknowledgement. After out of memory the scratch may hold a part of the plan.
 pub(crate) fn plan_decide(
-    alloc: Global,
     core: &NodeCore,
-    letter: &Letter,
-    script: &Script,
+    came: Incoming,
     decision: Decision,
     scratch: &mut Scratch,
 ) -> Result<(), NoMemory>
     // What the caller knows.
-    requires ready { IsCoreReady script.now letter.now.from.0 core.now }
-    requires strict { IsTrue (is_strict_at script.now decision.tree.0) }
-    requires there { 0 < length (subs_at script.now decision.tree.0) }
+    requires ready { IsCoreReady came.script.now came.letter.now.from.0 core.now }
+    requires strict { IsTrue (is_strict_at came.script.now decision.tree.0) }
+    requires there { 0 < length (subs_at came.script.now decision.tree.0) }
     requires near { IsTrue (in_window core.now.parts.turns.low.0 decision.version.0) }
-    requires can { IsTrue (can_decide_at script.now letter.now decision core.now) }
+    requires can { IsTrue (can_decide_at came.script.now came.letter.now decision core.now) }
     requires empty { IsEmpty scratch.old }
     // What is planned.
-    ensures { OnOk result (IsDecideStep script.now letter.now decision core.now (core_in scratch.new)) }
+    ensures { OnOk result (IsDecideStep came.script.now came.letter.now decision core.now (core_in scratch.new)) }
 {
     let items = &core.parts.items;
     // The readers say that the versions of each item ascend, and that a tree's nodes are the script's.
     let _count = items.count();
-    let _subs = script.subs_of(decision.tree);
+    let _subs = came.script.subs_of(decision.tree);
     let Decision {
         tree,
         version,
         commit,
     } = decision;
-    let node = NodeNo(letter.to.0);
-    stage_decided(alloc, items, &mut scratch.staged, decision, script, node)?;
+    let node = NodeNo(came.letter.to.0);
+    stage_decided(
+        came.alloc,
+        items,
+        &mut scratch.staged,
+        decision,
+        came.script,
+        node,
+    )?;
     scratch.sent.push(Outgoing {
-        to: ActorNo(script.home_of(tree)),
+        to: ActorNo(came.script.home_of(tree)),
         body: Body::Decided { tree, version },
     })?;
     scratch.acts.push(Act::Applied { tree, commit })?;
-    let doing = completing(tree, NodeNo(letter.from.0), version, 1);
+    let doing = completing(tree, NodeNo(came.letter.from.0), version, 1);
     scratch.plan = plan_with(doing, VotePlan::Free(tree), HoldPlan::Stay);
     Ok(())
 }
@@ -168,25 +171,23 @@ pub(crate) fn acknowledged(letter: &Letter, tree: TreeNo, version: Version) -> A
 
 /// An acknowledgement at a strict tree's home.
 pub(crate) fn choose_acked(
-    alloc: Global,
     core: &NodeCore,
-    letter: &Letter,
-    script: &Script,
+    came: Incoming,
     acked: Acknowledgement,
     scratch: &mut Scratch,
 ) -> Result<CoreChoice, NoMemory>
     // What the caller knows.
-    requires ready { IsCoreReady script.now letter.now.to.0 core.now }
-    requires body { letter.now.body ≡ Decided acked.tree acked.version }
-    requires from { acked.from.0 ≡ letter.now.from.0 }
+    requires ready { IsCoreReady came.script.now came.letter.now.to.0 core.now }
+    requires body { came.letter.now.body ≡ Decided acked.tree acked.version }
+    requires from { acked.from.0 ≡ came.letter.now.from.0 }
     requires empty { IsEmpty scratch.old }
     // What is planned.
-    ensures { IfOk result (IsOwnChoice script.now letter.now core.now scratch.new) }
+    ensures { IfOk result (IsOwnChoice came.script.now came.letter.now core.now scratch.new) }
 {
-    if !acked_apt(core, letter, script, acked.tree, acked.version) {
+    if !acked_apt(core, came.letter, came.script, acked.tree, acked.version) {
         return Ok(CoreChoice::Still);
     }
-    plan_acked(alloc, core, script, acked, scratch)?;
+    plan_acked(came.alloc, core, came.script, acked, scratch)?;
     Ok(CoreChoice::Does)
 }
 
@@ -332,19 +333,18 @@ fn answer_by(
 /// Marks of an update tree that go.
 pub(crate) fn choose_release(
     core: &NodeCore,
-    letter: &Letter,
-    script: &Script,
+    came: Incoming,
     tree: TreeNo,
     scratch: &mut Scratch,
 ) -> Result<CoreChoice, NoMemory>
     // What the caller knows.
-    requires ready { IsCoreReady script.now letter.now.to.0 core.now }
-    requires body { letter.now.body ≡ Release tree }
+    requires ready { IsCoreReady came.script.now came.letter.now.to.0 core.now }
+    requires body { came.letter.now.body ≡ Release tree }
     requires empty { IsEmpty scratch.old }
     // What is planned.
-    ensures { IfOk result (IsOwnChoice script.now letter.now core.now scratch.new) }
+    ensures { IfOk result (IsOwnChoice came.script.now came.letter.now core.now scratch.new) }
 {
-    if !release_apt(script, letter.to, tree) {
+    if !release_apt(came.script, came.letter.to, tree) {
         return Ok(CoreChoice::Still);
     }
     plan_release(core, tree, scratch)?;

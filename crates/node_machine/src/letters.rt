@@ -19,9 +19,8 @@ use crate::orders::choose_advancing;
 use crate::state::KeepingParts;
 use crate::subs::choose_tree;
 use crate::wakes::choose_wake;
-use letter_types::{Body, Letter};
-use std::alloc::Global;
-use tree_step::{NodeCore, Scratch};
+use letter_types::Body;
+use tree_step::{Incoming, NodeCore, Scratch};
 use tv_base::NoMemory;
 use tx_trees::Script;
 
@@ -31,23 +30,25 @@ use tx_trees::Script;
 /// tree, for locks, a held answer, a negative vote or a deferred message is taken at the head of `do_node`: if there is
 /// none, nothing has changed, or what has is taken back.
 pub fn plan_letter(
-    alloc: Global,
     node: &KeepingParts,
-    letter: &Letter,
-    script: &Script,
+    came: Incoming,
     scratch: &mut Scratch,
 ) -> Result<NodePlan, NoMemory>
-    requires ready { IsKeepingReady script.now letter.now.to.0 node.now }
+    requires ready { IsKeepingReady came.script.now came.letter.now.to.0 node.now }
     requires empty { IsEmpty scratch.old }
-    ensures { IfOk result (λ plan. IsLetterPlan script.now letter.now node.now plan scratch.new) }
+    ensures { IfOk result (λ plan. IsLetterPlan came.script.now came.letter.now node.now plan scratch.new) }
 {
-    let Some(brought) = node.kept.brought(letter) else {
+    let Some(brought) = node.kept.brought(came.letter) else {
         return Ok(still(node, scratch));
     };
-    match choose_core(alloc, &node.core, brought, script, scratch)? {
+    let asked = Incoming {
+        letter: brought,
+        ..came
+    };
+    match choose_core(&node.core, asked, scratch)? {
         CoreChoice::Still => Ok(still(node, scratch)),
-        CoreChoice::Keeps(keep) => plan_keep(alloc, node, letter, brought, keep, scratch),
-        CoreChoice::Does => plan_does(node, letter, brought, scratch),
+        CoreChoice::Keeps(keep) => plan_keep(came.alloc, node, came.letter, brought, keep, scratch),
+        CoreChoice::Does => plan_does(node, came.letter, brought, scratch),
     }
 }
 
@@ -65,20 +66,19 @@ fn still(node: &KeepingParts, scratch: &mut Scratch) -> NodePlan
 /// Plans what a core does with a message: nothing if it isn't enabled; else it defers the message if it has to, and
 /// does its row if not (docs/ALGORITHM.md, "Nodes" and "Nodes with strict trees"). It changes nothing but the scratch.
 pub(crate) fn choose_core(
-    alloc: Global,
     core: &NodeCore,
-    letter: &Letter,
-    script: &Script,
+    came: Incoming,
     scratch: &mut Scratch,
 ) -> Result<CoreChoice, NoMemory>
-    requires ready { IsCoreReady script.now letter.now.to.0 core.now }
+    requires ready { IsCoreReady came.script.now came.letter.now.to.0 core.now }
     requires empty { IsEmpty scratch.old }
-    ensures { IfOk result (λ choice. IsPlanOf script.now letter.now core.now (choice_meant choice scratch.new)) }
+    ensures { IfOk result
+        (λ choice. IsPlanOf came.script.now came.letter.now core.now (choice_meant choice scratch.new)) }
 {
-    if !suits_coordinator(script, &letter.body) {
+    if !suits_coordinator(came.script, &came.letter.body) {
         return Ok(CoreChoice::Still);
     }
-    choose_own(alloc, core, letter, script, scratch)
+    choose_own(core, came, scratch)
 }
 
 /// Whether a message is none that only the other kind of coordinator has, which the script doesn't run.
@@ -108,27 +108,25 @@ fn suits_coordinator(script: &Script, body: &Body) -> bool
 /// What a core does with a message that the script's kind of coordinator allows.
 #[inline(always)]
 fn choose_own(
-    alloc: Global,
     core: &NodeCore,
-    letter: &Letter,
-    script: &Script,
+    came: Incoming,
     scratch: &mut Scratch,
 ) -> Result<CoreChoice, NoMemory>
-    requires ready { IsCoreReady script.now letter.now.to.0 core.now }
+    requires ready { IsCoreReady came.script.now came.letter.now.to.0 core.now }
     requires empty { IsEmpty scratch.old }
-    ensures { IfOk result (IsOwnChoice script.now letter.now core.now scratch.new) }
+    ensures { IfOk result (IsOwnChoice came.script.now came.letter.now core.now scratch.new) }
 {
-    match &letter.body {
-        Body::Root { tree } => choose_tree(alloc, core, letter, script, *tree, scratch),
-        Body::Sub { tree, .. } => choose_tree(alloc, core, letter, script, *tree, scratch),
+    match &came.letter.body {
+        Body::Root { tree } => choose_tree(core, came, *tree, scratch),
+        Body::Sub { tree, .. } => choose_tree(core, came, *tree, scratch),
         Body::Done {
             tree,
             sub,
             version,
             notice,
         } => {
-            let noted = notice_here(letter, *tree, *sub, *version, notice);
-            choose_note(alloc, core, letter, script, noted, scratch)
+            let noted = notice_here(came.letter, *tree, *sub, *version, notice);
+            choose_note(core, came, noted, scratch)
         }
         Body::Decide {
             tree,
@@ -136,14 +134,14 @@ fn choose_own(
             commit,
         } => {
             let decision = decision_on(*tree, *version, *commit);
-            choose_decide(alloc, core, letter, script, decision, scratch)
+            choose_decide(core, came, decision, scratch)
         }
         Body::Decided { tree, version } => {
-            let acked = acknowledged(letter, *tree, *version);
-            choose_acked(alloc, core, letter, script, acked, scratch)
+            let acked = acknowledged(came.letter, *tree, *version);
+            choose_acked(core, came, acked, scratch)
         }
-        Body::Release { tree } => choose_release(core, letter, script, *tree, scratch),
-        Body::Wake { tree, sub } => Ok(choose_wake(core, letter, script, *tree, *sub, scratch)),
-        _ => choose_advancing(alloc, core, letter, script, scratch),
+        Body::Release { tree } => choose_release(core, came, *tree, scratch),
+        Body::Wake { tree, sub } => Ok(choose_wake(core, came, *tree, *sub, scratch)),
+        _ => choose_advancing(core, came, scratch),
     }
 }

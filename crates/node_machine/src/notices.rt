@@ -20,7 +20,8 @@ use commute_ops::Values;
 use letter_types::{Cause, Letter, Notice};
 use std::alloc::Global;
 use tree_step::{
-    NodeCore, Refusals, Request, Scratch, VotePlan, is_due, is_near, is_strict, plan_notice,
+    Incoming, NodeCore, Refusals, Request, Scratch, VotePlan, is_due, is_near, is_strict,
+    plan_notice,
 };
 use tv_base::{NoMemory, NodeNo, SubNo, TreeNo, Version};
 use tx_trees::Script;
@@ -55,29 +56,28 @@ pub(crate) fn notice_here<'a>(
 
 /// Plans what a tree's home does with a notice that is due, unless it would answer in a version that isn't near.
 pub(crate) fn choose_note(
-    alloc: Global,
     core: &NodeCore,
-    letter: &Letter,
-    script: &Script,
+    came: Incoming,
     noted: NoticeHere,
     scratch: &mut Scratch,
 ) -> Result<CoreChoice, NoMemory>
     // What the caller knows.
-    requires ready { IsCoreReady script.now letter.now.to.0 core.now }
-    requires body { letter.now.body ≡ Done noted.request.tree noted.request.sub noted.request.version noted.notice.now }
-    requires from { noted.request.from.0 ≡ letter.now.from.0 }
+    requires ready { IsCoreReady came.script.now came.letter.now.to.0 core.now }
+    requires body { came.letter.now.body
+        ≡ Done noted.request.tree noted.request.sub noted.request.version noted.notice.now }
+    requires from { noted.request.from.0 ≡ came.letter.now.from.0 }
     requires empty { IsEmpty scratch.old }
     // What is planned.
-    ensures { IfOk result (IsOwnChoice script.now letter.now core.now scratch.new) }
+    ensures { IfOk result (IsOwnChoice came.script.now came.letter.now core.now scratch.new) }
 {
     let NoticeHere { request, notice } = noted;
-    if !is_due(&core.parts, letter, script) {
+    if !is_due(&core.parts, came.letter, came.script) {
         return Ok(CoreChoice::Still);
     }
-    if !decides_near(core, script, request) {
+    if !decides_near(core, came.script, request) {
         return Ok(CoreChoice::Still);
     }
-    plan_note(alloc, core, script, request, notice, scratch)?;
+    plan_note(came.alloc, core, came.script, request, notice, scratch)?;
     Ok(CoreChoice::Does)
 }
 

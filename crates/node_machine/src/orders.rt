@@ -17,32 +17,27 @@ use crate::node_plan::{CoreChoice, plan_of};
 use crate::questions::{
     RoundVersion, choose_ask, choose_asked_row, choose_done_row, plan_told, push_answer,
 };
-use letter_types::{Act, Acts, Body, Letter, What};
+use letter_types::{Act, Acts, Body, What};
 use node_versions::Turns;
-use std::alloc::Global;
-use tree_step::{Doing, NodeCore, NodeParts, Scratch, can_obey};
+use tree_step::{Doing, Incoming, NodeCore, NodeParts, Scratch, can_obey};
 use tv_base::{NoMemory, Version};
 use tx_trees::Script;
 
 /// What a core does with a message of a coordinator that the script has, or with one that has no row of its own.
 pub(crate) fn choose_advancing(
-    alloc: Global,
     core: &NodeCore,
-    letter: &Letter,
-    script: &Script,
+    came: Incoming,
     scratch: &mut Scratch,
 ) -> Result<CoreChoice, NoMemory>
-    requires ready { IsCoreReady script.now letter.now.to.0 core.now }
-    requires other { is_of_tree letter.now.body ≡ false }
+    requires ready { IsCoreReady came.script.now came.letter.now.to.0 core.now }
+    requires other { is_of_tree came.letter.now.body ≡ false }
     requires empty { IsEmpty scratch.old }
-    ensures { IfOk result (IsOwnChoice script.now letter.now core.now scratch.new) }
+    ensures { IfOk result (IsOwnChoice came.script.now came.letter.now core.now scratch.new) }
 {
-    match letter.body {
-        Body::Turn { version } => choose_plain(core, letter, script, What::Turn, version, scratch),
-        Body::Show { version } => choose_plain(core, letter, script, What::Show, version, scratch),
-        Body::Sweep { version } => {
-            choose_plain(core, letter, script, What::Sweep, version, scratch)
-        }
+    match came.letter.body {
+        Body::Turn { version } => choose_plain(core, came, What::Turn, version, scratch),
+        Body::Show { version } => choose_plain(core, came, What::Show, version, scratch),
+        Body::Sweep { version } => { choose_plain(core, came, What::Sweep, version, scratch) }
         Body::Order {
             epoch,
             what,
@@ -53,41 +48,40 @@ pub(crate) fn choose_advancing(
                 what,
                 version,
             };
-            choose_order(core, letter, script, order, scratch)
+            choose_order(core, came, order, scratch)
         }
-        Body::Ask { epoch } => choose_ask(core, letter, script, epoch, scratch),
+        Body::Ask { epoch } => choose_ask(core, came, epoch, scratch),
         Body::AskDone { version, round } => {
             let asked = RoundVersion { version, round };
-            choose_done_row(alloc, core, letter, script, asked, scratch)
+            choose_done_row(core, came, asked, scratch)
         }
         Body::AskAsked { version, round } => {
             let asked = RoundVersion { version, round };
-            choose_asked_row(alloc, core, letter, script, asked, scratch)
+            choose_asked_row(core, came, asked, scratch)
         }
-        _ => Ok(choose_other(core, letter, script, scratch)),
+        _ => Ok(choose_other(core, came, scratch)),
     }
 }
 
 /// An order of a coordinator that remembers: a turn, a version to show, or a sweep.
 fn choose_plain(
     core: &NodeCore,
-    letter: &Letter,
-    script: &Script,
+    came: Incoming,
     what: What,
     version: Version,
     scratch: &mut Scratch,
 ) -> Result<CoreChoice, NoMemory>
-    requires ready { IsCoreReady script.now letter.now.to.0 core.now }
-    requires body { letter.now.body ≡ plain_order what version }
+    requires ready { IsCoreReady came.script.now came.letter.now.to.0 core.now }
+    requires body { came.letter.now.body ≡ plain_order what version }
     requires empty { IsEmpty scratch.old }
-    ensures { IfOk result (IsOwnChoice script.now letter.now core.now scratch.new) }
+    ensures { IfOk result (IsOwnChoice came.script.now came.letter.now core.now scratch.new) }
 {
-    let _ = letter;
+    let _ = came;
     if !can_obey(&core.parts.turns, what, version) {
         return Ok(CoreChoice::Still);
     }
     let answer = plain_answer(what, version);
-    let doing = plan_order(&core.parts, script, what, version, answer, scratch)?;
+    let doing = plan_order(&core.parts, came.script, what, version, answer, scratch)?;
     scratch.plan = plan_of(doing, None);
     Ok(CoreChoice::Does)
 }
@@ -115,17 +109,16 @@ struct EpochOrder {
 /// answers, and does what it is ordered, unless it did that before.
 fn choose_order(
     core: &NodeCore,
-    letter: &Letter,
-    script: &Script,
+    came: Incoming,
     order: EpochOrder,
     scratch: &mut Scratch,
 ) -> Result<CoreChoice, NoMemory>
-    requires ready { IsCoreReady script.now letter.now.to.0 core.now }
-    requires body { letter.now.body ≡ Order order.epoch order.what order.version }
+    requires ready { IsCoreReady came.script.now came.letter.now.to.0 core.now }
+    requires body { came.letter.now.body ≡ Order order.epoch order.what order.version }
     requires empty { IsEmpty scratch.old }
-    ensures { IfOk result (IsOwnChoice script.now letter.now core.now scratch.new) }
+    ensures { IfOk result (IsOwnChoice came.script.now came.letter.now core.now scratch.new) }
 {
-    let _ = letter;
+    let _ = came;
     let EpochOrder {
         epoch,
         what,
@@ -137,7 +130,7 @@ fn choose_order(
     if !can_obey(&core.parts.turns, what, version) {
         return Ok(CoreChoice::Still);
     }
-    let doing = plan_obeyed(&core.parts, script, epoch, what, version, scratch)?;
+    let doing = plan_obeyed(&core.parts, came.script, epoch, what, version, scratch)?;
     scratch.plan = plan_of(doing, Some(epoch));
     Ok(CoreChoice::Does)
 }
@@ -262,20 +255,14 @@ fn push_act(acts: &mut Acts, act: Option<Act>) -> Result<(), NoMemory>
 }
 
 /// A message without a row of its own, which changes and sends nothing.
-pub(crate) fn choose_other(
-    core: &NodeCore,
-    letter: &Letter,
-    script: &Script,
-    scratch: &Scratch,
-) -> CoreChoice
-    requires ready { IsCoreReady script.now letter.now.to.0 core.now }
-    requires other { is_own letter.now.body ≡ false }
+pub(crate) fn choose_other(core: &NodeCore, came: Incoming, scratch: &Scratch) -> CoreChoice
+    requires ready { IsCoreReady came.script.now came.letter.now.to.0 core.now }
+    requires other { is_own came.letter.now.body ≡ false }
     requires empty { IsEmpty scratch.now }
-    ensures { IsOwnChoice script.now letter.now core.now scratch.now result }
+    ensures { IsOwnChoice came.script.now came.letter.now core.now scratch.now result }
 {
     let _ = core;
-    let _ = letter;
-    let _ = script;
+    let _ = came;
     let _ = scratch;
     CoreChoice::Does
 }

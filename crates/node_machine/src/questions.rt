@@ -9,10 +9,10 @@ ghost use Rattle.node_machine.specs.Orders.{told_row};
 ghost use Rattle.node_machine.specs.Choices.{IsOwnChoice};
 
 use crate::node_plan::{CoreChoice, plan_of};
-use letter_types::{Body, Letter, Letters, Outgoing};
+use letter_types::{Body, Letters, Outgoing};
 use node_versions::Turns;
 use std::alloc::Global;
-use tree_step::{Doing, NodeCore, NodeParts, Scratch};
+use tree_step::{Doing, Incoming, NodeCore, NodeParts, Scratch};
 use tv_base::{ActorNo, NoMemory, Version};
 use tx_trees::Script;
 
@@ -25,21 +25,26 @@ pub(crate) struct RoundVersion {
 
 /// A node tells its completions of a version.
 pub(crate) fn choose_done_row(
-    alloc: Global,
     core: &NodeCore,
-    letter: &Letter,
-    script: &Script,
+    came: Incoming,
     asked: RoundVersion,
     scratch: &mut Scratch,
 ) -> Result<CoreChoice, NoMemory>
-    requires ready { IsCoreReady script.now letter.now.to.0 core.now }
-    requires body { letter.now.body ≡ AskDone asked.version asked.round }
+    requires ready { IsCoreReady came.script.now came.letter.now.to.0 core.now }
+    requires body { came.letter.now.body ≡ AskDone asked.version asked.round }
     requires empty { IsEmpty scratch.old }
-    ensures { IfOk result (IsOwnChoice script.now letter.now core.now scratch.new) }
+    ensures { IfOk result (IsOwnChoice came.script.now came.letter.now core.now scratch.new) }
 {
-    let _ = letter;
+    let _ = came;
     let RoundVersion { version, round } = asked;
-    let doing = plan_done_row(alloc, &core.parts, script, version, round, scratch)?;
+    let doing = plan_done_row(
+        came.alloc,
+        &core.parts,
+        came.script,
+        version,
+        round,
+        scratch,
+    )?;
     scratch.plan = plan_of(doing, None);
     Ok(CoreChoice::Does)
 }
@@ -74,21 +79,26 @@ fn plan_done_row(
 
 /// A node tells its requests of a version.
 pub(crate) fn choose_asked_row(
-    alloc: Global,
     core: &NodeCore,
-    letter: &Letter,
-    script: &Script,
+    came: Incoming,
     asked: RoundVersion,
     scratch: &mut Scratch,
 ) -> Result<CoreChoice, NoMemory>
-    requires ready { IsCoreReady script.now letter.now.to.0 core.now }
-    requires body { letter.now.body ≡ AskAsked asked.version asked.round }
+    requires ready { IsCoreReady came.script.now came.letter.now.to.0 core.now }
+    requires body { came.letter.now.body ≡ AskAsked asked.version asked.round }
     requires empty { IsEmpty scratch.old }
-    ensures { IfOk result (IsOwnChoice script.now letter.now core.now scratch.new) }
+    ensures { IfOk result (IsOwnChoice came.script.now came.letter.now core.now scratch.new) }
 {
-    let _ = letter;
+    let _ = came;
     let RoundVersion { version, round } = asked;
-    let doing = plan_asked_row(alloc, &core.parts, script, version, round, scratch)?;
+    let doing = plan_asked_row(
+        came.alloc,
+        &core.parts,
+        came.script,
+        version,
+        round,
+        scratch,
+    )?;
     scratch.plan = plan_of(doing, None);
     Ok(CoreChoice::Does)
 }
@@ -125,20 +135,19 @@ fn plan_asked_row(
 /// node's.
 pub(crate) fn choose_ask(
     core: &NodeCore,
-    letter: &Letter,
-    script: &Script,
+    came: Incoming,
     epoch: u64,
     scratch: &mut Scratch,
 ) -> Result<CoreChoice, NoMemory>
-    requires ready { IsCoreReady script.now letter.now.to.0 core.now }
-    requires body { letter.now.body ≡ Ask epoch }
+    requires ready { IsCoreReady came.script.now came.letter.now.to.0 core.now }
+    requires body { came.letter.now.body ≡ Ask epoch }
     requires empty { IsEmpty scratch.old }
-    ensures { IfOk result (IsOwnChoice script.now letter.now core.now scratch.new) }
+    ensures { IfOk result (IsOwnChoice came.script.now came.letter.now core.now scratch.new) }
 {
-    let _ = letter;
+    let _ = came;
     if epoch >= core.epoch {
         let answer = numbers(epoch, &core.parts.turns);
-        let told = plan_told(&core.parts, script, answer, scratch)?;
+        let told = plan_told(&core.parts, came.script, answer, scratch)?;
         scratch.plan = plan_of(told, Some(epoch));
         return Ok(CoreChoice::Does);
     }

@@ -18,33 +18,30 @@ use crate::updates::choose_update;
 use crate::votes::choose_strict;
 use letter_types::{Body, Letter};
 use read_step::plan_read;
-use std::alloc::Global;
 use tree_home::Homes;
-use tree_step::{NodeCore, Scratch, VotePlan, is_due, kind_of};
+use tree_step::{Incoming, NodeCore, Scratch, VotePlan, is_due, kind_of};
 use tv_base::{NoMemory, TreeNo};
 use tx_trees::{Script, TreeKind};
 
 /// A message that asks for a subtransaction of a tree.
 #[inline(always)]
 pub(crate) fn choose_tree(
-    alloc: Global,
     core: &NodeCore,
-    letter: &Letter,
-    script: &Script,
+    came: Incoming,
     tree: TreeNo,
     scratch: &mut Scratch,
 ) -> Result<CoreChoice, NoMemory>
     // What the caller knows.
-    requires ready { IsCoreReady script.now letter.now.to.0 core.now }
-    requires asks { IsTrue (asks_a_sub letter.now.body) }
+    requires ready { IsCoreReady came.script.now came.letter.now.to.0 core.now }
+    requires asks { IsTrue (asks_a_sub came.letter.now.body) }
     requires empty { IsEmpty scratch.old }
     // What is planned.
-    ensures { IfOk result (IsChoiceOfTree script.now letter.now tree core.now scratch.new) }
+    ensures { IfOk result (IsChoiceOfTree came.script.now came.letter.now tree core.now scratch.new) }
 {
-    if !is_free(core, letter, script) {
+    if !is_free(core, came.letter, came.script) {
         return Ok(CoreChoice::Still);
     }
-    choose_kind(alloc, core, letter, script, tree, scratch)
+    choose_kind(core, came, tree, scratch)
 }
 
 /// Whether a message that asks for a subtransaction is one that the node takes, and the answer of a root's tree isn't
@@ -74,50 +71,47 @@ fn is_held(homes: &Homes, tree: TreeNo) -> bool
 
 /// A subtransaction of a tree, by the tree's kind.
 fn choose_kind(
-    alloc: Global,
     core: &NodeCore,
-    letter: &Letter,
-    script: &Script,
+    came: Incoming,
     tree: TreeNo,
     scratch: &mut Scratch,
 ) -> Result<CoreChoice, NoMemory>
     // What the caller knows.
-    requires ready { IsCoreReady script.now letter.now.to.0 core.now }
-    requires asks { IsTrue (asks_a_sub letter.now.body) }
-    requires due { IsDueAt script.now letter.now core.now.parts }
-    requires unheld { IsUnheldAt letter.now core.now.parts }
+    requires ready { IsCoreReady came.script.now came.letter.now.to.0 core.now }
+    requires asks { IsTrue (asks_a_sub came.letter.now.body) }
+    requires due { IsDueAt came.script.now came.letter.now core.now.parts }
+    requires unheld { IsUnheldAt came.letter.now core.now.parts }
     requires empty { IsEmpty scratch.old }
     // What is planned.
-    ensures { IfOk result (IsDueChoice script.now letter.now tree core.now scratch.new) }
+    ensures { IfOk result (IsDueChoice came.script.now came.letter.now tree core.now scratch.new) }
 {
-    let found = kind_of(script, tree);
+    let found = kind_of(came.script, tree);
     let Some(kind) = found else {
         return Ok(CoreChoice::Still);
     };
     match kind {
-        TreeKind::Update => choose_update(alloc, core, letter, script, tree, scratch),
-        TreeKind::Read => choose_read(alloc, core, letter, script, scratch),
-        TreeKind::Strict => choose_strict(alloc, core, letter, script, tree, scratch),
+        TreeKind::Update => choose_update(core, came, tree, scratch),
+        TreeKind::Read => choose_read(core, came, scratch),
+        TreeKind::Strict => choose_strict(core, came, tree, scratch),
     }
 }
 
 /// A subtransaction of a read tree, which is never deferred.
 fn choose_read(
-    alloc: Global,
     core: &NodeCore,
-    letter: &Letter,
-    script: &Script,
+    came: Incoming,
     scratch: &mut Scratch,
 ) -> Result<CoreChoice, NoMemory>
     // What the caller knows.
-    requires ready { IsCoreReady script.now letter.now.to.0 core.now }
-    requires due { IsDueAt script.now letter.now core.now.parts }
-    requires unheld { IsUnheldAt letter.now core.now.parts }
+    requires ready { IsCoreReady came.script.now came.letter.now.to.0 core.now }
+    requires due { IsDueAt came.script.now came.letter.now core.now.parts }
+    requires unheld { IsUnheldAt came.letter.now core.now.parts }
     requires empty { IsEmpty scratch.old }
     // What is planned.
-    ensures { IfOk result (λ choice. IsReadPlan script.now letter.now core.now (choice_meant choice scratch.new)) }
+    ensures { IfOk result
+        (λ choice. IsReadPlan came.script.now came.letter.now core.now (choice_meant choice scratch.new)) }
 {
-    if !plan_read_tree(alloc, core, letter, script, scratch)? {
+    if !plan_read_tree(core, came, scratch)? {
         return Ok(CoreChoice::Still);
     }
     Ok(CoreChoice::Does)
@@ -125,24 +119,22 @@ fn choose_read(
 
 /// Plans a subtransaction of a read tree. False exactly if its operations may not be made.
 pub(crate) fn plan_read_tree(
-    alloc: Global,
     core: &NodeCore,
-    letter: &Letter,
-    script: &Script,
+    came: Incoming,
     scratch: &mut Scratch,
 ) -> Result<bool, NoMemory>
     // What the caller knows.
-    requires ready { IsCoreReady script.now letter.now.to.0 core.now }
-    requires due { IsDueAt script.now letter.now core.now.parts }
-    requires unheld { IsUnheldAt letter.now core.now.parts }
+    requires ready { IsCoreReady came.script.now came.letter.now.to.0 core.now }
+    requires due { IsDueAt came.script.now came.letter.now core.now.parts }
+    requires unheld { IsUnheldAt came.letter.now core.now.parts }
     requires empty { IsEmpty scratch.old }
     // What is planned.
-    ensures can { IfOk result (λ can. can ≡ can_read script.now (data_of core.now.parts) letter.now.body) }
-    ensures step { IfOk result (λ can. OnTrue can (IsReadBy script.now letter.now core.now scratch.new)) }
+    ensures can { IfOk result (λ can. can ≡ can_read came.script.now (data_of core.now.parts) came.letter.now.body) }
+    ensures step { IfOk result (λ can. OnTrue can (IsReadBy came.script.now came.letter.now core.now scratch.new)) }
 {
-    if !plan_read(alloc, &core.parts, letter, script, scratch)? {
+    if !plan_read(&core.parts, came, scratch)? {
         return Ok(false);
     }
-    plan_answered(core, script, VotePlan::Stay, scratch)?;
+    plan_answered(core, came.script, VotePlan::Stay, scratch)?;
     Ok(true)
 }

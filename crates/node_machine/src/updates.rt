@@ -20,37 +20,34 @@ use crate::node_plan::{CoreChoice, KeepPlan};
 use letter_types::{Act, Acts, Body, KeepReason, Letter};
 use nc_locks::{Locks, Met, Mode, WantedLocks};
 use node_versions::Turns;
-use std::alloc::Global;
-use tree_step::{NodeCore, Scratch, VotePlan, asked_ops, asked_version, is_above};
+use tree_step::{Incoming, NodeCore, Scratch, VotePlan, asked_ops, asked_version, is_above};
 use tv_base::{NoMemory, SubNo, TreeNo, Version};
 use tx_trees::{Script, SubOp};
 use update_step::{can_update, plan_update};
 
 /// A subtransaction of an update tree: if its operations may be made, it is parked if it meets a lock, and else done.
 pub(crate) fn choose_update(
-    alloc: Global,
     core: &NodeCore,
-    letter: &Letter,
-    script: &Script,
+    came: Incoming,
     tree: TreeNo,
     scratch: &mut Scratch,
 ) -> Result<CoreChoice, NoMemory>
     // What the caller knows.
-    requires ready { IsCoreReady script.now letter.now.to.0 core.now }
-    requires asks { IsTrue (asks_a_sub letter.now.body) }
-    requires due { IsDueAt script.now letter.now core.now.parts }
-    requires unheld { IsUnheldAt letter.now core.now.parts }
+    requires ready { IsCoreReady came.script.now came.letter.now.to.0 core.now }
+    requires asks { IsTrue (asks_a_sub came.letter.now.body) }
+    requires due { IsDueAt came.script.now came.letter.now core.now.parts }
+    requires unheld { IsUnheldAt came.letter.now core.now.parts }
     requires empty { IsEmpty scratch.old }
     // What is planned.
-    ensures { IfOk result (IsChoiceOfKind script.now letter.now tree (Some Update) core.now scratch.new) }
+    ensures { IfOk result (IsChoiceOfKind came.script.now came.letter.now tree (Some Update) core.now scratch.new) }
 {
-    if let Some(met) = meets(core, letter, script, tree) {
-        if !can_update(alloc, &core.parts, letter, script)? {
+    if let Some(met) = meets(core, came.letter, came.script, tree) {
+        if !can_update(came.alloc, &core.parts, came.letter, came.script)? {
             return Ok(CoreChoice::Still);
         }
-        return choose_parked(core, letter, script, tree, met, scratch);
+        return choose_parked(core, came, tree, met, scratch);
     }
-    if !plan_update_tree(alloc, core, letter, script, tree, scratch)? {
+    if !plan_update_tree(core, came, tree, scratch)? {
         return Ok(CoreChoice::Still);
     }
     Ok(CoreChoice::Does)
@@ -59,51 +56,54 @@ pub(crate) fn choose_update(
 /// A subtransaction of an update tree that meets a lock, and whose operations may be made: it is parked.
 fn choose_parked(
     core: &NodeCore,
-    letter: &Letter,
-    script: &Script,
+    came: Incoming,
     tree: TreeNo,
     met: Met,
     scratch: &mut Scratch,
 ) -> Result<CoreChoice, NoMemory>
     // What the caller knows.
-    requires ready { IsCoreReady script.now letter.now.to.0 core.now }
-    requires asks { IsTrue (asks_a_sub letter.now.body) }
-    requires due { IsDueAt script.now letter.now core.now.parts }
-    requires can { IsTrue (can_update script.now (data_of core.now.parts) letter.now.body) }
-    requires met { meets script.now tree (asked_ops script.now letter.now.body) (core_of core.now) ≡ Some met }
+    requires ready { IsCoreReady came.script.now came.letter.now.to.0 core.now }
+    requires asks { IsTrue (asks_a_sub came.letter.now.body) }
+    requires due { IsDueAt came.script.now came.letter.now core.now.parts }
+    requires can { IsTrue (can_update came.script.now (data_of core.now.parts) came.letter.now.body) }
+    requires met { meets came.script.now tree (asked_ops came.script.now came.letter.now.body) (core_of core.now)
+        ≡ Some met }
     requires no_acts { scratch.old.acts ≡ [] }
     // What is planned.
-    ensures { IfOk result (IsChoiceOfKind script.now letter.now tree (Some Update) core.now scratch.new) }
+    ensures { IfOk result (IsChoiceOfKind came.script.now came.letter.now tree (Some Update) core.now scratch.new) }
 {
-    let _ = script;
-    let keep = plan_parked(&core.parts.turns, letter, tree, met, &mut scratch.acts)?;
+    let _ = came;
+    let keep = plan_parked(&core.parts.turns, came.letter, tree, met, &mut scratch.acts)?;
     Ok(CoreChoice::Keeps(keep))
 }
 
 /// Plans a subtransaction of an update tree: if there are strict trees it marks its items. False exactly if its
 /// operations may not be made.
 pub(crate) fn plan_update_tree(
-    alloc: Global,
     core: &NodeCore,
-    letter: &Letter,
-    script: &Script,
+    came: Incoming,
     tree: TreeNo,
     scratch: &mut Scratch,
 ) -> Result<bool, NoMemory>
     // What the caller knows.
-    requires ready { IsCoreReady script.now letter.now.to.0 core.now }
-    requires due { IsDueAt script.now letter.now core.now.parts }
-    requires unheld { IsUnheldAt letter.now core.now.parts }
+    requires ready { IsCoreReady came.script.now came.letter.now.to.0 core.now }
+    requires due { IsDueAt came.script.now came.letter.now core.now.parts }
+    requires unheld { IsUnheldAt came.letter.now core.now.parts }
     requires empty { IsEmpty scratch.old }
     // What is planned.
-    ensures can { IfOk result (λ can. can ≡ can_update script.now (data_of core.now.parts) letter.now.body) }
-    ensures step { IfOk result (λ can. OnTrue can (IsUpdateBy script.now letter.now tree core.now scratch.new)) }
+    ensures can { IfOk result (λ can. can ≡ can_update came.script.now (data_of core.now.parts) came.letter.now.body) }
+    ensures step { IfOk result
+        (λ can. OnTrue can (IsUpdateBy came.script.now came.letter.now tree core.now scratch.new)) }
 {
-    push_marks(&mut scratch.wanted, script, asked_ops(letter, script))?;
-    if !plan_update(alloc, &core.parts, letter, script, scratch)? {
+    push_marks(
+        &mut scratch.wanted,
+        came.script,
+        asked_ops(came.letter, came.script),
+    )?;
+    if !plan_update(&core.parts, came, scratch)? {
         return Ok(false);
     }
-    plan_answered(core, script, VotePlan::Take(tree), scratch)?;
+    plan_answered(core, came.script, VotePlan::Take(tree), scratch)?;
     Ok(true)
 }
 

@@ -17,36 +17,33 @@ use crate::notices::note_no;
 use letter_types::{Act, Acts, Body, Cause, KeepReason, Letter, Notice, Vote};
 use nc_commit::{push_wanted, vote_on};
 use node_versions::Turns;
-use std::alloc::Global;
 use tree_step::{
-    InVersion, NodeCore, Refusals, Scratch, SubTurn, VotePlan, asked_ops, asked_version,
+    InVersion, Incoming, NodeCore, Refusals, Scratch, SubTurn, VotePlan, asked_ops, asked_version,
     is_above, plan_tree,
 };
 use tv_base::{NoMemory, SubNo, TreeNo};
-use tx_trees::{Script, SubOp};
+use tx_trees::SubOp;
 
 /// A subtransaction of a strict tree: it votes, unless it is a root that has to wait.
 pub(crate) fn choose_strict(
-    alloc: Global,
     core: &NodeCore,
-    letter: &Letter,
-    script: &Script,
+    came: Incoming,
     tree: TreeNo,
     scratch: &mut Scratch,
 ) -> Result<CoreChoice, NoMemory>
     // What the caller knows.
-    requires ready { IsCoreReady script.now letter.now.to.0 core.now }
-    requires due { IsDueAt script.now letter.now core.now.parts }
-    requires unheld { IsUnheldAt letter.now core.now.parts }
+    requires ready { IsCoreReady came.script.now came.letter.now.to.0 core.now }
+    requires due { IsDueAt came.script.now came.letter.now core.now.parts }
+    requires unheld { IsUnheldAt came.letter.now core.now.parts }
     requires empty { IsEmpty scratch.old }
     // What is planned.
-    ensures { IfOk result (IsChoiceOfKind script.now letter.now tree (Some Strict) core.now scratch.new) }
+    ensures { IfOk result (IsChoiceOfKind came.script.now came.letter.now tree (Some Strict) core.now scratch.new) }
 {
-    if waits_for_show(core, letter) {
+    if waits_for_show(core, came.letter) {
         let keep = plan_waiting(&core.parts.turns, tree, &mut scratch.acts)?;
         return Ok(CoreChoice::Keeps(keep));
     }
-    plan_vote(alloc, core, letter, script, tree, scratch)?;
+    plan_vote(core, came, tree, scratch)?;
     Ok(CoreChoice::Does)
 }
 
@@ -94,32 +91,37 @@ pub(crate) fn plan_waiting(
 /// root is at the home, so a tree that has only its root is decided at once. After out of memory the scratch may hold a
 /// part of the plan.
 pub(crate) fn plan_vote(
-    alloc: Global,
     core: &NodeCore,
-    letter: &Letter,
-    script: &Script,
+    came: Incoming,
     tree: TreeNo,
     scratch: &mut Scratch,
 ) -> Result<(), NoMemory>
     // What the caller knows.
-    requires ready { IsCoreReady script.now letter.now.to.0 core.now }
-    requires due { IsDueAt script.now letter.now core.now.parts }
-    requires unheld { IsUnheldAt letter.now core.now.parts }
+    requires ready { IsCoreReady came.script.now came.letter.now.to.0 core.now }
+    requires due { IsDueAt came.script.now came.letter.now core.now.parts }
+    requires unheld { IsUnheldAt came.letter.now core.now.parts }
     requires empty { IsEmpty scratch.old }
     // What is planned.
-    ensures { OnOk result (IsVoteStep script.now letter.now tree core.now (core_in scratch.new)) }
+    ensures { OnOk result (IsVoteStep came.script.now came.letter.now tree core.now (core_in scratch.new)) }
 {
-    let version = asked_version(letter, core.parts.turns.update);
-    let ops = asked_ops(letter, script);
-    let vote = vote_on(alloc, &core.locks, &core.parts.items, tree, version, ops)?;
-    let votes = change_by(&core.refusals, tree, &vote, ops, &letter.body, scratch)?;
+    let version = asked_version(came.letter, core.parts.turns.update);
+    let ops = asked_ops(came.letter, came.script);
+    let vote = vote_on(
+        came.alloc,
+        &core.locks,
+        &core.parts.items,
+        tree,
+        version,
+        ops,
+    )?;
+    let votes = change_by(&core.refusals, tree, &vote, ops, &came.letter.body, scratch)?;
     let raises = is_above(&core.parts.turns, version);
     let turn = SubTurn {
         within: InVersion { version, raises },
         notice: notice_by(vote),
     };
-    plan_tree(alloc, &core.parts, letter, script, turn, scratch)?;
-    plan_decided(core, script, votes, scratch)
+    plan_tree(&core.parts, came, turn, scratch)?;
+    plan_decided(core, came.script, votes, scratch)
 }
 
 /// What a vote changes: a positive one takes the locks that the operations want.

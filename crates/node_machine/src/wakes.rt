@@ -7,30 +7,28 @@ ghost use Rattle.node_machine.specs.Apt.{wake_apt};
 ghost use Rattle.node_machine.specs.Choices.{IsOwnChoice};
 
 use crate::node_plan::CoreChoice;
-use letter_types::Letter;
-use tree_step::{NodeCore, Scratch, node_of};
+use tree_step::{Incoming, NodeCore, Scratch, node_of};
 use tv_base::{ActorNo, SubNo, TreeNo};
 use tx_trees::Script;
 
 /// A Wake, for which a core does nothing.
 pub(crate) fn choose_wake(
     core: &NodeCore,
-    letter: &Letter,
-    script: &Script,
+    came: Incoming,
     tree: TreeNo,
     sub: SubNo,
     scratch: &Scratch,
 ) -> CoreChoice
     // What the caller knows.
-    requires ready { IsCoreReady script.now letter.now.to.0 core.now }
-    requires body { letter.now.body ≡ Wake tree sub }
+    requires ready { IsCoreReady came.script.now came.letter.now.to.0 core.now }
+    requires body { came.letter.now.body ≡ Wake tree sub }
     requires empty { IsEmpty scratch.now }
     // What is planned.
-    ensures { IsOwnChoice script.now letter.now core.now scratch.now result }
+    ensures { IsOwnChoice came.script.now came.letter.now core.now scratch.now result }
 {
     let _ = core;
     let _ = scratch;
-    if !wake_apt(script, letter.to, tree, sub) {
+    if !wake_apt(came.script, came.letter.to, tree, sub) {
         return CoreChoice::Still;
     }
     CoreChoice::Does

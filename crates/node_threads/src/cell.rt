@@ -11,12 +11,12 @@ ghost use Rattle.node_threads.specs.Cells.{cell_data, IsHandling};
 ghost use Rattle.world_core.specs.Steps.{row_at};
 
 use history_merge::{ClusterName, Made, OwnLog};
-use letter_types::{Letter, Letters, StepOut, copy_letters};
+use letter_types::{Letters, StepOut, copy_letters};
 use stamp_post::{ActorSeat, Envelope, Outbox, Post};
 use std::alloc::Global;
 use std::collections::VecDeque;
 use std::marker::Model;
-use tree_step::{Scratch, new_scratch, take_out, wipe};
+use tree_step::{Incoming, Scratch, new_scratch, take_out, wipe};
 use tv_base::{ActorNo, NoMemory};
 use tx_trees::Script;
 use world_core::{ActorState, actor_done, actor_plan};
@@ -59,23 +59,23 @@ impl<K: ClusterName> Drop for ActorCell<K> {
 // What an actor does with a letter that is addressed to it: its row of its table. What goes out is given for its entry,
 // with a copy of the letters for the outbox. If memory runs out, the actor is as it was.
 fn step(
-    alloc: Global,
     state: &mut ActorState,
-    letter: &Letter,
-    script: &Script,
+    came: Incoming,
     scratch: &mut Scratch,
 ) -> Result<(StepOut, Letters), NoMemory>
     requires empty { IsEmpty scratch.old }
-    requires addressed { IsAddressed script.now letter.now (actor_data state.old) }
-    requires script { IsFor script.now state.old }
+    requires addressed { IsAddressed came.script.now came.letter.now (actor_data state.old) }
+    requires script { IsFor came.script.now state.old }
     requires small { CountsBelow MOST_COUNT (actor_data state.old) }
-    ensures row { IfOk result (λ r. made (actor_data state.new) r.0 ≡ row_at script.now letter.now state.old) }
+    ensures row { IfOk result
+        (λ r. made (actor_data state.new) r.0 ≡ row_at came.script.now came.letter.now state.old) }
     ensures copy { IfOk result (λ r. r.1 ≡ r.0.sent) }
-    ensures script { OnOk result (IsFor script.now state.new) }
+    ensures script { OnOk result (IsFor came.script.now state.new) }
     ensures err { OnErr result (state.new ≡ state.old) }
     ensures empty { OnOk result (IsEmpty scratch.new) }
 {
-    let plan = actor_plan(alloc, state, letter, script, scratch)?;
+    let alloc = came.alloc;
+    let plan = actor_plan(state, came, scratch)?;
     let copy = copy_letters(alloc, plan.sent(scratch))?;
     actor_done(alloc, state, plan, scratch)?;
     Ok((take_out(alloc, scratch), copy))
@@ -142,13 +142,12 @@ impl<K: ClusterName> ActorCell<K> {
         if made.reserve(1).is_err() {
             return Err((NoMemory, envelope));
         }
-        let Ok((out, copy)) = step(
+        let came = Incoming {
             alloc,
-            &mut self.state,
-            envelope.letter(),
+            letter: envelope.letter(),
             script,
-            &mut self.scratch,
-        ) else {
+        };
+        let Ok((out, copy)) = step(&mut self.state, came, &mut self.scratch) else {
             wipe(&mut self.scratch);
             return Err((NoMemory, envelope));
         };

@@ -9,13 +9,13 @@ ghost use Rattle.tree_step.specs.AtNode.{IsDueAt};
 
 use commute_ops::{Value, Values};
 use item_versions::ItemTable;
-use letter_types::{Letter, Notice};
+use letter_types::Notice;
 use std::alloc::Global;
 use tree_step::{
-    InVersion, NodeParts, Scratch, SubTurn, asked_ops, asked_version, plan_tree,
+    InVersion, Incoming, NodeParts, Scratch, SubTurn, asked_ops, asked_version, plan_tree,
 };
 use tv_base::{NoMemory, Version};
-use tx_trees::{Deed, Script, SubOp};
+use tx_trees::{Deed, SubOp};
 
 /// What a get shows in version `v`. None if the operation isn't a get, or the item isn't there.
 fn shown<'a>(items: &'a ItemTable, v: Version, op: &SubOp) -> Option<&'a Value>
@@ -54,29 +54,25 @@ pub(crate) fn get_values(
 /// Plans what a node does with a message that asks it for a subtransaction of a read tree (docs/ALGORITHM.md, "Nodes"),
 /// before the tree is answered. False exactly if the operations may not be made; then nothing goes out. After out of
 /// memory the scratch may hold a part of the plan.
-pub fn plan_read(
-    alloc: Global,
-    node: &NodeParts,
-    letter: &Letter,
-    script: &Script,
-    scratch: &mut Scratch,
-) -> Result<bool, NoMemory>
+pub fn plan_read(node: &NodeParts, came: Incoming, scratch: &mut Scratch) -> Result<bool, NoMemory>
     // What the caller knows.
-    requires ready { IsReady script.now letter.now.to.0 node.now }
-    requires due { IsDueAt script.now letter.now node.now }
+    requires ready { IsReady came.script.now came.letter.now.to.0 node.now }
+    requires due { IsDueAt came.script.now came.letter.now node.now }
     requires unanswered { scratch.old.answered ≡ None }
     requires none_staged { scratch.old.staged ≡ [] }
     requires no_values { scratch.old.values ≡ [] }
     requires none_sent { scratch.old.sent ≡ [] }
     requires no_acts { scratch.old.acts ≡ [] }
     // What is planned.
-    ensures can { IfOk result (λ can. can ≡ can_read script.now (data_of node.now) letter.now.body) }
-    ensures part { IfOk result (λ can. OnTrue can (IsReadPartPlan script.now letter.now node.now scratch.new)) }
+    ensures can { IfOk result (λ can. can ≡ can_read came.script.now (data_of node.now) came.letter.now.body) }
+    ensures part { IfOk result
+        (λ can. OnTrue can (IsReadPartPlan came.script.now came.letter.now node.now scratch.new)) }
     ensures none { IfOk result (λ can. OnFalse can (out_in scratch.new ≡ record { sent = []; acts = [] })) }
     ensures rest { OnOk result (ChangesPart scratch.old scratch.new) }
 {
-    let version = asked_version(letter, node.turns.read);
-    let Some(values) = get_values(alloc, &node.items, version, asked_ops(letter, script))? else {
+    let version = asked_version(came.letter, node.turns.read);
+    let ops = asked_ops(came.letter, came.script);
+    let Some(values) = get_values(came.alloc, &node.items, version, ops)? else {
         return Ok(false);
     };
     let within = InVersion {
@@ -85,6 +81,6 @@ pub fn plan_read(
     };
     let notice = Notice::Did(values);
     let turn = SubTurn { within, notice };
-    plan_tree(alloc, node, letter, script, turn, scratch)?;
+    plan_tree(node, came, turn, scratch)?;
     Ok(true)
 }

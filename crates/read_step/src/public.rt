@@ -16,7 +16,8 @@ use std::alloc::Global;
 use std::mem;
 use tree_home::Homes;
 use tree_step::{
-    InVersion, NodeParts, SubTurn, asked_ops, asked_version, do_part, new_scratch, plan_tree,
+    InVersion, Incoming, NodeParts, SubTurn, asked_ops, asked_version, do_part, new_scratch,
+    plan_tree,
 };
 use tv_base::{NoMemory, Version};
 use tx_trees::Script;
@@ -24,17 +25,16 @@ use tx_trees::Script;
 /// Plans the subtransaction that a message asks for and that gets these values, with the answer to the client, and does
 /// it. After out of memory the node is as it was.
 fn step_read(
-    alloc: Global,
     node: &mut NodeParts,
-    letter: &Letter,
-    script: &Script,
+    came: Incoming,
     version: Version,
     values: Values,
 ) -> Result<Step, NoMemory>
-    requires ready { IsReady script.now letter.now.to.0 node.old }
-    requires due { IsDueAt script.now letter.now node.old }
+    requires ready { IsReady came.script.now came.letter.now.to.0 node.old }
+    requires due { IsDueAt came.script.now came.letter.now node.old }
     requires near { IsTrue (in_window node.old.turns.low.0 version.0) }
-    ensures { IsDoneTwice (read_done_at script.now letter.now version values node.old) node.old node.new result }
+    ensures { IsDoneTwice (read_done_at came.script.now came.letter.now version values node.old)
+        node.old node.new result }
 {
     let within = InVersion {
         version,
@@ -42,9 +42,9 @@ fn step_read(
     };
     let notice = Notice::Did(values);
     let turn = SubTurn { within, notice };
-    let mut scratch = new_scratch(alloc);
-    plan_tree(alloc, node, letter, script, turn, &mut scratch)?;
-    let step = do_part(alloc, node, script, &mut scratch)?;
+    let mut scratch = new_scratch(came.alloc);
+    plan_tree(node, came, turn, &mut scratch)?;
+    let step = do_part(came.alloc, node, came.script, &mut scratch)?;
     Ok(step)
 }
 
@@ -84,7 +84,12 @@ pub fn run_read(
         counters: mem::replace(counters, Counters::new(0)),
         homes: mem::replace(homes, Homes::new(alloc)),
     };
-    let step = step_read(alloc, &mut node, letter, script, version, values);
+    let came = Incoming {
+        alloc,
+        letter,
+        script,
+    };
+    let step = step_read(&mut node, came, version, values);
     *counters = node.counters;
     *homes = node.homes;
     step

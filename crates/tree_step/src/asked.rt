@@ -16,6 +16,14 @@ use std::alloc::Global;
 use tv_base::{NoMemory, NodeNo, SubNo, TreeNo, Version};
 use tx_trees::{Script, SubOp};
 
+/// A message that came to a node, the script that it is of, and where memory for its step comes from.
+#[derive(Clone, Copy)]
+pub struct Incoming<'a> {
+    pub alloc: Global,
+    pub letter: &'a Letter,
+    pub script: &'a Script,
+}
+
 /// The version that a message asks for, if a root takes version `root`.
 pub fn asked_version(letter: &Letter, root: Version) -> Version
     ensures { result ≡ asked_version root letter.now.body }
@@ -67,16 +75,14 @@ pub struct SubTurn {
 /// Plans the subtransaction that a message asks for, and that makes what is staged in the scratch, before the tree is
 /// answered. If no memory is found, the scratch may have anything.
 pub fn plan_tree(
-    alloc: Global,
     node: &NodeParts,
-    letter: &Letter,
-    script: &Script,
+    came: Incoming,
     turn: SubTurn,
     scratch: &mut Scratch,
 ) -> Result<(), NoMemory>
     // What the caller knows.
-    requires ready { IsReady script.now letter.now.to.0 node.now }
-    requires due { IsDueAt script.now letter.now node.now }
+    requires ready { IsReady came.script.now came.letter.now.to.0 node.now }
+    requires due { IsDueAt came.script.now came.letter.now node.now }
     requires near { IsTrue (in_window node.now.turns.low.0 turn.within.version.0) }
     requires fits { IsWindowedTable node.now.turns.low.0 (pending scratch.old.staged node.now.items) }
     requires unanswered { scratch.old.answered ≡ None }
@@ -84,28 +90,28 @@ pub fn plan_tree(
     requires none_sent { scratch.old.sent ≡ [] }
     requires no_acts { scratch.old.acts ≡ [] }
     // What is planned.
-    ensures part { OnOk result (IsTreePlanAt script.now letter.now turn node.now scratch.old scratch.new) }
+    ensures part { OnOk result (IsTreePlanAt came.script.now came.letter.now turn node.now scratch.old scratch.new) }
     ensures rest { OnOk result (ChangesPart scratch.old scratch.new) }
 {
     let version = turn.within.version;
-    match &letter.body {
+    match &came.letter.body {
         Body::Root { tree } => {
             let request = Request {
                 tree: *tree,
                 sub: SubNo(0),
                 version,
-                from: NodeNo(letter.to.0),
+                from: NodeNo(came.letter.to.0),
             };
-            plan_root(alloc, node, script, request, turn.notice, scratch)
+            plan_root(came.alloc, node, came.script, request, turn.notice, scratch)
         }
         Body::Sub { tree, sub, .. } => {
             let request = Request {
                 tree: *tree,
                 sub: *sub,
                 version,
-                from: NodeNo(letter.from.0),
+                from: NodeNo(came.letter.from.0),
             };
-            plan_sub(alloc, node, script, request, turn, scratch)
+            plan_sub(came.alloc, node, came.script, request, turn, scratch)
         }
         _ => {
             scratch.plan.doing = Doing::Still;

@@ -329,9 +329,9 @@ fn do_open(
     }
 }
 
-/// Does what is planned in the scratch; what goes out stays there. Only its first calls may need memory: to open a tree, to
-/// hold an answer, for locks and negative votes. If no memory is found, the node is unchanged, and the scratch may have
-/// anything.
+/// Does what is planned in the scratch; what goes out stays there. Only its first calls may need memory: to open a tree,
+/// to hold an answer, for locks and negative votes. If no memory is found, the node is unchanged, and the scratch may
+/// have anything.
 #[inline(always)]
 pub fn do_plan(alloc: Global, core: &mut NodeCore, scratch: &mut Scratch) -> Result<(), NoMemory>
     requires { MayDoCore (core_in scratch.old) core.old }

@@ -18,7 +18,7 @@ mod refusals;
 mod replies;
 mod subs;
 
-pub use asked::{InVersion, Request, SubTurn, asked_ops, asked_version, plan_tree};
+pub use asked::{InVersion, Incoming, Request, SubTurn, asked_ops, asked_version, plan_tree};
 pub use counting::Counting;
 pub use doing::do_plan;
 pub use due::{can_obey, is_above, is_due, is_near};

@@ -12,7 +12,7 @@ use item_versions::Staged;
 use letter_types::{Letter, Notice};
 use std::alloc::Global;
 use tree_step::{
-    InVersion, NodeParts, Scratch, SubTurn, asked_ops, asked_version, is_above, plan_tree,
+    InVersion, Incoming, NodeParts, Scratch, SubTurn, asked_ops, asked_version, is_above, plan_tree,
 };
 use tv_base::{NoMemory, Version};
 use tx_trees::{Deed, Script, SubOp};
@@ -65,38 +65,37 @@ pub fn can_update(
 }
 
 /// Plans what a node does with a message that asks it for a subtransaction of an update tree (docs/ALGORITHM.md,
-/// "Nodes"), before the tree is answered. False exactly if the operations may not be made; then nothing goes out, and a part
-/// may be staged, as after out of memory.
+/// "Nodes"), before the tree is answered. False exactly if the operations may not be made; then nothing goes out,
+/// and a part may be staged, as after out of memory.
 pub fn plan_update(
-    alloc: Global,
     node: &NodeParts,
-    letter: &Letter,
-    script: &Script,
+    came: Incoming,
     scratch: &mut Scratch,
 ) -> Result<bool, NoMemory>
     // What the caller knows.
-    requires ready { IsReady script.now letter.now.to.0 node.now }
-    requires due { IsDueAt script.now letter.now node.now }
+    requires ready { IsReady came.script.now came.letter.now.to.0 node.now }
+    requires due { IsDueAt came.script.now came.letter.now node.now }
     requires unanswered { scratch.old.answered ≡ None }
     requires none_staged { scratch.old.staged ≡ [] }
     requires no_values { scratch.old.values ≡ [] }
     requires none_sent { scratch.old.sent ≡ [] }
     requires no_acts { scratch.old.acts ≡ [] }
     // What is planned.
-    ensures can { IfOk result (λ can. can ≡ can_update script.now (data_of node.now) letter.now.body) }
-    ensures part { IfOk result (λ can. OnTrue can (IsUpdatePartPlan script.now letter.now node.now scratch.new)) }
+    ensures can { IfOk result (λ can. can ≡ can_update came.script.now (data_of node.now) came.letter.now.body) }
+    ensures part { IfOk result
+        (λ can. OnTrue can (IsUpdatePartPlan came.script.now came.letter.now node.now scratch.new)) }
     ensures none { IfOk result (λ can. OnFalse can (out_in scratch.new ≡ record { sent = []; acts = [] })) }
     ensures rest { OnOk result (ChangesPart scratch.old scratch.new) }
 {
-    let version = asked_version(letter, node.turns.update);
-    let ops = asked_ops(letter, script);
+    let version = asked_version(came.letter, node.turns.update);
+    let ops = asked_ops(came.letter, came.script);
     if !stage_ops(node, version, ops, &mut scratch.staged)? {
         return Ok(false);
     }
     let raises = is_above(&node.turns, version);
     let within = InVersion { version, raises };
-    let notice = Notice::Did(Values::new(alloc));
+    let notice = Notice::Did(Values::new(came.alloc));
     let turn = SubTurn { within, notice };
-    plan_tree(alloc, node, letter, script, turn, scratch)?;
+    plan_tree(node, came, turn, scratch)?;
     Ok(true)
 }

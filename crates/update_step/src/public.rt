@@ -13,27 +13,22 @@ use pair_counters::Counters;
 use std::alloc::Global;
 use std::mem;
 use tree_home::Homes;
-use tree_step::{NodeParts, do_part, new_scratch};
+use tree_step::{Incoming, NodeParts, do_part, new_scratch};
 use tv_base::NoMemory;
 use tx_trees::Script;
 
 /// Plans the step, with the answer to the client, and does it. A message whose operations may not be made changes and
 /// sends nothing. After out of memory the node is as it was.
-fn step_update(
-    alloc: Global,
-    node: &mut NodeParts,
-    letter: &Letter,
-    script: &Script,
-) -> Result<Step, NoMemory>
-    requires ready { IsReady script.now letter.now.to.0 node.old }
-    requires due { IsDueAt script.now letter.now node.old }
-    ensures { IsDoneTwice (update_at script.now letter.now node.old) node.old node.new result }
+fn step_update(node: &mut NodeParts, came: Incoming) -> Result<Step, NoMemory>
+    requires ready { IsReady came.script.now came.letter.now.to.0 node.old }
+    requires due { IsDueAt came.script.now came.letter.now node.old }
+    ensures { IsDoneTwice (update_at came.script.now came.letter.now node.old) node.old node.new result }
 {
-    let mut scratch = new_scratch(alloc);
-    if !plan_update(alloc, node, letter, script, &mut scratch)? {
-        return Ok(Step::still(alloc));
+    let mut scratch = new_scratch(came.alloc);
+    if !plan_update(node, came, &mut scratch)? {
+        return Ok(Step::still(came.alloc));
     }
-    let step = do_part(alloc, node, script, &mut scratch)?;
+    let step = do_part(came.alloc, node, came.script, &mut scratch)?;
     Ok(step)
 }
 
@@ -71,7 +66,12 @@ pub fn run_update(
         counters: mem::replace(counters, Counters::new(0)),
         homes: mem::replace(homes, Homes::new(alloc)),
     };
-    let step = step_update(alloc, &mut node, letter, script);
+    let came = Incoming {
+        alloc,
+        letter,
+        script,
+    };
+    let step = step_update(&mut node, came);
     *turns = node.turns;
     *items = node.items;
     *counters = node.counters;

@@ -17,7 +17,7 @@ use coord_restart::{RestartPrepared, Restarting};
 use letter_types::{Boxed, Letter, Letters, StepOut};
 use node_machine::NodePlan;
 use std::alloc::Global;
-use tree_step::Scratch;
+use tree_step::{Incoming, Scratch};
 use tv_base::{ActorNo, NoMemory, NodeNo};
 use tx_trees::Script;
 
@@ -107,31 +107,29 @@ impl ActorState {
 /// changes and sends nothing. It changes nothing but the scratch, and takes all memory that the step needs, but for
 /// what a node takes to open a tree at its home, for locks, held answers and negative votes, and to defer a message.
 pub fn actor_plan(
-    alloc: Global,
     state: &ActorState,
-    letter: &Letter,
-    script: &Script,
+    came: Incoming,
     scratch: &mut Scratch,
 ) -> Result<ActorPlan, NoMemory>
-    requires may { MayTake script.now letter.now MOST_COUNT state.now }
+    requires may { MayTake came.script.now came.letter.now MOST_COUNT state.now }
     requires empty { IsEmpty scratch.old }
-    ensures { IfOk result (λ plan. IsActorStepOf script.now letter.now state.now plan scratch.new) }
+    ensures { IfOk result (λ plan. IsActorStepOf came.script.now came.letter.now state.now plan scratch.new) }
 {
     match state {
         ActorState::Node(node) => {
-            let plan = node.plan(alloc, letter, script, scratch)?;
+            let plan = node.plan(came, scratch)?;
             Ok(ActorPlan::Node(plan))
         }
         ActorState::Coordinator(coordinator) => {
-            let prepared = prepare_coordinator(alloc, coordinator, letter)?;
+            let prepared = prepare_coordinator(came.alloc, coordinator, came.letter)?;
             Ok(ActorPlan::Coordinator(prepared))
         }
         ActorState::Restarting(restarting) => {
-            let prepared = prepare_restarting(alloc, restarting, letter)?;
+            let prepared = prepare_restarting(came.alloc, restarting, came.letter)?;
             Ok(ActorPlan::Restarting(prepared))
         }
         ActorState::Client(client) => {
-            let prepared = prepare_client(alloc, client, letter, script)?;
+            let prepared = prepare_client(came.alloc, client, came.letter, came.script)?;
             Ok(ActorPlan::Client(prepared))
         }
     }

@@ -17,7 +17,6 @@ ghost use Rattle.node_machine.specs.Letters.{IsLetterPlan};
 
 use commute_ops::{Kind, Value};
 use item_versions::ItemTable;
-use letter_types::Letter;
 use nc_locks::Locks;
 use node_machine::{KeepingParts, KeptLetters, NodePlan, do_node, plan_letter};
 use node_versions::Turns;
@@ -25,7 +24,7 @@ use pair_counters::Counters;
 use std::alloc::Global;
 use std::marker::Model;
 use tree_home::Homes;
-use tree_step::{NodeCore, NodeParts, Refusals, Scratch};
+use tree_step::{Incoming, NodeCore, NodeParts, Refusals, Scratch};
 use tv_base::{ItemNo, NoMemory, NodeNo};
 use tx_trees::{ItemRow, Script};
 
@@ -149,21 +148,15 @@ impl NodeState {
     }
 
     /// Plans what the node does with a message: its row of the node's table. It changes nothing but the scratch.
-    pub(crate) fn plan(
-        &self,
-        alloc: Global,
-        letter: &Letter,
-        script: &Script,
-        scratch: &mut Scratch,
-    ) -> Result<NodePlan, NoMemory>
-        requires node { letter.now.to.0 < script.now.nodes }
-        requires kept { AreKeptAt letter.now.to.0 self.now.kept }
-        requires script { IsOf script.now self.now.core.parts }
+    pub(crate) fn plan(&self, came: Incoming, scratch: &mut Scratch) -> Result<NodePlan, NoMemory>
+        requires node { came.letter.now.to.0 < came.script.now.nodes }
+        requires kept { AreKeptAt came.letter.now.to.0 self.now.kept }
+        requires script { IsOf came.script.now self.now.core.parts }
         requires below { AllBelow MOST_COUNT (counts_of self.now.core.parts.counters).numbers }
         requires empty { IsEmpty scratch.old }
-        ensures { IfOk result (λ plan. IsLetterPlan script.now letter.now self.now plan scratch.new) }
+        ensures { IfOk result (λ plan. IsLetterPlan came.script.now came.letter.now self.now plan scratch.new) }
     {
-        plan_letter(alloc, &self.node, letter, script, scratch)
+        plan_letter(&self.node, came, scratch)
     }
 
     /// Does what was planned; what goes out stays in the scratch. It may need memory to open a tree at its home, for

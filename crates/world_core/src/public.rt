@@ -9,7 +9,7 @@ ghost use Rattle.pair_counters.specs.Numbers.{MOST_COUNT};
 use crate::actor::{ActorPlan, ActorState, actor_done, actor_plan};
 use letter_types::{Acts, Letter, Step, StepOut, copy_acts, copy_letters};
 use std::alloc::Global;
-use tree_step::{Scratch, new_scratch, take_out};
+use tree_step::{Incoming, Scratch, new_scratch, take_out};
 use tv_base::NoMemory;
 use tx_trees::Script;
 
@@ -45,7 +45,12 @@ pub fn actor_step(
     ensures err { OnErr result (state.new ≡ state.old) }
 {
     let mut scratch = new_scratch(alloc);
-    let plan = actor_plan(alloc, state, letter, script, &mut scratch)?;
+    let came = Incoming {
+        alloc,
+        letter,
+        script,
+    };
+    let plan = actor_plan(state, came, &mut scratch)?;
     let kept = StepOut {
         sent: copy_letters(alloc, plan.sent(&scratch))?,
         acts: copy_acts(alloc, plan.acts(&scratch))?,

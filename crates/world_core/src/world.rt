@@ -16,7 +16,7 @@ use letter_types::{Acts, Entry, History, Letter, LetterId, Letters, StepOut, go}
 use std::alloc::Global;
 use std::marker::Model;
 use std::mem;
-use tree_step::{Scratch, new_scratch, take_out, wipe};
+use tree_step::{Incoming, Scratch, new_scratch, take_out, wipe};
 use tv_base::{ActorNo, NoMemory, Stamp};
 use tx_trees::Script;
 
@@ -126,19 +126,18 @@ fn state_at(actors: &Vec<ActorState>, actor: ActorNo) -> &ActorState
 
 /// Plans what the addressee of a message does with it.
 fn plan(
-    alloc: Global,
-    script: &Script,
     actors: &Vec<ActorState>,
-    letter: &Letter,
+    came: Incoming,
     scratch: &mut Scratch,
 ) -> Result<ActorPlan, NoMemory>
-    requires here { letter.now.to.0 < length actors.now.items }
-    requires may { IfSome (slice_get actors.now.items letter.now.to.0) (MayTake script.now letter.now MOST_COUNT) }
+    requires here { came.letter.now.to.0 < length actors.now.items }
+    requires may { IfSome (slice_get actors.now.items came.letter.now.to.0)
+        (MayTake came.script.now came.letter.now MOST_COUNT) }
     requires empty { IsEmpty scratch.old }
-    ensures { IfOk result (λ plan. IsPlanFor script.now letter.now actors.now.items plan scratch.new) }
+    ensures { IfOk result (λ plan. IsPlanFor came.script.now came.letter.now actors.now.items plan scratch.new) }
 {
-    let state = state_at(actors, letter.to);
-    let plan = actor_plan(alloc, state, letter, script, scratch)?;
+    let state = state_at(actors, came.letter.to);
+    let plan = actor_plan(state, came, scratch)?;
     Ok(plan)
 }
 
@@ -250,7 +249,12 @@ fn advance(
     let stamp = Stamp(flow.history.items().len() as u64 + 1);
     let letter = flow.bag.at(k);
     let actor = letter.to;
-    let plan = plan(alloc, script, &flow.actors, letter, scratch)?;
+    let came = Incoming {
+        alloc,
+        letter,
+        script,
+    };
+    let plan = plan(&flow.actors, came, scratch)?;
     make_room(&mut flow.bag, plan.sent(scratch).items().len())?;
     flow.history.push(placeholder(alloc, stamp))?;
     match pass(alloc, flow, stamp, actor, plan, scratch) {

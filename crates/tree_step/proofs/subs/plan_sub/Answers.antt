@@ -24,8 +24,8 @@ returns-clause-part c =
     record {
       row = λ i. record {
         out = (sub_ready s q.from q.tree q.sub q.version c.home_of.result asked c.args.turn.within.raises notice
-          c.args.scratch.now.staged c.args.node.now out xs c.subs_of-subs.ensures.subs c.home_of.ensures count is
-          c.in_ok-acts.ensures) i;
+            c.args.scratch.now.staged c.args.node.now out xs c.subs_of-subs.ensures.subs c.home_of.ensures count is
+            c.in_ok-acts.ensures) i;
         answered = c.requires.unanswered i;
       };
       may = record {
