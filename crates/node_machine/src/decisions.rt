@@ -44,16 +44,16 @@ pub(crate) fn decision_on(tree: TreeNo, version: Version, commit: bool) -> Decis
 /// A decision on a strict tree.
 pub(crate) fn choose_decide(
     core: &NodeCore,
-    came: Incoming,
+    came: &Incoming,
     decision: Decision,
     scratch: &mut Scratch,
 ) -> Result<CoreChoice, NoMemory>
     // What the caller knows.
-    requires ready { IsCoreReady came.script.now came.letter.now.to.0 core.now }
-    requires body { came.letter.now.body ≡ Decide decision.tree decision.version decision.commit }
+    requires ready { IsCoreReady came.now.script.now came.now.letter.now.to.0 core.now }
+    requires body { came.now.letter.now.body ≡ Decide decision.tree decision.version decision.commit }
     requires empty { IsEmpty scratch.old }
     // What is planned.
-    ensures { IfOk result (IsOwnChoice came.script.now came.letter.now core.now scratch.new) }
+    ensures { IfOk result (IsOwnChoice came.now.script.now came.now.letter.now core.now scratch.new) }
 {
     if !decide_apt(core, came.letter, came.script, decision) {
         return Ok(CoreChoice::Still);
@@ -86,19 +86,19 @@ fn decides_here(letter: &Letter, script: &Script, tree: TreeNo) -> bool
 /// tree's locks go, and its home gets an acknowledgement. After out of memory the scratch may hold a part of the plan.
 pub(crate) fn plan_decide(
     core: &NodeCore,
-    came: Incoming,
+    came: &Incoming,
     decision: Decision,
     scratch: &mut Scratch,
 ) -> Result<(), NoMemory>
     // What the caller knows.
-    requires ready { IsCoreReady came.script.now came.letter.now.from.0 core.now }
-    requires strict { IsTrue (is_strict_at came.script.now decision.tree.0) }
-    requires there { 0 < length (subs_at came.script.now decision.tree.0) }
+    requires ready { IsCoreReady came.now.script.now came.now.letter.now.from.0 core.now }
+    requires strict { IsTrue (is_strict_at came.now.script.now decision.tree.0) }
+    requires there { 0 < length (subs_at came.now.script.now decision.tree.0) }
     requires near { IsTrue (in_window core.now.parts.turns.low.0 decision.version.0) }
-    requires can { IsTrue (can_decide_at came.script.now came.letter.now decision core.now) }
+    requires can { IsTrue (can_decide_at came.now.script.now came.now.letter.now decision core.now) }
     requires empty { IsEmpty scratch.old }
     // What is planned.
-    ensures { OnOk result (IsDecideStep came.script.now came.letter.now decision core.now (core_in scratch.new)) }
+    ensures { OnOk result (IsDecideStep came.now.script.now came.now.letter.now decision core.now (core_in scratch.new)) }
 {
     let items = &core.parts.items;
     // The readers say that the versions of each item ascend, and that a tree's nodes are the script's.
@@ -172,17 +172,17 @@ pub(crate) fn acknowledged(letter: &Letter, tree: TreeNo, version: Version) -> A
 /// An acknowledgement at a strict tree's home.
 pub(crate) fn choose_acked(
     core: &NodeCore,
-    came: Incoming,
+    came: &Incoming,
     acked: Acknowledgement,
     scratch: &mut Scratch,
 ) -> Result<CoreChoice, NoMemory>
     // What the caller knows.
-    requires ready { IsCoreReady came.script.now came.letter.now.to.0 core.now }
-    requires body { came.letter.now.body ≡ Decided acked.tree acked.version }
-    requires from { acked.from.0 ≡ came.letter.now.from.0 }
+    requires ready { IsCoreReady came.now.script.now came.now.letter.now.to.0 core.now }
+    requires body { came.now.letter.now.body ≡ Decided acked.tree acked.version }
+    requires from { acked.from.0 ≡ came.now.letter.now.from.0 }
     requires empty { IsEmpty scratch.old }
     // What is planned.
-    ensures { IfOk result (IsOwnChoice came.script.now came.letter.now core.now scratch.new) }
+    ensures { IfOk result (IsOwnChoice came.now.script.now came.now.letter.now core.now scratch.new) }
 {
     if !acked_apt(core, came.letter, came.script, acked.tree, acked.version) {
         return Ok(CoreChoice::Still);
@@ -333,16 +333,16 @@ fn answer_by(
 /// Marks of an update tree that go.
 pub(crate) fn choose_release(
     core: &NodeCore,
-    came: Incoming,
+    came: &Incoming,
     tree: TreeNo,
     scratch: &mut Scratch,
 ) -> Result<CoreChoice, NoMemory>
     // What the caller knows.
-    requires ready { IsCoreReady came.script.now came.letter.now.to.0 core.now }
-    requires body { came.letter.now.body ≡ Release tree }
+    requires ready { IsCoreReady came.now.script.now came.now.letter.now.to.0 core.now }
+    requires body { came.now.letter.now.body ≡ Release tree }
     requires empty { IsEmpty scratch.old }
     // What is planned.
-    ensures { IfOk result (IsOwnChoice came.script.now came.letter.now core.now scratch.new) }
+    ensures { IfOk result (IsOwnChoice came.now.script.now came.now.letter.now core.now scratch.new) }
 {
     if !release_apt(came.script, came.letter.to, tree) {
         return Ok(CoreChoice::Still);

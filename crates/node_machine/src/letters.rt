@@ -31,21 +31,22 @@ use tx_trees::Script;
 /// none, nothing has changed, or what has is taken back.
 pub fn plan_letter(
     node: &KeepingParts,
-    came: Incoming,
+    came: &Incoming,
     scratch: &mut Scratch,
 ) -> Result<NodePlan, NoMemory>
-    requires ready { IsKeepingReady came.script.now came.letter.now.to.0 node.now }
+    requires ready { IsKeepingReady came.now.script.now came.now.letter.now.to.0 node.now }
     requires empty { IsEmpty scratch.old }
-    ensures { IfOk result (λ plan. IsLetterPlan came.script.now came.letter.now node.now plan scratch.new) }
+    ensures { IfOk result (λ plan. IsLetterPlan came.now.script.now came.now.letter.now node.now plan scratch.new) }
 {
     let Some(brought) = node.kept.brought(came.letter) else {
         return Ok(still(node, scratch));
     };
     let asked = Incoming {
+        alloc: came.alloc,
         letter: brought,
-        ..came
+        script: came.script,
     };
-    match choose_core(&node.core, asked, scratch)? {
+    match choose_core(&node.core, &asked, scratch)? {
         CoreChoice::Still => Ok(still(node, scratch)),
         CoreChoice::Keeps(keep) => plan_keep(came.alloc, node, came.letter, brought, keep, scratch),
         CoreChoice::Does => plan_does(node, came.letter, brought, scratch),
@@ -67,13 +68,13 @@ fn still(node: &KeepingParts, scratch: &mut Scratch) -> NodePlan
 /// does its row if not (docs/ALGORITHM.md, "Nodes" and "Nodes with strict trees"). It changes nothing but the scratch.
 pub(crate) fn choose_core(
     core: &NodeCore,
-    came: Incoming,
+    came: &Incoming,
     scratch: &mut Scratch,
 ) -> Result<CoreChoice, NoMemory>
-    requires ready { IsCoreReady came.script.now came.letter.now.to.0 core.now }
+    requires ready { IsCoreReady came.now.script.now came.now.letter.now.to.0 core.now }
     requires empty { IsEmpty scratch.old }
     ensures { IfOk result
-        (λ choice. IsPlanOf came.script.now came.letter.now core.now (choice_meant choice scratch.new)) }
+        (λ choice. IsPlanOf came.now.script.now came.now.letter.now core.now (choice_meant choice scratch.new)) }
 {
     if !suits_coordinator(came.script, &came.letter.body) {
         return Ok(CoreChoice::Still);
@@ -109,12 +110,12 @@ fn suits_coordinator(script: &Script, body: &Body) -> bool
 #[inline(always)]
 fn choose_own(
     core: &NodeCore,
-    came: Incoming,
+    came: &Incoming,
     scratch: &mut Scratch,
 ) -> Result<CoreChoice, NoMemory>
-    requires ready { IsCoreReady came.script.now came.letter.now.to.0 core.now }
+    requires ready { IsCoreReady came.now.script.now came.now.letter.now.to.0 core.now }
     requires empty { IsEmpty scratch.old }
-    ensures { IfOk result (IsOwnChoice came.script.now came.letter.now core.now scratch.new) }
+    ensures { IfOk result (IsOwnChoice came.now.script.now came.now.letter.now core.now scratch.new) }
 {
     match &came.letter.body {
         Body::Root { tree } => choose_tree(core, came, *tree, scratch),

@@ -57,18 +57,18 @@ pub(crate) fn notice_here<'a>(
 /// Plans what a tree's home does with a notice that is due, unless it would answer in a version that isn't near.
 pub(crate) fn choose_note(
     core: &NodeCore,
-    came: Incoming,
+    came: &Incoming,
     noted: NoticeHere,
     scratch: &mut Scratch,
 ) -> Result<CoreChoice, NoMemory>
     // What the caller knows.
-    requires ready { IsCoreReady came.script.now came.letter.now.to.0 core.now }
-    requires body { came.letter.now.body
+    requires ready { IsCoreReady came.now.script.now came.now.letter.now.to.0 core.now }
+    requires body { came.now.letter.now.body
         ≡ Done noted.request.tree noted.request.sub noted.request.version noted.notice.now }
-    requires from { noted.request.from.0 ≡ came.letter.now.from.0 }
+    requires from { noted.request.from.0 ≡ came.now.letter.now.from.0 }
     requires empty { IsEmpty scratch.old }
     // What is planned.
-    ensures { IfOk result (IsOwnChoice came.script.now came.letter.now core.now scratch.new) }
+    ensures { IfOk result (IsOwnChoice came.now.script.now came.now.letter.now core.now scratch.new) }
 {
     let NoticeHere { request, notice } = noted;
     if !is_due(&core.parts, came.letter, came.script) {

@@ -26,13 +26,13 @@ use tx_trees::Script;
 /// What a core does with a message of a coordinator that the script has, or with one that has no row of its own.
 pub(crate) fn choose_advancing(
     core: &NodeCore,
-    came: Incoming,
+    came: &Incoming,
     scratch: &mut Scratch,
 ) -> Result<CoreChoice, NoMemory>
-    requires ready { IsCoreReady came.script.now came.letter.now.to.0 core.now }
-    requires other { is_of_tree came.letter.now.body ≡ false }
+    requires ready { IsCoreReady came.now.script.now came.now.letter.now.to.0 core.now }
+    requires other { is_of_tree came.now.letter.now.body ≡ false }
     requires empty { IsEmpty scratch.old }
-    ensures { IfOk result (IsOwnChoice came.script.now came.letter.now core.now scratch.new) }
+    ensures { IfOk result (IsOwnChoice came.now.script.now came.now.letter.now core.now scratch.new) }
 {
     match came.letter.body {
         Body::Turn { version } => choose_plain(core, came, What::Turn, version, scratch),
@@ -66,15 +66,15 @@ pub(crate) fn choose_advancing(
 /// An order of a coordinator that remembers: a turn, a version to show, or a sweep.
 fn choose_plain(
     core: &NodeCore,
-    came: Incoming,
+    came: &Incoming,
     what: What,
     version: Version,
     scratch: &mut Scratch,
 ) -> Result<CoreChoice, NoMemory>
-    requires ready { IsCoreReady came.script.now came.letter.now.to.0 core.now }
-    requires body { came.letter.now.body ≡ plain_order what version }
+    requires ready { IsCoreReady came.now.script.now came.now.letter.now.to.0 core.now }
+    requires body { came.now.letter.now.body ≡ plain_order what version }
     requires empty { IsEmpty scratch.old }
-    ensures { IfOk result (IsOwnChoice came.script.now came.letter.now core.now scratch.new) }
+    ensures { IfOk result (IsOwnChoice came.now.script.now came.now.letter.now core.now scratch.new) }
 {
     let _ = came;
     if !can_obey(&core.parts.turns, what, version) {
@@ -109,14 +109,14 @@ struct EpochOrder {
 /// answers, and does what it is ordered, unless it did that before.
 fn choose_order(
     core: &NodeCore,
-    came: Incoming,
+    came: &Incoming,
     order: EpochOrder,
     scratch: &mut Scratch,
 ) -> Result<CoreChoice, NoMemory>
-    requires ready { IsCoreReady came.script.now came.letter.now.to.0 core.now }
-    requires body { came.letter.now.body ≡ Order order.epoch order.what order.version }
+    requires ready { IsCoreReady came.now.script.now came.now.letter.now.to.0 core.now }
+    requires body { came.now.letter.now.body ≡ Order order.epoch order.what order.version }
     requires empty { IsEmpty scratch.old }
-    ensures { IfOk result (IsOwnChoice came.script.now came.letter.now core.now scratch.new) }
+    ensures { IfOk result (IsOwnChoice came.now.script.now came.now.letter.now core.now scratch.new) }
 {
     let _ = came;
     let EpochOrder {
@@ -255,11 +255,11 @@ fn push_act(acts: &mut Acts, act: Option<Act>) -> Result<(), NoMemory>
 }
 
 /// A message without a row of its own, which changes and sends nothing.
-pub(crate) fn choose_other(core: &NodeCore, came: Incoming, scratch: &Scratch) -> CoreChoice
-    requires ready { IsCoreReady came.script.now came.letter.now.to.0 core.now }
-    requires other { is_own came.letter.now.body ≡ false }
+pub(crate) fn choose_other(core: &NodeCore, came: &Incoming, scratch: &Scratch) -> CoreChoice
+    requires ready { IsCoreReady came.now.script.now came.now.letter.now.to.0 core.now }
+    requires other { is_own came.now.letter.now.body ≡ false }
     requires empty { IsEmpty scratch.now }
-    ensures { IsOwnChoice came.script.now came.letter.now core.now scratch.now result }
+    ensures { IsOwnChoice came.now.script.now came.now.letter.now core.now scratch.now result }
 {
     let _ = core;
     let _ = came;

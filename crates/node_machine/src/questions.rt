@@ -26,14 +26,14 @@ pub(crate) struct RoundVersion {
 /// A node tells its completions of a version.
 pub(crate) fn choose_done_row(
     core: &NodeCore,
-    came: Incoming,
+    came: &Incoming,
     asked: RoundVersion,
     scratch: &mut Scratch,
 ) -> Result<CoreChoice, NoMemory>
-    requires ready { IsCoreReady came.script.now came.letter.now.to.0 core.now }
-    requires body { came.letter.now.body ≡ AskDone asked.version asked.round }
+    requires ready { IsCoreReady came.now.script.now came.now.letter.now.to.0 core.now }
+    requires body { came.now.letter.now.body ≡ AskDone asked.version asked.round }
     requires empty { IsEmpty scratch.old }
-    ensures { IfOk result (IsOwnChoice came.script.now came.letter.now core.now scratch.new) }
+    ensures { IfOk result (IsOwnChoice came.now.script.now came.now.letter.now core.now scratch.new) }
 {
     let _ = came;
     let RoundVersion { version, round } = asked;
@@ -80,14 +80,14 @@ fn plan_done_row(
 /// A node tells its requests of a version.
 pub(crate) fn choose_asked_row(
     core: &NodeCore,
-    came: Incoming,
+    came: &Incoming,
     asked: RoundVersion,
     scratch: &mut Scratch,
 ) -> Result<CoreChoice, NoMemory>
-    requires ready { IsCoreReady came.script.now came.letter.now.to.0 core.now }
-    requires body { came.letter.now.body ≡ AskAsked asked.version asked.round }
+    requires ready { IsCoreReady came.now.script.now came.now.letter.now.to.0 core.now }
+    requires body { came.now.letter.now.body ≡ AskAsked asked.version asked.round }
     requires empty { IsEmpty scratch.old }
-    ensures { IfOk result (IsOwnChoice came.script.now came.letter.now core.now scratch.new) }
+    ensures { IfOk result (IsOwnChoice came.now.script.now came.now.letter.now core.now scratch.new) }
 {
     let _ = came;
     let RoundVersion { version, round } = asked;
@@ -135,14 +135,14 @@ fn plan_asked_row(
 /// node's.
 pub(crate) fn choose_ask(
     core: &NodeCore,
-    came: Incoming,
+    came: &Incoming,
     epoch: u64,
     scratch: &mut Scratch,
 ) -> Result<CoreChoice, NoMemory>
-    requires ready { IsCoreReady came.script.now came.letter.now.to.0 core.now }
-    requires body { came.letter.now.body ≡ Ask epoch }
+    requires ready { IsCoreReady came.now.script.now came.now.letter.now.to.0 core.now }
+    requires body { came.now.letter.now.body ≡ Ask epoch }
     requires empty { IsEmpty scratch.old }
-    ensures { IfOk result (IsOwnChoice came.script.now came.letter.now core.now scratch.new) }
+    ensures { IfOk result (IsOwnChoice came.now.script.now came.now.letter.now core.now scratch.new) }
 {
     let _ = came;
     if epoch >= core.epoch {

@@ -27,16 +27,16 @@ use tx_trees::{Script, TreeKind};
 #[inline(always)]
 pub(crate) fn choose_tree(
     core: &NodeCore,
-    came: Incoming,
+    came: &Incoming,
     tree: TreeNo,
     scratch: &mut Scratch,
 ) -> Result<CoreChoice, NoMemory>
     // What the caller knows.
-    requires ready { IsCoreReady came.script.now came.letter.now.to.0 core.now }
-    requires asks { IsTrue (asks_a_sub came.letter.now.body) }
+    requires ready { IsCoreReady came.now.script.now came.now.letter.now.to.0 core.now }
+    requires asks { IsTrue (asks_a_sub came.now.letter.now.body) }
     requires empty { IsEmpty scratch.old }
     // What is planned.
-    ensures { IfOk result (IsChoiceOfTree came.script.now came.letter.now tree core.now scratch.new) }
+    ensures { IfOk result (IsChoiceOfTree came.now.script.now came.now.letter.now tree core.now scratch.new) }
 {
     if !is_free(core, came.letter, came.script) {
         return Ok(CoreChoice::Still);
@@ -72,18 +72,18 @@ fn is_held(homes: &Homes, tree: TreeNo) -> bool
 /// A subtransaction of a tree, by the tree's kind.
 fn choose_kind(
     core: &NodeCore,
-    came: Incoming,
+    came: &Incoming,
     tree: TreeNo,
     scratch: &mut Scratch,
 ) -> Result<CoreChoice, NoMemory>
     // What the caller knows.
-    requires ready { IsCoreReady came.script.now came.letter.now.to.0 core.now }
-    requires asks { IsTrue (asks_a_sub came.letter.now.body) }
-    requires due { IsDueAt came.script.now came.letter.now core.now.parts }
-    requires unheld { IsUnheldAt came.letter.now core.now.parts }
+    requires ready { IsCoreReady came.now.script.now came.now.letter.now.to.0 core.now }
+    requires asks { IsTrue (asks_a_sub came.now.letter.now.body) }
+    requires due { IsDueAt came.now.script.now came.now.letter.now core.now.parts }
+    requires unheld { IsUnheldAt came.now.letter.now core.now.parts }
     requires empty { IsEmpty scratch.old }
     // What is planned.
-    ensures { IfOk result (IsDueChoice came.script.now came.letter.now tree core.now scratch.new) }
+    ensures { IfOk result (IsDueChoice came.now.script.now came.now.letter.now tree core.now scratch.new) }
 {
     let found = kind_of(came.script, tree);
     let Some(kind) = found else {
@@ -99,17 +99,17 @@ fn choose_kind(
 /// A subtransaction of a read tree, which is never deferred.
 fn choose_read(
     core: &NodeCore,
-    came: Incoming,
+    came: &Incoming,
     scratch: &mut Scratch,
 ) -> Result<CoreChoice, NoMemory>
     // What the caller knows.
-    requires ready { IsCoreReady came.script.now came.letter.now.to.0 core.now }
-    requires due { IsDueAt came.script.now came.letter.now core.now.parts }
-    requires unheld { IsUnheldAt came.letter.now core.now.parts }
+    requires ready { IsCoreReady came.now.script.now came.now.letter.now.to.0 core.now }
+    requires due { IsDueAt came.now.script.now came.now.letter.now core.now.parts }
+    requires unheld { IsUnheldAt came.now.letter.now core.now.parts }
     requires empty { IsEmpty scratch.old }
     // What is planned.
     ensures { IfOk result
-        (λ choice. IsReadPlan came.script.now came.letter.now core.now (choice_meant choice scratch.new)) }
+        (λ choice. IsReadPlan came.now.script.now came.now.letter.now core.now (choice_meant choice scratch.new)) }
 {
     if !plan_read_tree(core, came, scratch)? {
         return Ok(CoreChoice::Still);
@@ -120,17 +120,17 @@ fn choose_read(
 /// Plans a subtransaction of a read tree. False exactly if its operations may not be made.
 pub(crate) fn plan_read_tree(
     core: &NodeCore,
-    came: Incoming,
+    came: &Incoming,
     scratch: &mut Scratch,
 ) -> Result<bool, NoMemory>
     // What the caller knows.
-    requires ready { IsCoreReady came.script.now came.letter.now.to.0 core.now }
-    requires due { IsDueAt came.script.now came.letter.now core.now.parts }
-    requires unheld { IsUnheldAt came.letter.now core.now.parts }
+    requires ready { IsCoreReady came.now.script.now came.now.letter.now.to.0 core.now }
+    requires due { IsDueAt came.now.script.now came.now.letter.now core.now.parts }
+    requires unheld { IsUnheldAt came.now.letter.now core.now.parts }
     requires empty { IsEmpty scratch.old }
     // What is planned.
-    ensures can { IfOk result (λ can. can ≡ can_read came.script.now (data_of core.now.parts) came.letter.now.body) }
-    ensures step { IfOk result (λ can. OnTrue can (IsReadBy came.script.now came.letter.now core.now scratch.new)) }
+    ensures can { IfOk result (λ can. can ≡ can_read came.now.script.now (data_of core.now.parts) came.now.letter.now.body) }
+    ensures step { IfOk result (λ can. OnTrue can (IsReadBy came.now.script.now came.now.letter.now core.now scratch.new)) }
 {
     if !plan_read(&core.parts, came, scratch)? {
         return Ok(false);

@@ -28,18 +28,18 @@ use update_step::{can_update, plan_update};
 /// A subtransaction of an update tree: if its operations may be made, it is parked if it meets a lock, and else done.
 pub(crate) fn choose_update(
     core: &NodeCore,
-    came: Incoming,
+    came: &Incoming,
     tree: TreeNo,
     scratch: &mut Scratch,
 ) -> Result<CoreChoice, NoMemory>
     // What the caller knows.
-    requires ready { IsCoreReady came.script.now came.letter.now.to.0 core.now }
-    requires asks { IsTrue (asks_a_sub came.letter.now.body) }
-    requires due { IsDueAt came.script.now came.letter.now core.now.parts }
-    requires unheld { IsUnheldAt came.letter.now core.now.parts }
+    requires ready { IsCoreReady came.now.script.now came.now.letter.now.to.0 core.now }
+    requires asks { IsTrue (asks_a_sub came.now.letter.now.body) }
+    requires due { IsDueAt came.now.script.now came.now.letter.now core.now.parts }
+    requires unheld { IsUnheldAt came.now.letter.now core.now.parts }
     requires empty { IsEmpty scratch.old }
     // What is planned.
-    ensures { IfOk result (IsChoiceOfKind came.script.now came.letter.now tree (Some Update) core.now scratch.new) }
+    ensures { IfOk result (IsChoiceOfKind came.now.script.now came.now.letter.now tree (Some Update) core.now scratch.new) }
 {
     if let Some(met) = meets(core, came.letter, came.script, tree) {
         if !can_update(came.alloc, &core.parts, came.letter, came.script)? {
@@ -56,21 +56,21 @@ pub(crate) fn choose_update(
 /// A subtransaction of an update tree that meets a lock, and whose operations may be made: it is parked.
 fn choose_parked(
     core: &NodeCore,
-    came: Incoming,
+    came: &Incoming,
     tree: TreeNo,
     met: Met,
     scratch: &mut Scratch,
 ) -> Result<CoreChoice, NoMemory>
     // What the caller knows.
-    requires ready { IsCoreReady came.script.now came.letter.now.to.0 core.now }
-    requires asks { IsTrue (asks_a_sub came.letter.now.body) }
-    requires due { IsDueAt came.script.now came.letter.now core.now.parts }
-    requires can { IsTrue (can_update came.script.now (data_of core.now.parts) came.letter.now.body) }
-    requires met { meets came.script.now tree (asked_ops came.script.now came.letter.now.body) (core_of core.now)
+    requires ready { IsCoreReady came.now.script.now came.now.letter.now.to.0 core.now }
+    requires asks { IsTrue (asks_a_sub came.now.letter.now.body) }
+    requires due { IsDueAt came.now.script.now came.now.letter.now core.now.parts }
+    requires can { IsTrue (can_update came.now.script.now (data_of core.now.parts) came.now.letter.now.body) }
+    requires met { meets came.now.script.now tree (asked_ops came.now.script.now came.now.letter.now.body) (core_of core.now)
         ≡ Some met }
     requires no_acts { scratch.old.acts ≡ [] }
     // What is planned.
-    ensures { IfOk result (IsChoiceOfKind came.script.now came.letter.now tree (Some Update) core.now scratch.new) }
+    ensures { IfOk result (IsChoiceOfKind came.now.script.now came.now.letter.now tree (Some Update) core.now scratch.new) }
 {
     let _ = came;
     let keep = plan_parked(&core.parts.turns, came.letter, tree, met, &mut scratch.acts)?;
@@ -81,19 +81,19 @@ fn choose_parked(
 /// operations may not be made.
 pub(crate) fn plan_update_tree(
     core: &NodeCore,
-    came: Incoming,
+    came: &Incoming,
     tree: TreeNo,
     scratch: &mut Scratch,
 ) -> Result<bool, NoMemory>
     // What the caller knows.
-    requires ready { IsCoreReady came.script.now came.letter.now.to.0 core.now }
-    requires due { IsDueAt came.script.now came.letter.now core.now.parts }
-    requires unheld { IsUnheldAt came.letter.now core.now.parts }
+    requires ready { IsCoreReady came.now.script.now came.now.letter.now.to.0 core.now }
+    requires due { IsDueAt came.now.script.now came.now.letter.now core.now.parts }
+    requires unheld { IsUnheldAt came.now.letter.now core.now.parts }
     requires empty { IsEmpty scratch.old }
     // What is planned.
-    ensures can { IfOk result (λ can. can ≡ can_update came.script.now (data_of core.now.parts) came.letter.now.body) }
+    ensures can { IfOk result (λ can. can ≡ can_update came.now.script.now (data_of core.now.parts) came.now.letter.now.body) }
     ensures step { IfOk result
-        (λ can. OnTrue can (IsUpdateBy came.script.now came.letter.now tree core.now scratch.new)) }
+        (λ can. OnTrue can (IsUpdateBy came.now.script.now came.now.letter.now tree core.now scratch.new)) }
 {
     push_marks(
         &mut scratch.wanted,

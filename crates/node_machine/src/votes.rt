@@ -27,17 +27,17 @@ use tx_trees::SubOp;
 /// A subtransaction of a strict tree: it votes, unless it is a root that has to wait.
 pub(crate) fn choose_strict(
     core: &NodeCore,
-    came: Incoming,
+    came: &Incoming,
     tree: TreeNo,
     scratch: &mut Scratch,
 ) -> Result<CoreChoice, NoMemory>
     // What the caller knows.
-    requires ready { IsCoreReady came.script.now came.letter.now.to.0 core.now }
-    requires due { IsDueAt came.script.now came.letter.now core.now.parts }
-    requires unheld { IsUnheldAt came.letter.now core.now.parts }
+    requires ready { IsCoreReady came.now.script.now came.now.letter.now.to.0 core.now }
+    requires due { IsDueAt came.now.script.now came.now.letter.now core.now.parts }
+    requires unheld { IsUnheldAt came.now.letter.now core.now.parts }
     requires empty { IsEmpty scratch.old }
     // What is planned.
-    ensures { IfOk result (IsChoiceOfKind came.script.now came.letter.now tree (Some Strict) core.now scratch.new) }
+    ensures { IfOk result (IsChoiceOfKind came.now.script.now came.now.letter.now tree (Some Strict) core.now scratch.new) }
 {
     if waits_for_show(core, came.letter) {
         let keep = plan_waiting(&core.parts.turns, tree, &mut scratch.acts)?;
@@ -92,17 +92,17 @@ pub(crate) fn plan_waiting(
 /// part of the plan.
 pub(crate) fn plan_vote(
     core: &NodeCore,
-    came: Incoming,
+    came: &Incoming,
     tree: TreeNo,
     scratch: &mut Scratch,
 ) -> Result<(), NoMemory>
     // What the caller knows.
-    requires ready { IsCoreReady came.script.now came.letter.now.to.0 core.now }
-    requires due { IsDueAt came.script.now came.letter.now core.now.parts }
-    requires unheld { IsUnheldAt came.letter.now core.now.parts }
+    requires ready { IsCoreReady came.now.script.now came.now.letter.now.to.0 core.now }
+    requires due { IsDueAt came.now.script.now came.now.letter.now core.now.parts }
+    requires unheld { IsUnheldAt came.now.letter.now core.now.parts }
     requires empty { IsEmpty scratch.old }
     // What is planned.
-    ensures { OnOk result (IsVoteStep came.script.now came.letter.now tree core.now (core_in scratch.new)) }
+    ensures { OnOk result (IsVoteStep came.now.script.now came.now.letter.now tree core.now (core_in scratch.new)) }
 {
     let version = asked_version(came.letter, core.parts.turns.update);
     let ops = asked_ops(came.letter, came.script);

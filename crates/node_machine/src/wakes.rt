@@ -14,17 +14,17 @@ use tx_trees::Script;
 /// A Wake, for which a core does nothing.
 pub(crate) fn choose_wake(
     core: &NodeCore,
-    came: Incoming,
+    came: &Incoming,
     tree: TreeNo,
     sub: SubNo,
     scratch: &Scratch,
 ) -> CoreChoice
     // What the caller knows.
-    requires ready { IsCoreReady came.script.now came.letter.now.to.0 core.now }
-    requires body { came.letter.now.body ≡ Wake tree sub }
+    requires ready { IsCoreReady came.now.script.now came.now.letter.now.to.0 core.now }
+    requires body { came.now.letter.now.body ≡ Wake tree sub }
     requires empty { IsEmpty scratch.now }
     // What is planned.
-    ensures { IsOwnChoice came.script.now came.letter.now core.now scratch.now result }
+    ensures { IsOwnChoice came.now.script.now came.now.letter.now core.now scratch.now result }
 {
     let _ = core;
     let _ = scratch;

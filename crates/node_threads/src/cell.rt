@@ -60,17 +60,17 @@ impl<K: ClusterName> Drop for ActorCell<K> {
 // with a copy of the letters for the outbox. If memory runs out, the actor is as it was.
 fn step(
     state: &mut ActorState,
-    came: Incoming,
+    came: &Incoming,
     scratch: &mut Scratch,
 ) -> Result<(StepOut, Letters), NoMemory>
     requires empty { IsEmpty scratch.old }
-    requires addressed { IsAddressed came.script.now came.letter.now (actor_data state.old) }
-    requires script { IsFor came.script.now state.old }
+    requires addressed { IsAddressed came.now.script.now came.now.letter.now (actor_data state.old) }
+    requires script { IsFor came.now.script.now state.old }
     requires small { CountsBelow MOST_COUNT (actor_data state.old) }
     ensures row { IfOk result
-        (λ r. made (actor_data state.new) r.0 ≡ row_at came.script.now came.letter.now state.old) }
+        (λ r. made (actor_data state.new) r.0 ≡ row_at came.now.script.now came.now.letter.now state.old) }
     ensures copy { IfOk result (λ r. r.1 ≡ r.0.sent) }
-    ensures script { OnOk result (IsFor came.script.now state.new) }
+    ensures script { OnOk result (IsFor came.now.script.now state.new) }
     ensures err { OnErr result (state.new ≡ state.old) }
     ensures empty { OnOk result (IsEmpty scratch.new) }
 {
@@ -147,7 +147,7 @@ impl<K: ClusterName> ActorCell<K> {
             letter: envelope.letter(),
             script,
         };
-        let Ok((out, copy)) = step(&mut self.state, came, &mut self.scratch) else {
+        let Ok((out, copy)) = step(&mut self.state, &came, &mut self.scratch) else {
             wipe(&mut self.scratch);
             return Err((NoMemory, envelope));
         };

@@ -54,19 +54,19 @@ pub(crate) fn get_values(
 /// Plans what a node does with a message that asks it for a subtransaction of a read tree (docs/ALGORITHM.md, "Nodes"),
 /// before the tree is answered. False exactly if the operations may not be made; then nothing goes out. After out of
 /// memory the scratch may hold a part of the plan.
-pub fn plan_read(node: &NodeParts, came: Incoming, scratch: &mut Scratch) -> Result<bool, NoMemory>
+pub fn plan_read(node: &NodeParts, came: &Incoming, scratch: &mut Scratch) -> Result<bool, NoMemory>
     // What the caller knows.
-    requires ready { IsReady came.script.now came.letter.now.to.0 node.now }
-    requires due { IsDueAt came.script.now came.letter.now node.now }
+    requires ready { IsReady came.now.script.now came.now.letter.now.to.0 node.now }
+    requires due { IsDueAt came.now.script.now came.now.letter.now node.now }
     requires unanswered { scratch.old.answered ≡ None }
     requires none_staged { scratch.old.staged ≡ [] }
     requires no_values { scratch.old.values ≡ [] }
     requires none_sent { scratch.old.sent ≡ [] }
     requires no_acts { scratch.old.acts ≡ [] }
     // What is planned.
-    ensures can { IfOk result (λ can. can ≡ can_read came.script.now (data_of node.now) came.letter.now.body) }
+    ensures can { IfOk result (λ can. can ≡ can_read came.now.script.now (data_of node.now) came.now.letter.now.body) }
     ensures part { IfOk result
-        (λ can. OnTrue can (IsReadPartPlan came.script.now came.letter.now node.now scratch.new)) }
+        (λ can. OnTrue can (IsReadPartPlan came.now.script.now came.now.letter.now node.now scratch.new)) }
     ensures none { IfOk result (λ can. OnFalse can (out_in scratch.new ≡ record { sent = []; acts = [] })) }
     ensures rest { OnOk result (ChangesPart scratch.old scratch.new) }
 {

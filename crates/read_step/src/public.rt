@@ -26,14 +26,14 @@ use tx_trees::Script;
 /// it. After out of memory the node is as it was.
 fn step_read(
     node: &mut NodeParts,
-    came: Incoming,
+    came: &Incoming,
     version: Version,
     values: Values,
 ) -> Result<Step, NoMemory>
-    requires ready { IsReady came.script.now came.letter.now.to.0 node.old }
-    requires due { IsDueAt came.script.now came.letter.now node.old }
+    requires ready { IsReady came.now.script.now came.now.letter.now.to.0 node.old }
+    requires due { IsDueAt came.now.script.now came.now.letter.now node.old }
     requires near { IsTrue (in_window node.old.turns.low.0 version.0) }
-    ensures { IsDoneTwice (read_done_at came.script.now came.letter.now version values node.old)
+    ensures { IsDoneTwice (read_done_at came.now.script.now came.now.letter.now version values node.old)
         node.old node.new result }
 {
     let within = InVersion {
@@ -89,7 +89,7 @@ pub fn run_read(
         letter,
         script,
     };
-    let step = step_read(&mut node, came, version, values);
+    let step = step_read(&mut node, &came, version, values);
     *counters = node.counters;
     *homes = node.homes;
     step

@@ -76,13 +76,13 @@ pub struct SubTurn {
 /// answered. If no memory is found, the scratch may have anything.
 pub fn plan_tree(
     node: &NodeParts,
-    came: Incoming,
+    came: &Incoming,
     turn: SubTurn,
     scratch: &mut Scratch,
 ) -> Result<(), NoMemory>
     // What the caller knows.
-    requires ready { IsReady came.script.now came.letter.now.to.0 node.now }
-    requires due { IsDueAt came.script.now came.letter.now node.now }
+    requires ready { IsReady came.now.script.now came.now.letter.now.to.0 node.now }
+    requires due { IsDueAt came.now.script.now came.now.letter.now node.now }
     requires near { IsTrue (in_window node.now.turns.low.0 turn.within.version.0) }
     requires fits { IsWindowedTable node.now.turns.low.0 (pending scratch.old.staged node.now.items) }
     requires unanswered { scratch.old.answered ≡ None }
@@ -90,7 +90,7 @@ pub fn plan_tree(
     requires none_sent { scratch.old.sent ≡ [] }
     requires no_acts { scratch.old.acts ≡ [] }
     // What is planned.
-    ensures part { OnOk result (IsTreePlanAt came.script.now came.letter.now turn node.now scratch.old scratch.new) }
+    ensures part { OnOk result (IsTreePlanAt came.now.script.now came.now.letter.now turn node.now scratch.old scratch.new) }
     ensures rest { OnOk result (ChangesPart scratch.old scratch.new) }
 {
     let version = turn.within.version;

@@ -19,10 +19,10 @@ use tx_trees::Script;
 
 /// Plans the step, with the answer to the client, and does it. A message whose operations may not be made changes and
 /// sends nothing. After out of memory the node is as it was.
-fn step_update(node: &mut NodeParts, came: Incoming) -> Result<Step, NoMemory>
-    requires ready { IsReady came.script.now came.letter.now.to.0 node.old }
-    requires due { IsDueAt came.script.now came.letter.now node.old }
-    ensures { IsDoneTwice (update_at came.script.now came.letter.now node.old) node.old node.new result }
+fn step_update(node: &mut NodeParts, came: &Incoming) -> Result<Step, NoMemory>
+    requires ready { IsReady came.now.script.now came.now.letter.now.to.0 node.old }
+    requires due { IsDueAt came.now.script.now came.now.letter.now node.old }
+    ensures { IsDoneTwice (update_at came.now.script.now came.now.letter.now node.old) node.old node.new result }
 {
     let mut scratch = new_scratch(came.alloc);
     if !plan_update(node, came, &mut scratch)? {
@@ -71,7 +71,7 @@ pub fn run_update(
         letter,
         script,
     };
-    let step = step_update(&mut node, came);
+    let step = step_update(&mut node, &came);
     *turns = node.turns;
     *items = node.items;
     *counters = node.counters;

@@ -108,12 +108,12 @@ impl ActorState {
 /// what a node takes to open a tree at its home, for locks, held answers and negative votes, and to defer a message.
 pub fn actor_plan(
     state: &ActorState,
-    came: Incoming,
+    came: &Incoming,
     scratch: &mut Scratch,
 ) -> Result<ActorPlan, NoMemory>
-    requires may { MayTake came.script.now came.letter.now MOST_COUNT state.now }
+    requires may { MayTake came.now.script.now came.now.letter.now MOST_COUNT state.now }
     requires empty { IsEmpty scratch.old }
-    ensures { IfOk result (λ plan. IsActorStepOf came.script.now came.letter.now state.now plan scratch.new) }
+    ensures { IfOk result (λ plan. IsActorStepOf came.now.script.now came.now.letter.now state.now plan scratch.new) }
 {
     match state {
         ActorState::Node(node) => {

@@ -148,13 +148,13 @@ impl NodeState {
     }
 
     /// Plans what the node does with a message: its row of the node's table. It changes nothing but the scratch.
-    pub(crate) fn plan(&self, came: Incoming, scratch: &mut Scratch) -> Result<NodePlan, NoMemory>
-        requires node { came.letter.now.to.0 < came.script.now.nodes }
-        requires kept { AreKeptAt came.letter.now.to.0 self.now.kept }
-        requires script { IsOf came.script.now self.now.core.parts }
+    pub(crate) fn plan(&self, came: &Incoming, scratch: &mut Scratch) -> Result<NodePlan, NoMemory>
+        requires node { came.now.letter.now.to.0 < came.now.script.now.nodes }
+        requires kept { AreKeptAt came.now.letter.now.to.0 self.now.kept }
+        requires script { IsOf came.now.script.now self.now.core.parts }
         requires below { AllBelow MOST_COUNT (counts_of self.now.core.parts.counters).numbers }
         requires empty { IsEmpty scratch.old }
-        ensures { IfOk result (λ plan. IsLetterPlan came.script.now came.letter.now self.now plan scratch.new) }
+        ensures { IfOk result (λ plan. IsLetterPlan came.now.script.now came.now.letter.now self.now plan scratch.new) }
     {
         plan_letter(&self.node, came, scratch)
     }

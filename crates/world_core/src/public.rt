@@ -50,7 +50,7 @@ pub fn actor_step(
         letter,
         script,
     };
-    let plan = actor_plan(state, came, &mut scratch)?;
+    let plan = actor_plan(state, &came, &mut scratch)?;
     let kept = StepOut {
         sent: copy_letters(alloc, plan.sent(&scratch))?,
         acts: copy_acts(alloc, plan.acts(&scratch))?,

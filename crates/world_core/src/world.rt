@@ -127,14 +127,14 @@ fn state_at(actors: &Vec<ActorState>, actor: ActorNo) -> &ActorState
 /// Plans what the addressee of a message does with it.
 fn plan(
     actors: &Vec<ActorState>,
-    came: Incoming,
+    came: &Incoming,
     scratch: &mut Scratch,
 ) -> Result<ActorPlan, NoMemory>
-    requires here { came.letter.now.to.0 < length actors.now.items }
-    requires may { IfSome (slice_get actors.now.items came.letter.now.to.0)
-        (MayTake came.script.now came.letter.now MOST_COUNT) }
+    requires here { came.now.letter.now.to.0 < length actors.now.items }
+    requires may { IfSome (slice_get actors.now.items came.now.letter.now.to.0)
+        (MayTake came.now.script.now came.now.letter.now MOST_COUNT) }
     requires empty { IsEmpty scratch.old }
-    ensures { IfOk result (λ plan. IsPlanFor came.script.now came.letter.now actors.now.items plan scratch.new) }
+    ensures { IfOk result (λ plan. IsPlanFor came.now.script.now came.now.letter.now actors.now.items plan scratch.new) }
 {
     let state = state_at(actors, came.letter.to);
     let plan = actor_plan(state, came, scratch)?;
@@ -254,7 +254,7 @@ fn advance(
         letter,
         script,
     };
-    let plan = plan(&flow.actors, came, scratch)?;
+    let plan = plan(&flow.actors, &came, scratch)?;
     make_room(&mut flow.bag, plan.sent(scratch).items().len())?;
     flow.history.push(placeholder(alloc, stamp))?;
     match pass(alloc, flow, stamp, actor, plan, scratch) {

@@ -6,7 +6,6 @@ use Rattle.world_model.specs.Strict.{release_letters}
 use Rattle.tree_home.specs.declared.homes.Answered.{Answered}
 use Rattle.tx_trees.specs.ScriptData.{client_of}
 use Rattle.tree_step.specs.declared.plan.Plan.{Plan}
-use Rattle.tree_step.specs.declared.plan.Scratch.{Scratch}
 use Rattle.node_machine.proofs.tree_rows.AnswerOrDecisionPlans.{answered_planned}
 use Rattle.node_machine.specs.Answering.{IsAnsweredPlan}
 use Rattle.node_machine.proofs.answers.plan_answered.Goals as goal

@@ -12,8 +12,8 @@ use Rattle.node_machine.proofs.decisions.choose_acked.Goals as goal
 
 pub returns-then-not-acked_apt : goal.returns-then-not-acked_apt
 returns-then-not-acked_apt c =
-    let s = c.args.came.script.now in
-    let l = c.args.came.letter.now in
+    let s = c.args.came.now.script.now in
+    let l = c.args.came.now.letter.now in
     let n = c.args.core.now in
     let a = c.args.acked in
     plan_one s l n (Decided a.tree a.version) _ Still c.requires.body
@@ -21,8 +21,8 @@ returns-then-not-acked_apt c =
 
 pub plan_acked-requires-clause-ready : goal.plan_acked-requires-clause-ready
 plan_acked-requires-clause-ready c =
-    let s = c.args.came.script.now in
-    let l = c.args.came.letter.now in
+    let s = c.args.came.now.script.now in
+    let l = c.args.came.now.letter.now in
     let n = c.args.core.now in
     let a = c.args.acked in
     let is = is_ack s l.to.0 l.from.0 (core_of n) a.tree a.version (sym c.if-not-acked_apt.ensures) in
@@ -31,13 +31,13 @@ plan_acked-requires-clause-ready c =
 pub plan_acked-requires-clause-near : goal.plan_acked-requires-clause-near
 plan_acked-requires-clause-near c =
     let a = c.args.acked in
-    (is_ack c.args.came.script.now c.args.came.letter.now.to.0 c.args.came.letter.now.from.0 (core_of c.args.core.now) a.tree a.version
+    (is_ack c.args.came.now.script.now c.args.came.now.letter.now.to.0 c.args.came.now.letter.now.from.0 (core_of c.args.core.now) a.tree a.version
     (sym c.if-not-acked_apt.ensures)).near
 
 pub returns : goal.returns
 returns c =
-    let s = c.args.came.script.now in
-    let l = c.args.came.letter.now in
+    let s = c.args.came.now.script.now in
+    let l = c.args.came.now.letter.now in
     let n = c.args.core.now in
     let a = c.args.acked in
     let plan = core_in c.plan_acked.new.scratch in

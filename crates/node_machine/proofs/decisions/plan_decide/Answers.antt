@@ -17,9 +17,9 @@ use Rattle.node_machine.proofs.decisions.plan_decide.Goals as goal
 
 pub returns : goal.returns
 returns c =
-    let s = c.args.came.script.now in
+    let s = c.args.came.now.script.now in
     let n = c.args.core.now in
-    let l = c.args.came.letter.now in
+    let l = c.args.came.now.letter.now in
     let d = c.args.decision in
     let from : NodeNo = record { 0 = l.from.0 } in
     let letter : Outgoing = record { to = record { 0 = c.home_of.result }; body = Decided d.tree d.version } in

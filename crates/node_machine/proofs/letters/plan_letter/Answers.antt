@@ -17,23 +17,23 @@ use Rattle.node_machine.proofs.letters.plan_letter.Goals as goal
 pub choose_core-requires-clause-ready : goal.choose_core-requires-clause-ready
 choose_core-requires-clause-ready c =
     let n = c.args.node.now in
-    subst (λ (p : ℕ). IsCoreReady c.args.came.script.now p n.core)
-    (sym (brought_to n.kept c.args.came.letter.now c.in-Some.brought.now c.requires.ready.kept (sym c.in-Some.ensures)))
+    subst (λ (p : ℕ). IsCoreReady c.args.came.now.script.now p n.core)
+    (sym (brought_to n.kept c.args.came.now.letter.now c.in-Some.brought.now c.requires.ready.kept (sym c.in-Some.ensures)))
     c.requires.ready.core
 
 pub plan_keep-requires-clause-asks : goal.plan_keep-requires-clause-asks
 plan_keep-requires-clause-asks c =
     let core = core_of c.args.node.now.core in
     let plan = rw c.in-Keeps.is at c.in_ok-choose_core.ensures in
-    kept_asks c.args.came.script.now core c.in-Some.brought.now.body
+    kept_asks c.args.came.now.script.now core c.in-Some.brought.now.body
     (kept_core (kept_by_plan c.in-Keeps.keep c.choose_core.new.scratch.acts) core) plan.kept
 
 pub returns-in-Keeps : goal.returns-in-Keeps
 returns-in-Keeps c =
     let n = c.args.node.now in
-    let l = c.args.came.letter.now in
+    let l = c.args.came.now.letter.now in
     let r = c.in-Some.brought.now in
-    let s = c.args.came.script.now in
+    let s = c.args.came.now.script.now in
     let k = kept_by_plan c.in-Keeps.keep c.choose_core.new.scratch.acts in
     let to = brought_to n.kept l r c.requires.ready.kept (sym c.in-Some.ensures) in
     let plan = rw c.in-Keeps.is at c.in_ok-choose_core.ensures in
@@ -44,9 +44,9 @@ returns-in-Keeps c =
 pub returns-in-Does : goal.returns-in-Does
 returns-in-Does c =
     let n = c.args.node.now in
-    let l = c.args.came.letter.now in
+    let l = c.args.came.now.letter.now in
     let r = c.in-Some.brought.now in
-    let s = c.args.came.script.now in
+    let s = c.args.came.now.script.now in
     let done = core_in c.choose_core.new.scratch in
     let to = brought_to n.kept l r c.requires.ready.kept (sym c.in-Some.ensures) in
     let plan = rw c.in-Does.is at c.in_ok-choose_core.ensures in

@@ -3,5 +3,5 @@ use Rattle.node_machine.proofs.orders.choose_other.Goals as goal
 
 pub returns : goal.returns
 returns c =
-    other_plan c.args.came.script.now c.args.came.letter.now c.args.core.now c.args.scratch.now c.requires.ready c.requires.other
+    other_plan c.args.came.now.script.now c.args.came.now.letter.now c.args.core.now c.args.scratch.now c.requires.ready c.requires.other
     c.requires.empty

@@ -11,8 +11,8 @@ use Rattle.node_machine.proofs.questions.choose_done_row.Goals as goal
 
 pub returns : goal.returns
 returns c =
-    let s = c.args.came.script.now in
-    let l = c.args.came.letter.now in
+    let s = c.args.came.now.script.now in
+    let l = c.args.came.now.letter.now in
     let n = c.args.core.now in
     let v = c.args.asked.version in
     let k = c.args.asked.round in

@@ -16,19 +16,19 @@ use Rattle.node_machine.proofs.subs.choose_kind.Goals as goal
 
 pub returns-in_default : goal.returns-in_default
 returns-in_default c =
-    let s = c.args.came.script.now in
-    subst (λ (k : Option TreeKind). makes_by s (data_of c.args.core.now.parts) c.args.came.letter.now.body k ≡ false)
+    let s = c.args.came.now.script.now in
+    subst (λ (k : Option TreeKind). makes_by s (data_of c.args.core.now.parts) c.args.came.now.letter.now.body k ≡ false)
     (rw c.in_default.is at c.kind_of-found.ensures) refl
 
 pub returns-in-Update : goal.returns-in-Update
 returns-in-Update c =
-    kind_plan c.args.came.script.now c.args.came.letter.now c.args.core.now c.choose_update.new.scratch c.args.tree (Some Update)
+    kind_plan c.args.came.now.script.now c.args.came.now.letter.now c.args.core.now c.choose_update.new.scratch c.args.tree (Some Update)
     c.choose_update.result (rw (c.in-Some.is, c.in-Update.is) at c.kind_of-found.ensures) c.choose_update.ensures
 
 pub returns-in-Read : goal.returns-in-Read
 returns-in-Read c =
-    let s = c.args.came.script.now in
-    let l = c.args.came.letter.now in
+    let s = c.args.came.now.script.now in
+    let l = c.args.came.now.letter.now in
     let n = c.args.core.now in
     let x = c.choose_read.new.scratch in
     kind_plan s l n x c.args.tree (Some Read) c.choose_read.result
@@ -40,5 +40,5 @@ returns-in-Read c =
 
 pub returns-in-Strict : goal.returns-in-Strict
 returns-in-Strict c =
-    kind_plan c.args.came.script.now c.args.came.letter.now c.args.core.now c.choose_strict.new.scratch c.args.tree (Some Strict)
+    kind_plan c.args.came.now.script.now c.args.came.now.letter.now c.args.core.now c.choose_strict.new.scratch c.args.tree (Some Strict)
     c.choose_strict.result (rw (c.in-Some.is, c.in-Strict.is) at c.kind_of-found.ensures) c.choose_strict.ensures

@@ -10,13 +10,13 @@ use Rattle.node_machine.proofs.subs.plan_read_tree.Goals as goal
 
 pub plan_answered-requires-clause-apart : goal.plan_answered-requires-clause-apart
 plan_answered-requires-clause-apart c =
-    let s = c.args.came.script.now in
+    let s = c.args.came.now.script.now in
     let n = c.args.core.now in
-    let body = c.args.came.letter.now.body in
+    let body = c.args.came.now.letter.now.body in
     let st = data_of n.parts in
     let v = asked_version st.turns.read body in
     let part = OnTrue_at c.if-not-branch.false c.in_ok-plan_read.ensures.part in
     apart_part (part_meant c.plan_read.new.scratch) n
-    (read_part s c.args.came.letter.now.to.0 st c.args.came.letter.now.from.0 body) part.row
-    (apart_tree s c.args.came.letter.now.to.0 c.args.came.letter.now.from.0 v false (getting v (asked_ops s body) st.items) body st
+    (read_part s c.args.came.now.letter.now.to.0 st c.args.came.now.letter.now.from.0 body) part.row
+    (apart_tree s c.args.came.now.letter.now.to.0 c.args.came.now.letter.now.from.0 v false (getting v (asked_ops s body) st.items) body st
     (held_answers n.parts.homes) c.requires.unheld c.requires.ready.apart)

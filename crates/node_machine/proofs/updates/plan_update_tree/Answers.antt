@@ -16,24 +16,24 @@ use Rattle.node_machine.proofs.updates.plan_update_tree.Goals as goal
 
 pub plan_answered-requires-clause-apart : goal.plan_answered-requires-clause-apart
 plan_answered-requires-clause-apart c =
-    let s = c.args.came.script.now in
+    let s = c.args.came.now.script.now in
     let n = c.args.core.now in
-    let body = c.args.came.letter.now.body in
+    let body = c.args.came.now.letter.now.body in
     let st = data_of n.parts in
     let v = asked_version st.turns.update body in
     let part = OnTrue_at c.if-not-branch.false c.in_ok-plan_update.ensures.part in
     apart_part (part_meant c.plan_update.new.scratch) n
-    (update_part s c.args.came.letter.now.to.0 st c.args.came.letter.now.from.0 body) part.row
-    (apart_tree s c.args.came.letter.now.to.0 c.args.came.letter.now.from.0 v (nat_lt st.turns.update.0 v.0)
+    (update_part s c.args.came.now.letter.now.to.0 st c.args.came.now.letter.now.from.0 body) part.row
+    (apart_tree s c.args.came.now.letter.now.to.0 c.args.came.now.letter.now.from.0 v (nat_lt st.turns.update.0 v.0)
     (touching v (asked_ops s body) st.items) body st (held_answers n.parts.homes) c.requires.unheld
     c.requires.ready.apart)
 
 pub returns-clause-step : goal.returns-clause-step
 returns-clause-step c =
-    let s = c.args.came.script.now in
+    let s = c.args.came.now.script.now in
     let n = c.args.core.now in
     let x = c.plan_update.new.scratch in
-    let wanted : x.wanted ≡ marks_of s (asked_ops s c.args.came.letter.now.body) =
+    let wanted : x.wanted ≡ marks_of s (asked_ops s c.args.came.now.letter.now.body) =
     ap (λ (y : Scratch). y.wanted) c.in_ok-plan_update.ensures.rest ∙ c.in_ok-push_marks.ensures
     ∙ ap (λ (ops : List SubOp). marks_of s ops) c.asked_ops.ensures in
     let part = OnTrue_at c.if-not-branch.false c.in_ok-plan_update.ensures.part in

@@ -44,9 +44,9 @@ plan_tree-requires-clause-no_acts c =
 
 pub plan_decided-requires-clause-apart : goal.plan_decided-requires-clause-apart
 plan_decided-requires-clause-apart c =
-    let s = c.args.came.script.now in
+    let s = c.args.came.now.script.now in
     let n = c.args.core.now in
-    let l = c.args.came.letter.now in
+    let l = c.args.came.now.letter.now in
     let staged = c.change_by.new.scratch.staged in
     let e : Effect = record { items = pending staged n.parts.items; notice = c.notice_by.result } in
     apart_part (part_meant c.plan_tree.new.scratch) n
@@ -57,9 +57,9 @@ plan_decided-requires-clause-apart c =
 
 pub plan_decided-requires-clause-decide : goal.plan_decided-requires-clause-decide
 plan_decided-requires-clause-decide c =
-    let s = c.args.came.script.now in
+    let s = c.args.came.now.script.now in
     let n = c.args.core.now in
-    let l = c.args.came.letter.now in
+    let l = c.args.came.now.letter.now in
     let staged = c.change_by.new.scratch.staged in
     let e : Effect = record { items = pending staged n.parts.items; notice = c.notice_by.result } in
     let low = n.parts.turns.low.0 in
@@ -79,9 +79,9 @@ plan_decided-requires-clause-none_told c =
 
 pub returns : goal.returns
 returns c =
-    let s = c.args.came.script.now in
+    let s = c.args.came.now.script.now in
     let n = c.args.core.now in
-    let l = c.args.came.letter.now in
+    let l = c.args.came.now.letter.now in
     let before = c.change_by.new.scratch in
     let x = c.plan_tree.new.scratch in
     let none = ap (λ (w : Scratch). w.staged) c.in_ok-votes.ensures.rest

@@ -12,28 +12,28 @@ use Rattle.read_step.proofs.plan.plan_read.Goals as goal
 pub plan_tree-requires-clause-near : goal.plan_tree-requires-clause-near
 plan_tree-requires-clause-near c =
     let n = c.args.node.now in
-    let l = c.args.came.letter.now in
+    let l = c.args.came.now.letter.now in
     let low = n.turns.low.0 in
     let root = in_window-is low n.turns.read.0 c.requires.ready.window.low_read c.requires.ready.window.read in
-    let near = asked_near c.args.came.script.now l.to.0 l.from.0 (data_of n) l.body n.turns.read root c.requires.due in
+    let near = asked_near c.args.came.now.script.now l.to.0 l.from.0 (data_of n) l.body n.turns.read root c.requires.due in
     subst (λ (v : Version). in_window low v.0 ≡ true) (sym c.asked_version-version.ensures) near
 
 pub returns-clause-can : goal.returns-clause-can
 returns-clause-can c =
     rw c.in-Some.is at c.in_ok-values.ensures.can
-    ∙ gettable c.args.came.script.now c.args.came.letter.now.body (data_of c.args.node.now) c.asked_version-version.result
+    ∙ gettable c.args.came.now.script.now c.args.came.now.letter.now.body (data_of c.args.node.now) c.asked_version-version.result
     c.asked_ops-ops.result.now c.asked_version-version.ensures c.asked_ops-ops.ensures
 
 pub returns-clause-part : goal.returns-clause-part
 returns-clause-part c =
     let n = c.args.node.now in
-    let l = c.args.came.letter.now in
+    let l = c.args.came.now.letter.now in
     let none = c.requires.none_staged in
     let got = rw c.in-Some.is at c.in_ok-values.ensures.values in
     let e : Effect = record { items = pending c.args.scratch.now.staged n.items; notice = Did c.in-Some.values } in
     record {
       row =
-          part_read c.args.came.script.now l.to.0 l.from.0 l.body (data_of n) c.asked_version-version.result
+          part_read c.args.came.now.script.now l.to.0 l.from.0 l.body (data_of n) c.asked_version-version.result
           c.asked_ops-ops.result.now e _ c.asked_version-version.ensures c.asked_ops-ops.ensures
           (λ i. record { items = pending (none i) n.items; notice = Did (got i) }) c.in_ok-plan_tree.ensures.part.row;
       may = c.in_ok-plan_tree.ensures.part.may;

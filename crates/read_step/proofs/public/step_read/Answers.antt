@@ -17,8 +17,8 @@ plan_tree-requires-clause-fits c =
 
 pub returns : goal.returns
 returns c =
-    let s = c.args.came.script.now in
-    let l = c.args.came.letter.now in
+    let s = c.args.came.now.script.now in
+    let l = c.args.came.now.letter.now in
     let n = c.args.node.now in
     let done = c.in_ok-step.ensures in
     record {

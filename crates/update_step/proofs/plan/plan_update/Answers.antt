@@ -8,31 +8,31 @@ use Rattle.update_step.proofs.plan.plan_update.Goals as goal
 
 pub stage_ops-requires-clause-near : goal.stage_ops-requires-clause-near
 stage_ops-requires-clause-near c =
-    let l = c.args.came.letter.now in
-    asked_within c.args.came.script.now l.to.0 l.from.0 c.args.node.now l.body c.asked_version-version.result c.requires.ready
+    let l = c.args.came.now.letter.now in
+    asked_within c.args.came.now.script.now l.to.0 l.from.0 c.args.node.now l.body c.asked_version-version.result c.requires.ready
     c.requires.due c.asked_version-version.ensures
 
 pub plan_tree-requires-clause-near : goal.plan_tree-requires-clause-near
 plan_tree-requires-clause-near c =
-    let l = c.args.came.letter.now in
-    asked_within c.args.came.script.now l.to.0 l.from.0 c.args.node.now l.body c.asked_version-version.result c.requires.ready
+    let l = c.args.came.now.letter.now in
+    asked_within c.args.came.now.script.now l.to.0 l.from.0 c.args.node.now l.body c.asked_version-version.result c.requires.ready
     c.requires.due c.asked_version-version.ensures
 
 pub returns-clause-can : goal.returns-clause-can
 returns-clause-can c =
     sym c.if-not-branch.false ∙ c.in_ok-stage_ops.ensures.can
-    ∙ touchable c.args.came.script.now c.args.came.letter.now.body (data_of c.args.node.now) c.asked_version-version.result
+    ∙ touchable c.args.came.now.script.now c.args.came.now.letter.now.body (data_of c.args.node.now) c.asked_version-version.result
     c.asked_ops-ops.result.now c.asked_version-version.ensures c.asked_ops-ops.ensures
 
 pub returns-clause-part : goal.returns-clause-part
 returns-clause-part c =
-    let l = c.args.came.letter.now in
+    let l = c.args.came.now.letter.now in
     let n = c.args.node.now in
     let e : Effect = record { items = pending c.stage_ops.new.staged n.items; notice = Did c.new.result } in
     let made = OnTrue_at c.if-not-branch.false c.in_ok-stage_ops.ensures.after in
     record {
       row =
-          updated c.args.came.script.now l.to.0 l.from.0 l.body (data_of n) c.asked_version-version.result
+          updated c.args.came.now.script.now l.to.0 l.from.0 l.body (data_of n) c.asked_version-version.result
           c.asked_ops-ops.result.now c.is_above-raises.result e _ c.asked_version-version.ensures c.asked_ops-ops.ensures
           c.is_above-raises.ensures (λ i. record { items = made i; notice = Did (c.new.ensures i) })
           c.in_ok-plan_tree.ensures.part.row;
