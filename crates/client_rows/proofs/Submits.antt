@@ -18,7 +18,7 @@ use Rattle.tx_trees.specs.Counts.{is_lossy}
 use Rattle.client_rows.specs.News.{answered_after, ended_after, client_with_news, sent_first}
 use Rattle.client_rows.specs.inside.Heard.{heard_of, heard_row, submit_at}
 use Rattle.client_rows.specs.inside.Places.{is_over}
-use Rattle.client_rows.specs.inside.Places.{place_at, knowing, furthest}
+use Rattle.client_rows.specs.inside.Places.{place_at, knowing, furthest, furthest_place}
 use Rattle.client_rows.specs.declared.news.News.{News}
 use Rattle.client_rows.specs.declared.news.News.TheVariants.{Answered, Ended, EndedTo}
 use Rattle.client_rows.specs.declared.news.Heard.TheVariants.{Nothing, Told, Asked}
@@ -91,16 +91,25 @@ state_after news c at ends = record {
   finished = c.finished || ends;
 }
 
+-- the client finishes at the place that it comes to exactly if its table says so
+pub finish_at : (s : ScriptData) (news : News) (c : Client) (at : RowPlace) (ends : Bool)
+    → at ≡ furthest_place s.rows (answered_after news c.answered) (ended_after news c.ended) c.next
+    → ends ≡ ((at.next == length s.rows) && (is_over at (ended_after news c.ended) && not c.finished))
+    → ends ≡ client_finishes s (next_after s (client_with_news news c)) (client_with_news news c)
+finish_at s news c at ends place finish =
+    let after : Client = client_with_news news c in
+    let next : at.next ≡ next_after s after = ap (λ (p : RowPlace). p.next) place ∙ sym (next_after-furthest s after) in
+    let here : at ≡ place_at s.rows after.answered at.next =
+    place ∙ ap (place_at s.rows after.answered) (sym (ap (λ (p : RowPlace). p.next) place)) in
+    finish ∙ finishes-place s after at here (at.next == length s.rows) refl ∙ ap (λ (n : ℕ). client_finishes s n after) next
+
 pub submission-row : (s : ScriptData) (news : News) (c : Client) (at : RowPlace) (ends : Bool) (out : StepOut)
     → Submission s news c at ends out → made (state_after news c at ends) out ≡ submit_at s news c
 submission-row s news c at ends out made_here =
     let after : Client = client_with_news news c in
     let next : at.next ≡ next_after s after = ap (λ (p : RowPlace). p.next) made_here.place ∙ sym (next_after-furthest s after) in
-    let here : at ≡ place_at s.rows after.answered at.next =
-    made_here.place ∙ ap (place_at s.rows after.answered) (sym (ap (λ (p : RowPlace). p.next) made_here.place)) in
     let finish : ends ≡ client_finishes s (next_after s after) after =
-    made_here.finish ∙ finishes-place s after at here (at.next == length s.rows) refl
-    ∙ ap (λ (n : ℕ). client_finishes s n after) next in
+    finish_at s news c at ends made_here.place made_here.finish in
     let many : at.next - c.next ≡ submitted after (take c.next s.rows) (drop c.next s.rows) = omega (arith, next) in
     same_row (answered_after news c.answered) (ended_after news c.ended) at.next (next_after s after)
     (c.finished || ends) (c.finished || client_finishes s (next_after s after) after)

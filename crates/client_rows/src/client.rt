@@ -1,10 +1,11 @@
 // The client: it submits the script's rows.
-ghost use Rattle.std.specs.Prelude.{◌≡◌, ◌==◌, ◌&&◌, length, not, IfOk};
-ghost use Rattle.world_model.specs.Client.{client_row, start_client, wanted};
+ghost use Rattle.std.specs.Prelude.{◌≡◌, ◌==◌, ◌&&◌, ◌≤◌, length, not, IfOk};
+ghost use Rattle.world_model.specs.Client.{client_finishes, client_row, next_after, start_client, wanted};
 ghost use Rattle.client_rows.specs.Changes.{IsClientStepOf, after_client_change};
 ghost use Rattle.client_rows.specs.Kept.{IsKeptOf, kept_of};
+ghost use Rattle.client_rows.specs.News.{answered_after, client_with_news, ended_after};
 ghost use Rattle.client_rows.specs.inside.Heard.{submit_at};
-ghost use Rattle.client_rows.specs.inside.Places.{is_over};
+ghost use Rattle.client_rows.specs.inside.Places.{furthest_place, is_over};
 
 use crate::change::{ClientChange, ClientPrepared};
 use crate::letters;
@@ -20,7 +21,7 @@ use tx_trees::{Script, ScriptRow};
 #[derive(Drop)]
 pub struct Client {
     at: RowPlace,
-    answered: Vec<bool>,
+    pub(crate) answered: Vec<bool>,
     ended: u64,
     pub(crate) finished: bool,
 }
@@ -90,17 +91,41 @@ impl Client {
             (IsClientStepOf script.now (submit_at script.now news self.now.client) self.now) }
     {
         let _valid = script.nodes();
+        let at = self.reaches(news, script);
         let rows = script.rows();
-        let ended = ended_after(news, self.ended);
-        let known = with_news(rows, &self.answered, news, self.at);
-        let at = furthest(rows, &self.answered, news, ended, known);
-        let finishes = finishes(rows, at, ended, self.finished);
+        let finishes = finishes(rows, at, ended_after(news, self.ended), self.finished);
         let submitted = &rows[self.at.next..at.next];
         let out = letters::out(alloc, script, news, self.at.asked, submitted, finishes)?;
         Ok(ClientPrepared {
             change: ClientChange::Submit { news, at, finishes },
             out,
         })
+    }
+
+    /// How far it comes at news: the place after the last row that it may submit then.
+    fn reaches(&self, news: News, script: &Script) -> RowPlace
+        requires { IsKeptOf script.now self.now }
+        ensures forward { self.now.client.next ≤ result.next }
+        ensures within { result.next ≤ length script.now.rows }
+        ensures place { result ≡ furthest_place script.now.rows (answered_after news self.now.client.answered)
+            (ended_after news self.now.client.ended) self.now.client.next }
+    {
+        let _valid = script.nodes();
+        let rows = script.rows();
+        let ended = ended_after(news, self.ended);
+        let known = with_news(rows, &self.answered, news, self.at);
+        furthest(rows, &self.answered, news, ended, known)
+    }
+
+    /// Whether it would finish at news.
+    pub(crate) fn finishes_at(&self, news: News, script: &Script) -> bool
+        requires { IsKeptOf script.now self.now }
+        ensures { result ≡ client_finishes script.now (next_after script.now (client_with_news news self.now.client))
+            (client_with_news news self.now.client) }
+    {
+        let at = self.reaches(news, script);
+        let ended = ended_after(news, self.ended);
+        finishes(script.rows(), at, ended, self.finished)
     }
 
     /// Prepares the answer to a coordinator that has forgotten: how many advancements it was asked for.

@@ -44,8 +44,8 @@ any_same : (s : ScriptData) (m : More s) (past : List Entry) (a : ℕ) (b : Bool
 any_same s m past a true is same = ap NodeData (same.nodes a (grind (arith, nat_tests)))
 any_same s m past a false is same = other_same s m past (a == s.nodes) same
 
--- how many trees came
-came : (s t : ScriptData) (e : Extends s t) → length t.trees - length s.trees ≡ length e.trees.0
+-- how many transactions came
+pub came : (s t : ScriptData) (e : Extends s t) → length t.trees - length s.trees ≡ length e.trees.0
 came s t e =
     let all : length t.trees ≡ length (s.trees ++ e.trees.0) = ap (λ (xs : List Tree). length xs) e.trees.1 in
     omega (arith, all, length-append s.trees e.trees.0)

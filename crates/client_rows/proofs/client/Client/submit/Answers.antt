@@ -1,23 +1,18 @@
-use Rattle.std.proofs.Common.{ℕ, ◌≡◌, ◌∙◌, ◌++◌, ◌+◌, ◌-◌, ◌^◌, ◌<◌, ◌≤◌, length, take, drop, sym, ap, subst, List, arith}
+use Rattle.std.proofs.Common.{ℕ, ◌≡◌, ◌∙◌, ◌++◌, ◌+◌, ◌-◌, ◌^◌, ◌<◌, take, drop, sym, ap, subst, List, arith}
 use Rattle.tx_trees.specs.Adding.{advances_in}
 use Rattle.tx_trees.specs.declared.parts.ScriptRow.{ScriptRow}
 use Rattle.client_rows.specs.Changes.{IsClientStepOf}
 use Rattle.world_model.specs.Client.{Client, advances_sent, rows_letters}
 use Rattle.client_rows.specs.Kept.{Kept, IsKeptOf}
 use Rattle.client_rows.specs.Held.{kept_here}
-use Rattle.client_rows.specs.News.{sent_first}
+use Rattle.client_rows.specs.News.{answered_after, ended_after, sent_first}
 use Rattle.client_rows.specs.inside.Heard.{submit_at}
+use Rattle.client_rows.specs.inside.Places.{furthest_place}
 use Rattle.client_rows.specs.declared.change.ClientChange.TheVariants.{Submit}
-use Rattle.client_rows.specs.declared.places.RowPlace.{RowPlace}
 use Rattle.client_rows.proofs.Bounds.{submission-step}
 use Rattle.client_rows.proofs.Counts.{few_more_asked}
-use Rattle.client_rows.proofs.Submits.{Submission, same_place, same_finish}
+use Rattle.client_rows.proofs.Submits.{Submission, same_finish}
 use Rattle.client_rows.proofs.client.Client.submit.Goals as goal
-
-pub furthest-at-requires-clause-few : goal.furthest-at-requires-clause-few
-furthest-at-requires-clause-few c =
-    let few : advances_in c.args.script.now.rows < 2 ^ 32 = omega (arith, c.nodes-valid.ensures.valid.limited.advances) in
-    subst (λ (rows : List ScriptRow). advances_in rows < 2 ^ 32) (sym c.rows-rows.ensures) few
 
 pub out-requires : goal.out-requires
 out-requires c =
@@ -26,34 +21,33 @@ out-requires c =
     let from = held.client.next in
     let kept : IsKeptOf s held = subst (λ (k : Kept). IsKeptOf s k) (sym c.self.view_is) c.requires in
     let asked : held.asked ≡ advances_in (take from s.rows) = ap (λ (k : Kept). k.asked) kept.numbers in
-    let few : held.asked + advances_in (take (c.furthest-at.result.next - from) (drop from s.rows)) < 2 ^ 32 =
-    omega (arith, asked, few_more_asked from (c.furthest-at.result.next - from) s.rows, c.nodes-valid.ensures.valid.limited.advances) in
-    subst (λ (rows : List ScriptRow). held.asked + advances_in (take (c.furthest-at.result.next - from) (drop from rows)) < 2 ^ 32)
+    let few : held.asked + advances_in (take (c.reaches-at.result.next - from) (drop from s.rows)) < 2 ^ 32 =
+    omega (arith, asked, few_more_asked from (c.reaches-at.result.next - from) s.rows, c.nodes-valid.ensures.valid.limited.advances) in
+    subst (λ (rows : List ScriptRow). held.asked + advances_in (take (c.reaches-at.result.next - from) (drop from rows)) < 2 ^ 32)
     (sym c.rows-rows.ensures) few
 
 pub returns : goal.returns
 returns c =
     let s = c.args.script.now in
     let news = c.args.news in
-    let at = c.furthest-at.result in
+    let at = c.reaches-at.result in
     let held : Kept = kept_here c.self.inside in
     let old : Client = held.client in
     let kept : IsKeptOf s held = subst (λ (k : Kept). IsKeptOf s k) (sym c.self.view_is) c.requires in
     let asked : held.asked ≡ advances_sent s old = ap (λ (k : Kept). k.asked) kept.numbers in
-    let from : c.with_news-known.result.next ≡ old.next = ap (λ (p : RowPlace). p.next) c.with_news-known.ensures in
     let made_here : Submission s news old at c.finishes-finishes.result c.in_ok-out.out = record {
-      place = c.furthest-at.ensures.place
-          ∙ same_place news c.rows-rows.ensures c.deref-2.ensures.value c.ended_after-ended.ensures from;
-      finish = c.finishes-finishes.ensures ∙ same_finish at old.finished c.rows-rows.ensures c.ended_after-ended.ensures;
+      place = subst
+          (λ (k : Kept). at ≡ furthest_place s.rows (answered_after news k.client.answered) (ended_after news k.client.ended) k.client.next)
+          (sym c.self.view_is) c.reaches-at.ensures.place;
+      finish = c.finishes-finishes.ensures ∙ same_finish at old.finished c.rows-rows.ensures c.ended_after.ensures;
       sent = c.in_ok-out.ensures.sent
           ∙ ap (λ (k : ℕ). sent_first s news ++ rows_letters s k (take (at.next - old.next) (drop old.next c.rows-rows.result.now))) asked
           ∙ ap (λ (rows : List ScriptRow).
           sent_first s news ++ rows_letters s (advances_sent s old) (take (at.next - old.next) (drop old.next rows))) c.rows-rows.ensures;
       acts = c.in_ok-out.ensures.acts;
     } in
-    let within = subst (λ (rows : List ScriptRow). at.next ≤ length rows) c.rows-rows.ensures c.furthest-at.ensures.within in
     subst
     (λ (k : Kept). IsClientStepOf s (submit_at s news k.client) k
     (record { change = Submit news at c.finishes-finishes.result; out = c.in_ok-out.out }))
     c.self.view_is
-    (submission-step s held news at c.finishes-finishes.result c.in_ok-out.out kept within made_here)
+    (submission-step s held news at c.finishes-finishes.result c.in_ok-out.out kept c.reaches-at.ensures.within made_here)
