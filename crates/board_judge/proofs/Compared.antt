@@ -25,9 +25,9 @@ use Rattle.board_judge.specs.Settled.{IsMoveRun}
 use Rattle.board_judge.proofs.NotedWorth.{if_noted, noted_more}
 use Rattle.board_judge.proofs.OneMore.{settled_born}
 use Rattle.board_judge.specs.declared.noting.NotedStep.{NotedStep}
-use Rattle.board_judge.specs.inside.Rewriting.{HasNoted, IsClosing, IsCompared, IsRewritten, closed_noted}
+use Rattle.board_judge.specs.inside.Rewriting.{HasNoted, HasNotedClosed, IsClosing, IsCompared, IsRewritten, closed_noted}
 use Rattle.board_judge.specs.inside.Steps.{AreClosings, AreNoted}
-use Rattle.board_judge.specs.inside.Votes.{HasVersions, IsRightRead}
+use Rattle.board_judge.specs.inside.Votes.{DecidesRead, HasVersions, IsRightRead}
 use Rattle.board_judge.proofs.Going.{one_last, run_more}
 use Rattle.board_judge.proofs.Rewritten.{kinds_many, there_too}
 use Rattle.board_judge.proofs.Voting.{but_cause}
@@ -180,6 +180,19 @@ pub rewritten_all : (s : ScriptData) (h : List Entry) (ys : List Place) (sts : L
 rewritten_all s h ys sts b n ws noted is all =
     let many = closings_many s (places_of h) ys sts noted.closings in
     subst (λ (zs : List Place). IsRewritten s h zs true ws) (take_all n ys (omega (arith, many, is))) all
+
+-- what is found of an act, by the deeds of the transaction that its step closes and by what it shows then
+pub compared_by : (s : ScriptData) (b : BoardData) (st : NotedStep) (a : Act) (ws vs shown : List WorthsData) (right : Bool)
+    → HasNotedClosed s b st.noted.closed ws vs → shown ≡ vs → DecidesRead s b shown a right
+    → (xs later : List Place) (p : ℕ) → IsClosing s xs later (placed_at p a) st.noted.closed b → AreKnown s xs ws → IsCompared s xs (placed_at p a) right vs
+compared_by s b st a ws vs shown right noted same decides xs later p closing known =
+    let y = placed_at p a in
+    let more = known_more s xs later y st.noted.closed b ws vs closing known (noted ((xs ++ y ∷ []) ++ later) closing.board) in
+    record {
+      reads = decides ((xs ++ y ∷ []) ++ later) (xs ++ y ∷ []) closing.board (subst (AreKnown s (xs ++ y ∷ [])) (sym same) more)
+          (has_versions s xs later p a closing.move);
+      known = more;
+    }
 
 -- One turn of the walk.
 abbrev placed : ℕ → List Act → List Place

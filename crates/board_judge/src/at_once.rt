@@ -8,12 +8,10 @@ ghost use Rattle.board_rules.specs.Right.{commutes, is_parking, parking_for, par
 ghost use Rattle.board_judge.specs.inside.Asking.{IsAnsweredFor, asked_of, lock_in, parks_this, AreDoneAs};
 ghost use Rattle.board_judge.specs.inside.Standing.{DecidesAtOnce, NamesInWay};
 
-use crate::standing::{conflict, updates};
-use crate::users::Users;
-use board_tallies::Board;
+use crate::standing::{NodeView, updates};
 use letter_types::{Act, Body, Cause};
 use script_parts::kinds::is_read;
-use tv_base::{ActorNo, ItemNo, SubNo, TreeNo};
+use tv_base::{ItemNo, SubNo, TreeNo};
 use tx_trees::{Script, SubOp};
 
 // A subtransaction that is asked for.
@@ -34,21 +32,14 @@ pub(crate) struct InWay {
 
 // Whether an entry with these acts, at this node, does at once what the letter of this body asks for, by the tallies of the
 // acts before it. Takes time by its acts, and by the operations that `conflict` walks.
-pub(crate) fn does_at_once(
-    script: &Script,
-    users: &Users,
-    board: &Board,
-    node: ActorNo,
-    body: &Body,
-    acts: &[Act],
-) -> bool
-    ensures { DecidesAtOnce script.now board.now users.now node.0 body.now acts.now result }
+pub(crate) fn does_at_once(view: &NodeView, body: &Body, acts: &[Act]) -> bool
+    ensures { DecidesAtOnce view.now body.now acts.now result }
 {
     let Some(asked) = asked_of(body) else {
         return count_parkings(acts) == 0;
     };
-    let way = in_way(script, users, board, node, asked);
-    is_answered(script, asked, way, acts)
+    let way = in_way(view, asked);
+    is_answered(view.script, asked, way, acts)
 }
 
 // The subtransaction that a letter of this body asks for.
@@ -90,20 +81,14 @@ pub(crate) fn ops_of(script: &Script, tree: TreeNo, sub: SubNo) -> &[SubOp]
 }
 
 // What is in the way of a subtransaction at a node.
-fn in_way(
-    script: &Script,
-    users: &Users,
-    board: &Board,
-    node: ActorNo,
-    asked: Asked,
-) -> Option<Cause>
-    ensures { NamesInWay script.now board.now users.now node.0 asked result }
+fn in_way(view: &NodeView, asked: Asked) -> Option<Cause>
+    ensures { NamesInWay view.now asked result }
 {
-    if !updates(script, asked.tree) {
+    if !updates(view.script, asked.tree) {
         return None;
     }
-    let ops = ops_of(script, asked.tree, asked.sub);
-    conflict(script, users, board, node, asked.tree, ops)
+    let ops = ops_of(view.script, asked.tree, asked.sub);
+    view.conflict(asked.tree, ops)
 }
 
 // Whether these acts do the subtransaction if nothing is in its way, and else park it for that.

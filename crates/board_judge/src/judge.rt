@@ -9,15 +9,16 @@ ghost use Rattle.commute_ops.specs.Ops.{value_start};
 ghost use Rattle.worth_steps.specs.Kept.{AreWorths};
 ghost use Rattle.board_judge.specs.Judged.{HasJudged, IsRefusal, HasTakenEntry};
 ghost use Rattle.board_judge.specs.declared.noting.NotedStep.{NotedStep};
-ghost use Rattle.board_judge.specs.inside.Rewriting.{AreOfKinds, unaltered};
-ghost use Rattle.board_judge.specs.inside.Steps.{restored};
+ghost use Rattle.board_judge.specs.inside.Rewriting.{AreOfKinds, worths_before};
+ghost use Rattle.board_judge.specs.inside.Steps.{board_before};
 ghost use Rattle.board_judge.specs.inside.Trying.{refused_for, IsTriedFrom};
 
 use crate::at_once::does_at_once;
-use crate::noting::{NotedStep, note_acts, restore};
-use crate::rewriting::{Altered, rewrite, take_back};
+use crate::noting::{NotedStep, Tallies, note_acts, restore};
+use crate::rewriting::{ItemWorths, rewrite, take_back};
+use crate::standing::NodeView;
 use crate::users::Users;
-use crate::votes::Basis;
+use crate::votes::{Basis, Before};
 use board_rules::Rule;
 use board_tallies::{Board, Gates};
 use commute_ops::{Kind, Value};
@@ -52,8 +53,8 @@ pub enum Refused {
 #[derive(Drop)]
 pub struct Judge<'a> {
     pub(crate) basis: Basis<'a>,
-    board: Board,
-    pub(crate) worths: Vec<Worths>,
+    tallies: Tallies,
+    pub(crate) kept: ItemWorths,
 }
 
 impl<'a> Model for Judge<'a> {
@@ -65,13 +66,13 @@ impl<'a> Model for Judge<'a> {
       script = j.basis.script.now;
       gates = j.basis.gates;
       users = j.basis.users;
-      board = j.board;
-      worths = j.worths.items;
+      board = j.tallies.board;
+      worths = j.kept.worths.items;
     } };
 
     ghost use Rattle.board_judge.specs.inside.Rewriting.{AreOfKinds};
 
-    ghost invariant = { λ j. AreOfKinds j.basis.script.now j.worths.items };
+    ghost invariant = { λ j. AreOfKinds j.basis.script.now j.kept.worths.items };
 }
 
 impl<'a> Judge<'a> {
@@ -93,10 +94,18 @@ impl<'a> Judge<'a> {
             gates,
             users,
         };
+        let tallies = Tallies {
+            board,
+            steps: Vec::new(alloc),
+        };
+        let kept = ItemWorths {
+            worths,
+            trail: Vec::new(alloc),
+        };
         Ok(Judge {
             basis,
-            board,
-            worths,
+            tallies,
+            kept,
         })
     }
 
@@ -109,22 +118,16 @@ impl<'a> Judge<'a> {
         ensures refused { IfErr result (λ refused. IsRefusal self.old entry.now refused) }
         ensures err { OnErr result (self.new ≡ self.old) }
     {
-        let mut steps = Vec::new(self.basis.alloc);
-        let mut trail = Vec::new(self.basis.alloc);
-        let tried = try_entry(
-            &self.basis,
-            &mut self.board,
-            &mut self.worths,
-            entry,
-            &mut steps,
-            &mut trail,
-        );
+        // (what they still have is of an entry that was taken)
+        self.tallies.steps.clear();
+        self.kept.trail.clear();
+        let tried = try_entry(&self.basis, &mut self.tallies, &mut self.kept, entry);
         let Some(refused) = refusal(entry.stamp, tried) else {
-            self.board.settle();
+            self.tallies.board.settle();
             return Ok(());
         };
-        restore(&mut self.board, &mut steps);
-        take_back(&mut self.worths, &mut trail);
+        restore(&mut self.tallies);
+        take_back(&mut self.kept);
         Err(refused)
     }
 
@@ -132,54 +135,48 @@ impl<'a> Judge<'a> {
     pub fn is_finished(&self) -> bool
         ensures { (h : List Entry) → HasJudged self.now h → result ≡ has_finished (places_of h) }
     {
-        self.board.is_finished()
+        self.tallies.board.is_finished()
     }
 }
 
 // Tries an entry: notes it on the tallies, by steps that can be taken back, and gives the first rule that it breaks.
 fn try_entry(
     basis: &Basis,
-    board: &mut Board,
-    worths: &mut Vec<Worths>,
+    tallies: &mut Tallies,
+    kept: &mut ItemWorths,
     entry: &Entry,
-    steps: &mut Vec<NotedStep>,
-    trail: &mut Vec<Altered>,
 ) -> Result<Option<Rule>, NoMemory>
-    requires steps { steps.old.items ≡ [] }
-    requires trail { trail.old.items ≡ [] }
-    requires kinds { AreOfKinds basis.now.script.now worths.old.items }
-    ensures tried { IfOk result
-        (IsTriedFrom basis.now board.old worths.old.items entry.now board.new worths.new.items) }
-    ensures board { restored steps.new.items board.new ≡ board.old }
-    ensures worths { unaltered trail.new.items worths.new.items ≡ worths.old.items }
-    ensures kinds { IfOk result (λ broken. IsNone broken → AreOfKinds basis.now.script.now worths.new.items) }
+    requires steps { tallies.old.steps.items ≡ [] }
+    requires trail { kept.old.trail.items ≡ [] }
+    requires kinds { AreOfKinds basis.now.script.now kept.old.worths.items }
+    ensures tried { IfOk result (IsTriedFrom basis.now tallies.old.board kept.old.worths.items entry.now
+        tallies.new.board kept.new.worths.items) }
+    ensures board { board_before tallies.new ≡ tallies.old.board }
+    ensures worths { worths_before kept.new ≡ kept.old.worths.items }
+    ensures kinds { IfOk result (λ broken. IsNone broken → AreOfKinds basis.now.script.now kept.new.worths.items) }
 {
-    let at_once = does_at_once(
-        basis.script,
-        &basis.users,
-        board,
-        entry.actor,
-        &entry.took.body,
-        entry.acts.items(),
-    );
-    let broken = note_acts(basis, board, worths, entry, steps)?;
+    let view = NodeView {
+        script: basis.script,
+        users: &basis.users,
+        board: &tallies.board,
+        node: entry.actor,
+    };
+    let at_once = does_at_once(&view, &entry.took.body, entry.acts.items());
+    let before = Before {
+        basis,
+        worths: &kept.worths,
+    };
+    let broken = note_acts(&before, tallies, entry)?;
     if broken.is_some() {
         return Ok(broken);
     }
-    if !all_keep(steps) {
+    if !all_keep(&tallies.steps) {
         return Ok(Some(Rule::Fits));
     }
-    if !all_right(steps) {
+    if !all_right(&tallies.steps) {
         return Ok(Some(Rule::Right));
     }
-    if !rewrite(
-        basis.script,
-        board,
-        worths,
-        trail,
-        steps,
-        entry.acts.items(),
-    )? {
+    if !rewrite(basis.script, tallies, kept, entry.acts.items())? {
         return Ok(Some(Rule::Right));
     }
     if !at_once {

@@ -3,15 +3,14 @@ ghost use Rattle.std.specs.Prelude.{◌≡◌, [], false, IfOk, IfSome, IsNone, 
 ghost use Rattle.board_rules.specs.Histories.{act_at};
 ghost use Rattle.board_rules.specs.Judging.{rule_of};
 ghost use Rattle.board_tallies.specs.TakenBack.{taken_back};
-ghost use Rattle.board_judge.specs.inside.Steps.{restored, AreAllNotedUnless, AreNotedIf, FailsFirst, IsStepIfNoted};
+ghost use Rattle.board_judge.specs.inside.Steps.{board_before, AreAllNotedUnless, AreNotedIf, FailsFirst, IsStepIfNoted};
 ghost use Rattle.board_judge.specs.inside.Votes.{IsNoMove};
 
-use crate::votes::{Basis, is_move, is_right_yes};
+use crate::votes::{Before, is_move, is_right_yes};
 use board_rules::Rule;
 use board_tallies::{Board, NotedAct};
 use letter_types::{Act, Entry};
 use tv_base::{ActorNo, NoMemory};
-use worth_steps::Worths;
 
 // What was found of an act that was noted, and by what it is taken back.
 #[derive(Clone, Copy)]
@@ -23,26 +22,32 @@ pub(crate) struct NotedStep {
     pub(crate) right: bool,
 }
 
+// The Board's tallies, and the steps by which the acts of the entry that is tried were noted on them.
+#[derive(Drop)]
+pub(crate) struct Tallies {
+    pub(crate) board: Board,
+    pub(crate) steps: Vec<NotedStep>,
+}
+
 // Notes an act, if it is a move. None if it isn't, and then the tallies are what they were.
 pub(crate) fn note_act(
-    basis: &Basis,
+    before: &Before,
     board: &mut Board,
-    worths: &[Worths],
     node: ActorNo,
     act: &Act,
 ) -> Result<Option<NotedStep>, NoMemory>
-    ensures stepped { IfOk result
-        (IsStepIfNoted basis.now board.old worths.now (act_at node.0 act.now) board.new) }
-    ensures not { IfOk result (λ step. IsNone step → IsNoMove basis.now board.old worths.now (act_at node.0 act.now)) }
+    ensures stepped { IfOk result (IsStepIfNoted before.now board.old (act_at node.0 act.now) board.new) }
+    ensures not { IfOk result (λ step. IsNone step → IsNoMove before.now board.old (act_at node.0 act.now)) }
     ensures back { IfOk result (λ step. IfSome step (λ st. taken_back st.noted board.new ≡ board.old)) }
     ensures same { IfOk result (λ step. IsNone step → board.new ≡ board.old) }
     ensures err { OnErr result (board.new ≡ board.old) }
 {
-    if !is_move(basis, board, worths, node, act)? {
+    let basis = before.basis;
+    if !is_move(before, board, node, act)? {
         return Ok(None);
     }
     let keeps = board.keeps(basis.script, &basis.gates, node, act);
-    let right = is_right_yes(basis.script, board, worths, act);
+    let right = is_right_yes(basis.script, board, before.worths, act);
     let noted = board.note(basis.script, node, act)?;
     Ok(Some(NotedStep {
         noted,
@@ -51,28 +56,25 @@ pub(crate) fn note_act(
     }))
 }
 
-// Notes an act behind those that the steps are of, if it is a move. Whether it is one.
+// Notes an act behind those that were noted, if it is a move. Whether it is one.
 fn note_next(
-    basis: &Basis,
-    board: &mut Board,
-    worths: &[Worths],
+    before: &Before,
+    tallies: &mut Tallies,
     node: ActorNo,
     act: &Act,
-    steps: &mut Vec<NotedStep>,
 ) -> Result<bool, NoMemory>
-    ensures noted { IfOk result (AreNotedIf basis.now worths.now (act_at node.0 act.now)
-        steps.old.items board.old steps.new.items board.new) }
+    ensures noted { IfOk result (AreNotedIf before.now (act_at node.0 act.now) tallies.old tallies.new) }
     ensures not { IfOk result (λ moves. moves ≡ false
-        → IsNoMove basis.now board.old worths.now (act_at node.0 act.now)) }
-    ensures same { IfOk result (λ moves. moves ≡ false → steps.new.items ≡ steps.old.items) }
-    ensures still { IfOk result (λ moves. moves ≡ false → board.new ≡ board.old) }
-    ensures back { restored steps.new.items board.new ≡ restored steps.old.items board.old }
+        → IsNoMove before.now tallies.old.board (act_at node.0 act.now)) }
+    ensures same { IfOk result (λ moves. moves ≡ false → tallies.new.steps.items ≡ tallies.old.steps.items) }
+    ensures still { IfOk result (λ moves. moves ≡ false → tallies.new.board ≡ tallies.old.board) }
+    ensures back { board_before tallies.new ≡ board_before tallies.old }
 {
-    let Some(step) = note_act(basis, board, worths, node, act)? else {
+    let Some(step) = note_act(before, &mut tallies.board, node, act)? else {
         return Ok(false);
     };
-    if steps.push(step).is_err() {
-        board.undo(step.noted);
+    if tallies.steps.push(step).is_err() {
+        tallies.board.undo(step.noted);
         return Err(NoMemory);
     }
     Ok(true)
@@ -80,20 +82,17 @@ fn note_next(
 
 // Notes the acts of an entry, one after the other, up to the first that isn't a move. The rule of that one.
 pub(crate) fn note_acts(
-    basis: &Basis,
-    board: &mut Board,
-    worths: &[Worths],
+    before: &Before,
+    tallies: &mut Tallies,
     entry: &Entry,
-    steps: &mut Vec<NotedStep>,
 ) -> Result<Option<Rule>, NoMemory>
-    requires { steps.old.items ≡ [] }
-    ensures noted { IfOk result
-        (AreAllNotedUnless basis.now board.old worths.now entry.now steps.new.items board.new) }
-    ensures fails { IfOk result (λ broken. IfSome broken (FailsFirst basis.now board.old worths.now entry.now)) }
-    ensures back { restored steps.new.items board.new ≡ board.old }
+    requires { tallies.old.steps.items ≡ [] }
+    ensures noted { IfOk result (AreAllNotedUnless before.now tallies.old.board entry.now tallies.new) }
+    ensures fails { IfOk result (λ broken. IfSome broken (FailsFirst before.now tallies.old.board entry.now)) }
+    ensures back { board_before tallies.new ≡ tallies.old.board }
 {
     for act in entry.acts.items() {
-        if !note_next(basis, board, worths, entry.actor, act, steps)? {
+        if !note_next(before, tallies, entry.actor, act)? {
             return Ok(Some(rule_of(act)));
         }
     }
@@ -101,11 +100,11 @@ pub(crate) fn note_acts(
 }
 
 // Takes back what was noted, the last step first.
-pub(crate) fn restore(board: &mut Board, steps: &mut Vec<NotedStep>)
-    ensures board { board.new ≡ restored steps.old.items board.old }
+pub(crate) fn restore(tallies: &mut Tallies)
+    ensures board { tallies.new.board ≡ board_before tallies.old }
 {
-    while let Some(step) = steps.pop() {
-        board.undo(step.noted);
+    while let Some(step) = tallies.steps.pop() {
+        tallies.board.undo(step.noted);
     }
 }
 

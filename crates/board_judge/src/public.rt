@@ -13,7 +13,7 @@ impl<'a> Judge<'a> {
         requires { item.0 < length self.now.script.items }
         ensures { IfOk result (IsWorthBy self.now item.0 version.0) }
     {
-        let value = self.worths[item.0 as usize].at(self.basis.alloc, version)?;
+        let value = self.kept.worths[item.0 as usize].at(self.basis.alloc, version)?;
         Ok(value)
     }
 }

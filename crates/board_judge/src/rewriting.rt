@@ -2,9 +2,9 @@
 ghost use Rattle.std.specs.Prelude.{◌≡◌, [], ℕ, IfOk, OnErr, OnOk, slice_get};
 ghost use Rattle.script_parts.specs.ScriptData.{subs_at};
 ghost use Rattle.board_judge.specs.Notes.{ops_noted};
-ghost use Rattle.board_judge.specs.inside.Rewriting.{AllSubsSuit, AllSuit, AreOfKinds, HasNoted, SuitsKind, altered_back, kinds_of, unaltered, ComesBack, HasNotedClosed, HasNotedOne, HasNotedSubs, IsComparedBy, IsRewrittenBy};
+ghost use Rattle.board_judge.specs.inside.Rewriting.{AllSubsSuit, AllSuit, AreOfKinds, HasNoted, SuitsKind, altered_back, kinds_of, worths_before, ComesBack, HasNotedClosed, HasNotedOne, HasNotedSubs, IsRewrittenBy};
 
-use crate::noting::NotedStep;
+use crate::noting::Tallies;
 use crate::standing::version_or_zero;
 use crate::votes::is_right_read;
 use board_tallies::Board;
@@ -20,140 +20,113 @@ pub(crate) struct Altered {
     pub(crate) change: WorthChange,
 }
 
-// Notes on the worths, which are of the items' kinds, what these acts' steps close, act by act, and compares what reads show.
-// Stops at the first read that doesn't show what was worth. Takes time by the acts, and by the operations of the trees that
-// they close.
+// What all items are worth, and what the entry that is tried has changed of it, by which it is taken back.
+#[derive(Drop)]
+pub(crate) struct ItemWorths {
+    pub(crate) worths: Vec<Worths>,
+    pub(crate) trail: Vec<Altered>,
+}
+
+// Notes on the worths, which are of the items' kinds, what the acts that were noted close, act by act, and compares what
+// reads show. Stops at the first read that doesn't show what was worth. Takes time by the acts, and by the operations of
+// the trees that they close.
 pub(crate) fn rewrite(
     script: &Script,
-    board: &Board,
-    worths: &mut Vec<Worths>,
-    trail: &mut Vec<Altered>,
-    steps: &[NotedStep],
+    tallies: &Tallies,
+    kept: &mut ItemWorths,
     acts: &[Act],
 ) -> Result<bool, NoMemory>
-    requires { AreOfKinds script.now worths.old.items }
-    ensures done { IfOk result (IsRewrittenBy script.now board.now steps.now acts.now
-        worths.old.items worths.new.items) }
-    ensures kinds { OnOk result (AreOfKinds script.now worths.new.items) }
-    ensures back { unaltered trail.new.items worths.new.items ≡ unaltered trail.old.items worths.old.items }
+    requires { AreOfKinds script.now kept.old.worths.items }
+    ensures done { IfOk result (IsRewrittenBy script.now tallies.now acts.now
+        kept.old.worths.items kept.new.worths.items) }
+    ensures kinds { OnOk result (AreOfKinds script.now kept.new.worths.items) }
+    ensures back { worths_before kept.new ≡ worths_before kept.old }
 {
-    for (step, act) in steps.iter().zip(acts) {
-        if !rewrite_act(script, board, worths, trail, step, act)? {
+    for (step, act) in tallies.steps.iter().zip(acts) {
+        note_closed(script, &tallies.board, kept, step.noted.closed)?;
+        if !is_right_read(script, &tallies.board, &kept.worths, act) {
             return Ok(false);
         }
     }
     Ok(true)
 }
 
-// Notes what an act's step closes, and says whether the act shows what was worth, if it is a read.
-fn rewrite_act(
-    script: &Script,
-    board: &Board,
-    worths: &mut Vec<Worths>,
-    trail: &mut Vec<Altered>,
-    step: &NotedStep,
-    act: &Act,
-) -> Result<bool, NoMemory>
-    requires { AreOfKinds script.now worths.old.items }
-    ensures compared { IfOk result (IsComparedBy script.now board.now step.now act.now
-        worths.old.items worths.new.items) }
-    ensures kinds { OnOk result (AreOfKinds script.now worths.new.items) }
-    ensures back { unaltered trail.new.items worths.new.items ≡ unaltered trail.old.items worths.old.items }
-{
-    note_closed(script, board, worths, trail, step.noted.closed)?;
-    let right = is_right_read(script, board, worths, act);
-    Ok(right)
-}
-
 // Notes the deeds of a tree that is closed, if there is one, in its version by the tallies.
 fn note_closed(
     script: &Script,
     board: &Board,
-    worths: &mut Vec<Worths>,
-    trail: &mut Vec<Altered>,
+    kept: &mut ItemWorths,
     closed: Option<TreeNo>,
 ) -> Result<(), NoMemory>
-    requires { AreOfKinds script.now worths.old.items }
-    ensures noted { OnOk result (HasNotedClosed script.now board.now closed worths.old.items worths.new.items) }
-    ensures kinds { OnOk result (AreOfKinds script.now worths.new.items) }
-    ensures back { unaltered trail.new.items worths.new.items ≡ unaltered trail.old.items worths.old.items }
+    requires { AreOfKinds script.now kept.old.worths.items }
+    ensures noted { OnOk result
+        (HasNotedClosed script.now board.now closed kept.old.worths.items kept.new.worths.items) }
+    ensures kinds { OnOk result (AreOfKinds script.now kept.new.worths.items) }
+    ensures back { worths_before kept.new ≡ worths_before kept.old }
 {
     let Some(tree) = closed else {
         return Ok(());
     };
     let version = version_or_zero(board, tree);
-    note_tree(script, worths, trail, Version(version), tree)?;
+    note_tree(script, kept, Version(version), tree)?;
     Ok(())
 }
 
 // Notes the deeds of a tree in this version.
 fn note_tree(
     script: &Script,
-    worths: &mut Vec<Worths>,
-    trail: &mut Vec<Altered>,
+    kept: &mut ItemWorths,
     version: Version,
     tree: TreeNo,
 ) -> Result<(), NoMemory>
-    requires { AreOfKinds script.now worths.old.items }
-    ensures noted { OnOk result (HasNotedSubs version.0 (subs_at script.now tree.0) worths.old.items worths.new.items) }
-    ensures back { unaltered trail.new.items worths.new.items ≡ unaltered trail.old.items worths.old.items }
+    requires { AreOfKinds script.now kept.old.worths.items }
+    ensures noted { OnOk result
+        (HasNotedSubs version.0 (subs_at script.now tree.0) kept.old.worths.items kept.new.worths.items) }
+    ensures back { worths_before kept.new ≡ worths_before kept.old }
 {
     let Some(tree) = script.trees().get(tree.0 as usize) else {
         return Ok(());
     };
-    note_subs(worths, trail, version, tree.subs.items())?;
+    note_subs(kept, version, tree.subs.items())?;
     Ok(())
 }
 
 // Notes the deeds of subtransactions in this version.
-fn note_subs(
-    worths: &mut Vec<Worths>,
-    trail: &mut Vec<Altered>,
-    version: Version,
-    subs: &[Sub],
-) -> Result<(), NoMemory>
-    requires { AllSubsSuit (kinds_of worths.old.items) subs.now }
-    ensures noted { OnOk result (HasNotedSubs version.0 subs.now worths.old.items worths.new.items) }
-    ensures back { unaltered trail.new.items worths.new.items ≡ unaltered trail.old.items worths.old.items }
+fn note_subs(kept: &mut ItemWorths, version: Version, subs: &[Sub]) -> Result<(), NoMemory>
+    requires { AllSubsSuit (kinds_of kept.old.worths.items) subs.now }
+    ensures noted { OnOk result (HasNotedSubs version.0 subs.now kept.old.worths.items kept.new.worths.items) }
+    ensures back { worths_before kept.new ≡ worths_before kept.old }
 {
     for sub in subs {
-        note_ops(worths, trail, version, sub.ops.items())?;
+        note_ops(kept, version, sub.ops.items())?;
     }
     Ok(())
 }
 
 // Notes the deeds of operations in this version.
-fn note_ops(
-    worths: &mut Vec<Worths>,
-    trail: &mut Vec<Altered>,
-    version: Version,
-    ops: &[SubOp],
-) -> Result<(), NoMemory>
-    requires { AllSuit (kinds_of worths.old.items) ops.now }
-    ensures noted { OnOk result (HasNoted (λ (x : ℕ). ops_noted version.0 x ops.now) worths.old.items worths.new.items) }
-    ensures back { unaltered trail.new.items worths.new.items ≡ unaltered trail.old.items worths.old.items }
+fn note_ops(kept: &mut ItemWorths, version: Version, ops: &[SubOp]) -> Result<(), NoMemory>
+    requires { AllSuit (kinds_of kept.old.worths.items) ops.now }
+    ensures noted { OnOk result (HasNoted (λ (x : ℕ). ops_noted version.0 x ops.now)
+        kept.old.worths.items kept.new.worths.items) }
+    ensures back { worths_before kept.new ≡ worths_before kept.old }
 {
     for op in ops {
-        note_op(worths, trail, version, op)?;
+        note_op(kept, version, op)?;
     }
     Ok(())
 }
 
 // Notes the deed of an operation in this version, and puts what it changed on the trail.
-fn note_op(
-    worths: &mut Vec<Worths>,
-    trail: &mut Vec<Altered>,
-    version: Version,
-    op: &SubOp,
-) -> Result<(), NoMemory>
-    requires { SuitsKind op.now.deed (slice_get (kinds_of worths.old.items) op.now.item.0) }
-    ensures noted { OnOk result (HasNotedOne op.now.item version.0 op.now.deed worths.old.items worths.new.items) }
-    ensures back { unaltered trail.new.items worths.new.items ≡ unaltered trail.old.items worths.old.items }
+fn note_op(kept: &mut ItemWorths, version: Version, op: &SubOp) -> Result<(), NoMemory>
+    requires { SuitsKind op.now.deed (slice_get (kinds_of kept.old.worths.items) op.now.item.0) }
+    ensures noted { OnOk result
+        (HasNotedOne op.now.item version.0 op.now.deed kept.old.worths.items kept.new.worths.items) }
+    ensures back { worths_before kept.new ≡ worths_before kept.old }
 {
-    trail.reserve(1)?;
+    kept.trail.reserve(1)?;
     let item = op.item;
-    let change = note_deed(worths, item, version, &op.deed)?;
-    trail.push(Altered { item, change })?;
+    let change = note_deed(&mut kept.worths, item, version, &op.deed)?;
+    kept.trail.push(Altered { item, change })?;
     Ok(())
 }
 
@@ -174,12 +147,12 @@ fn note_deed(
 }
 
 // Takes back what was changed, the last change first.
-pub(crate) fn take_back(worths: &mut Vec<Worths>, trail: &mut Vec<Altered>)
-    ensures worths { worths.new.items ≡ unaltered trail.old.items worths.old.items }
-    ensures trail { trail.new.items ≡ [] }
+pub(crate) fn take_back(kept: &mut ItemWorths)
+    ensures worths { kept.new.worths.items ≡ worths_before kept.old }
+    ensures trail { kept.new.trail.items ≡ [] }
 {
-    while let Some(altered) = trail.pop() {
-        undo(worths, altered);
+    while let Some(altered) = kept.trail.pop() {
+        undo(&mut kept.worths, altered);
     }
 }
 

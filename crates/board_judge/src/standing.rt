@@ -16,6 +16,15 @@ use script_parts::kinds::is_update;
 use tv_base::{ActorNo, ItemNo, TreeNo, Version};
 use tx_trees::{Deed, Script, SubOp};
 
+// What is looked at to tell what stands at a node: a script, its operations on each item, and the Board's tallies.
+#[derive(Clone, Copy)]
+pub(crate) struct NodeView<'a> {
+    pub(crate) script: &'a Script,
+    pub(crate) users: &'a Users,
+    pub(crate) board: &'a Board,
+    pub(crate) node: ActorNo,
+}
+
 // How a tree needs an item.
 #[derive(Clone, Copy)]
 pub(crate) struct Need {
@@ -54,44 +63,6 @@ fn has_taken(script: &Script, board: &Board, user: User) -> bool
     board.voted_yes(user.tree, user.sub)
 }
 
-// Whether an operation stands at the node against what is needed.
-fn stands(script: &Script, board: &Board, node: ActorNo, need: Need, user: User) -> bool
-    ensures { OfBoard script.now board.now (λ xs. result
-        ≡ stands_against script.now xs node.0 need.tree.0 need.mode user) }
-{
-    if user.tree.0 == need.tree.0 {
-        return false;
-    }
-    if board.was_freed(user.tree, node) {
-        return false;
-    }
-    if board.was_applied(user.tree, node) {
-        return false;
-    }
-    if !has_taken(script, board, user) {
-        return false;
-    }
-    conflicts(need.mode, user.mode)
-}
-
-// The tree of the first operation that stands against what is needed.
-fn first_against(
-    script: &Script,
-    board: &Board,
-    node: ActorNo,
-    need: Need,
-    users: &[User],
-) -> Option<TreeNo>
-    ensures { NamesFirst script.now board.now node.0 need users.now result }
-{
-    for user in users {
-        if stands(script, board, node, need, *user) {
-            return Some(user.tree);
-        }
-    }
-    None
-}
-
 // The lesser number of two trees, if there are two.
 fn lesser_number(one: Option<TreeNo>, other: Option<TreeNo>) -> Option<TreeNo>
     ensures { result ≡ lesser_tree one other }
@@ -112,53 +83,6 @@ fn is_mark(mode: Mode) -> bool
         Mode::Look => false,
         Mode::Hold => false,
     }
-}
-
-// The tree of least number that has an item against what is needed.
-fn holder(
-    script: &Script,
-    users: &Users,
-    board: &Board,
-    node: ActorNo,
-    need: Need,
-    item: ItemNo,
-) -> Option<TreeNo>
-    ensures { NamesHolder script.now board.now users.now node.0 need item result }
-{
-    let strict = first_against(script, board, node, need, on(&users.strict, item));
-    if is_mark(need.mode) {
-        return strict;
-    }
-    let update = first_against(script, board, node, need, on(&users.updates, item));
-    lesser_number(update, strict)
-}
-
-// The first of a tree's operations at a node whose item another tree has in a mode that conflicts, as a cause that names the
-// least such tree. Only a mark may be asked for where the script has no strict tree.
-//
-// Takes time by the operations of the script's strict trees on these items, and for strict trees by those of update trees
-// too: in all, a script's limits let this be a million steps for each strict tree.
-pub(crate) fn conflict(
-    script: &Script,
-    users: &Users,
-    board: &Board,
-    node: ActorNo,
-    tree: TreeNo,
-    ops: &[SubOp],
-) -> Option<Cause>
-    ensures { NamesConflict script.now board.now users.now node.0 tree.0 ops.now result }
-{
-    for op in ops {
-        let mode = lock_mode(&op.deed);
-        let need = Need { tree, mode };
-        if let Some(holder) = holder(script, users, board, node, need, op.item) {
-            return Some(Cause::Conflict {
-                item: op.item,
-                holder,
-            });
-        }
-    }
-    None
 }
 
 // Whether an item that is had in this mode is changed.
@@ -182,22 +106,6 @@ fn was_updated(script: &Script, board: &Board, user: User) -> bool
     board.was_done(user.tree, user.sub)
 }
 
-// Whether an operation has written its item, which is at this node.
-fn has_written(script: &Script, board: &Board, node: ActorNo, user: User) -> bool
-    ensures { OfBoard script.now board.now (λ xs. result ≡ has_written script.now xs node.0 user) }
-{
-    if !changes_in(user.mode) {
-        return false;
-    }
-    if was_updated(script, board, user) {
-        return true;
-    }
-    if !board.is_committed(user.tree) {
-        return false;
-    }
-    board.was_applied(user.tree, node)
-}
-
 // The version of a tree, or 0 where it isn't born.
 pub(crate) fn version_or_zero(board: &Board, tree: TreeNo) -> u64
     ensures { (s : ScriptData) (xs : List Place) → IsBoardOf s xs board.now → result ≡ version_or 0 (version_in tree.0 xs) }
@@ -208,76 +116,150 @@ pub(crate) fn version_or_zero(board: &Board, tree: TreeNo) -> u64
     }
 }
 
-// The greatest version of those operations that have written their item, which is at this node.
-fn newest_by(script: &Script, board: &Board, node: ActorNo, users: &[User]) -> u64
-    ensures { OfBoard script.now board.now (λ xs. result ≡ newest_by script.now xs node.0 users.now) }
-{
-    let mut newest = 0;
-    for user in users {
-        newest = newer_by(script, board, node, *user, newest);
-    }
-    newest
-}
-
-// A version, or that of an operation which has written its item in a greater one.
-fn newer_by(script: &Script, board: &Board, node: ActorNo, user: User, newest: u64) -> u64
-    ensures { OfBoard script.now board.now (λ xs. result ≡ newest_with script.now xs node.0 user newest) }
-{
-    if !has_written(script, board, node, user) {
-        return newest;
-    }
-    newest.max(version_or_zero(board, user.tree))
-}
-
-// The greatest version in which an item was written, which is at this node.
-fn newest(script: &Script, users: &Users, board: &Board, node: ActorNo, item: ItemNo) -> u64
-    ensures { IsNewestWritten script.now board.now users.now node.0 item result }
-{
-    let strict = newest_by(script, board, node, on(&users.strict, item));
-    let update = newest_by(script, board, node, on(&users.updates, item));
-    update.max(strict)
-}
-
-// The first of the operations of a strict tree at a node that writes an item which is written in a version above this one, as a
-// cause that names the greatest such version. Takes time by the script's operations on these items.
-pub(crate) fn newer(
-    script: &Script,
-    users: &Users,
-    board: &Board,
-    node: ActorNo,
-    version: u64,
-    ops: &[SubOp],
-) -> Option<Cause>
-    ensures { NamesNewer script.now board.now users.now node.0 version ops.now result }
-{
-    for op in ops {
-        if let Some(cause) = newer_item(script, users, board, node, version, op) {
-            return Some(cause);
+impl<'a> NodeView<'a> {
+    // Whether an operation stands there against what is needed.
+    fn stands(&self, need: Need, user: User) -> bool
+        ensures { OfBoard self.now.script.now self.now.board.now (λ xs. result
+            ≡ stands_against self.now.script.now xs self.now.node.0 need.tree.0 need.mode user) }
+    {
+        if user.tree.0 == need.tree.0 {
+            return false;
         }
+        if self.board.was_freed(user.tree, self.node) {
+            return false;
+        }
+        if self.board.was_applied(user.tree, self.node) {
+            return false;
+        }
+        if !has_taken(self.script, self.board, user) {
+            return false;
+        }
+        conflicts(need.mode, user.mode)
     }
-    None
-}
 
-// The same of one operation.
-fn newer_item(
-    script: &Script,
-    users: &Users,
-    board: &Board,
-    node: ActorNo,
-    version: u64,
-    op: &SubOp,
-) -> Option<Cause>
-    ensures { NamesNewerOf script.now board.now users.now node.0 version op.now result }
-{
-    if !overwrites(&op.deed) {
-        return None;
+    // The tree of the first operation that stands against what is needed.
+    fn first_against(&self, need: Need, users: &[User]) -> Option<TreeNo>
+        ensures { NamesFirst self.now need users.now result }
+    {
+        for user in users {
+            if self.stands(need, *user) {
+                return Some(user.tree);
+            }
+        }
+        None
     }
-    let newest = newest(script, users, board, node, op.item);
-    if version < newest {
-        return Some(Cause::Newer {
-            item: op.item,
-            version: Version(newest),
-        });
+
+    // The tree of least number that has an item against what is needed.
+    fn holder(&self, need: Need, item: ItemNo) -> Option<TreeNo>
+        ensures { NamesHolder self.now need item result }
+    {
+        let users = self.users;
+        let strict = self.first_against(need, on(&users.strict, item));
+        if is_mark(need.mode) {
+            return strict;
+        }
+        let update = self.first_against(need, on(&users.updates, item));
+        lesser_number(update, strict)
     }
-    None
+
+    // The first of a tree's operations at the node whose item another tree has in a mode that conflicts, as a cause that
+    // names the least such tree. Only a mark may be asked for where the script has no strict tree.
+    //
+    // Takes time by the operations of the script's strict trees on these items, and for strict trees by those of update
+    // trees too: in all, a script's limits let this be a million steps for each strict tree.
+    pub(crate) fn conflict(&self, tree: TreeNo, ops: &[SubOp]) -> Option<Cause>
+        ensures { NamesConflict self.now tree.0 ops.now result }
+    {
+        for op in ops {
+            let mode = lock_mode(&op.deed);
+            let need = Need { tree, mode };
+            if let Some(holder) = self.holder(need, op.item) {
+                return Some(Cause::Conflict {
+                    item: op.item,
+                    holder,
+                });
+            }
+        }
+        None
+    }
+
+    // Whether an operation has written its item, which is at the node.
+    fn has_written(&self, user: User) -> bool
+        ensures { OfBoard self.now.script.now self.now.board.now (λ xs. result
+            ≡ has_written self.now.script.now xs self.now.node.0 user) }
+    {
+        if !changes_in(user.mode) {
+            return false;
+        }
+        if was_updated(self.script, self.board, user) {
+            return true;
+        }
+        if !self.board.is_committed(user.tree) {
+            return false;
+        }
+        self.board.was_applied(user.tree, self.node)
+    }
+
+    // The greatest version of those operations that have written their item, which is at the node.
+    fn newest_by(&self, users: &[User]) -> u64
+        ensures { OfBoard self.now.script.now self.now.board.now (λ xs. result
+            ≡ newest_by self.now.script.now xs self.now.node.0 users.now) }
+    {
+        let mut newest = 0;
+        for user in users {
+            newest = self.newer_by(*user, newest);
+        }
+        newest
+    }
+
+    // A version, or that of an operation which has written its item in a greater one.
+    fn newer_by(&self, user: User, newest: u64) -> u64
+        ensures { OfBoard self.now.script.now self.now.board.now (λ xs. result
+            ≡ newest_with self.now.script.now xs self.now.node.0 user newest) }
+    {
+        if !self.has_written(user) {
+            return newest;
+        }
+        newest.max(version_or_zero(self.board, user.tree))
+    }
+
+    // The greatest version in which an item was written, which is at the node.
+    fn newest(&self, item: ItemNo) -> u64
+        ensures { IsNewestWritten self.now item result }
+    {
+        let users = self.users;
+        let strict = self.newest_by(on(&users.strict, item));
+        let update = self.newest_by(on(&users.updates, item));
+        update.max(strict)
+    }
+
+    // The first of the operations of a strict tree at the node that writes an item which is written in a version above
+    // this one, as a cause that names the greatest such version. Takes time by the script's operations on these items.
+    pub(crate) fn newer(&self, version: u64, ops: &[SubOp]) -> Option<Cause>
+        ensures { NamesNewer self.now version ops.now result }
+    {
+        for op in ops {
+            if let Some(cause) = self.newer_item(version, op) {
+                return Some(cause);
+            }
+        }
+        None
+    }
+
+    // The same of one operation.
+    fn newer_item(&self, version: u64, op: &SubOp) -> Option<Cause>
+        ensures { NamesNewerOf self.now version op.now result }
+    {
+        if !overwrites(&op.deed) {
+            return None;
+        }
+        let newest = self.newest(op.item);
+        if version < newest {
+            return Some(Cause::Newer {
+                item: op.item,
+                version: Version(newest),
+            });
+        }
+        None
+    }
 }

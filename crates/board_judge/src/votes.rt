@@ -7,7 +7,7 @@ ghost use Rattle.board_judge.specs.inside.Votes.{ballot_of, did_of, given_by, sa
 
 use crate::at_once::{Asked, ops_of, reads};
 use crate::shown::{short, shows};
-use crate::standing::{conflict, newer, version_or_zero};
+use crate::standing::{NodeView, version_or_zero};
 use crate::users::Users;
 use board_tallies::{Board, Gates};
 use commute_ops::Value;
@@ -26,6 +26,14 @@ pub(crate) struct Basis<'a> {
     pub(crate) users: Users,
 }
 
+// By what an entry's acts are judged that they don't change: what a judge never changes, and what items were worth before
+// the entry.
+#[derive(Clone, Copy)]
+pub(crate) struct Before<'a> {
+    pub(crate) basis: &'a Basis<'a>,
+    pub(crate) worths: &'a [Worths],
+}
+
 // A vote: whose it is, and the cause that it names.
 #[derive(Clone, Copy)]
 pub(crate) struct NamedVote {
@@ -42,21 +50,20 @@ pub(crate) struct Given<'a> {
 
 // Whether an act is a move, by the tallies of the acts so far and by the worths before the entry.
 pub(crate) fn is_move(
-    basis: &Basis,
+    before: &Before,
     board: &Board,
-    worths: &[Worths],
     node: ActorNo,
     act: &Act,
 ) -> Result<bool, NoMemory>
-    ensures { IfOk result (DecidesMove basis.now board.now worths.now (act_at node.0 act.now)) }
+    ensures { IfOk result (DecidesMove before.now board.now (act_at node.0 act.now)) }
 {
-    if !board.moves(basis.script, node, act) {
+    if !board.moves(before.basis.script, node, act) {
         return Ok(false);
     }
     let Some(ballot) = ballot_of(act) else {
         return Ok(true);
     };
-    let cause = cause(basis, board, worths, node, ballot.asked)?;
+    let cause = cause(before, board, node, ballot.asked)?;
     Ok(same_cause(ballot.refusal, cause))
 }
 
@@ -90,25 +97,31 @@ fn refusal_in(vote: &Vote) -> Option<Cause>
 // Why a subtransaction of a strict tree has to vote no, if it has to: a lock that conflicts, else a newer version, else a value
 // that is short.
 fn cause(
-    basis: &Basis,
+    before: &Before,
     board: &Board,
-    worths: &[Worths],
     node: ActorNo,
     asked: Asked,
 ) -> Result<Option<Cause>, NoMemory>
-    ensures { IfOk result (IsCauseThere basis.now board.now worths.now node.0 asked) }
+    ensures { IfOk result (IsCauseThere before.now board.now node.0 asked) }
 {
+    let basis = before.basis;
+    let view = NodeView {
+        script: basis.script,
+        users: &basis.users,
+        board,
+        node,
+    };
     let ops = ops_of(basis.script, asked.tree, asked.sub);
-    let lock = conflict(basis.script, &basis.users, board, node, asked.tree, ops);
+    let lock = view.conflict(asked.tree, ops);
     if lock.is_some() {
         return Ok(lock);
     }
     let version = version_or_zero(board, asked.tree);
-    let later = newer(basis.script, &basis.users, board, node, version, ops);
+    let later = view.newer(version, ops);
     if later.is_some() {
         return Ok(later);
     }
-    let found = short(basis.alloc, worths, Version(version), ops)?;
+    let found = short(basis.alloc, before.worths, Version(version), ops)?;
     Ok(found)
 }
 
@@ -183,7 +196,7 @@ pub(crate) fn is_right_yes(script: &Script, board: &Board, worths: &[Worths], ac
     ensures { DecidesYes script.now board.now worths.now act.now result }
 {
     match yes_of(act) {
-        Some(given) => is_given(script, board, worths, given.asked, given.values),
+        Some(given) => is_given(script, board, worths, given),
         None => true,
     }
 }
@@ -198,22 +211,16 @@ pub(crate) fn is_right_read(script: &Script, board: &Board, worths: &[Worths], a
     if !reads(script, given.asked.tree) {
         return true;
     }
-    is_given(script, board, worths, given.asked, given.values)
+    is_given(script, board, worths, given)
 }
 
 // Whether these values are what a subtransaction's gets are worth at its tree's version.
-fn is_given(
-    script: &Script,
-    board: &Board,
-    worths: &[Worths],
-    asked: Asked,
-    values: &[(ItemNo, Value)],
-) -> bool
-    ensures { DecidesGiven script.now board.now worths.now asked values.now result }
+fn is_given(script: &Script, board: &Board, worths: &[Worths], given: Given) -> bool
+    ensures { DecidesGiven script.now board.now worths.now (given_by given.entry) result }
 {
-    let Some(version) = board.version_of(asked.tree) else {
+    let Some(version) = board.version_of(given.asked.tree) else {
         return false;
     };
-    let ops = ops_of(script, asked.tree, asked.sub);
-    shows(worths, version, ops, values)
+    let ops = ops_of(script, given.asked.tree, given.asked.sub);
+    shows(worths, version, ops, given.values)
 }

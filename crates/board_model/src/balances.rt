@@ -6,9 +6,9 @@ ghost use Rattle.board_model.specs.inside.May.{all_op_may, all_ops_may, all_subs
 ghost use Rattle.board_model.specs.Standings.{standings_of};
 ghost use Rattle.board_rules.specs.Worth.{after_deed, changes, first_value, with_drawn, with_set};
 
+use crate::serial::Run;
 use crate::standings::{Standing, Standings};
 use commute_ops::{Amount, Kind, SumValue, TopValue, Value};
-use letter_types::History;
 use std::alloc::Global;
 use tv_base::{ItemNo, NoMemory, Seq, TreeNo, Version};
 use tx_trees::{Deed, ItemRow, Script, Sub, SubOp, Tree, TreeKind};
@@ -20,22 +20,21 @@ pub type Balances = Seq<Value, 0xffff_ffff>;
 pub type Marks = Seq<bool, 0xffff_ffff>;
 
 /// Which items of the script are written in a version: an update of that version, complete or not, has an operation on
-/// the item, or a committed strict transaction of it has a set or a draw. `standings` are those of the history.
+/// the item, or a committed strict transaction of it has a set or a draw. `standings` are those of the run's history.
 ///
 /// It goes over the transactions once. Running out of memory is the only error.
 #[tactic(auto, using(crate::proofs::AllItems::marks))]
 pub fn written_at(
     alloc: Global,
-    script: &Script,
-    history: &History,
+    run: Run,
     standings: &Standings,
     version: Version,
 ) -> Result<Marks, NoMemory>
-    requires { standings.now ≡ standings_of script.now history.now }
-    ensures { IfOk result (λ marks. marks ≡ written_items script.now history.now version.0) }
+    requires { standings.now ≡ standings_of run.script.now run.history.now }
+    ensures { IfOk result (λ marks. marks ≡ written_items run.entry.script.now run.entry.history.now version.0) }
 {
-    let none = no_marks(alloc, script.items())?;
-    Ok(mark_trees(script.trees(), standings.items(), version, none))
+    let none = no_marks(alloc, run.script.items())?;
+    Ok(mark_trees(run.script.trees(), standings.items(), version, none))
 }
 
 // The initial value of each item.

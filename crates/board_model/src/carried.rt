@@ -5,7 +5,7 @@ ghost use Rattle.board_model.specs.Carried.{IsCarried};
 ghost use Rattle.board_model.specs.SerialList.{IsSerial};
 
 use crate::balances::{Balances, all_after_tree, first_values};
-use crate::serial::{Members, outcomes_of};
+use crate::serial::{Members, Run, outcomes_of};
 use letter_types::History;
 use std::alloc::Global;
 use tv_base::{NoMemory, Version};
@@ -35,28 +35,25 @@ pub fn start(alloc: Global, script: &Script, serial: &Members) -> Result<Carried
     })
 }
 
-/// Carries the values on to this version, which isn't below the one that was reached. `serial` is the serial order of
-/// the history.
+/// Carries the values on to this version, which isn't below the one that was reached.
 ///
 /// It goes on over the members up to this version. Running out of memory is the only error.
 #[tactic(auto, using(crate::proofs::Carrying::carrying))]
 pub fn carry(
     alloc: Global,
-    script: &Script,
-    history: &History,
-    serial: &Members,
+    run: Run,
     carried: Carried,
     version: Version,
 ) -> Result<Carried, NoMemory>
-    requires serial { IsSerial script.now history.now serial.now }
-    requires carried { IsCarried script.now serial.now carried }
+    requires serial { IsSerial run.script.now run.history.now run.serial.now }
+    requires carried { IsCarried run.script.now run.serial.now carried }
     requires later { carried.version.0 ≤ version.0 }
-    ensures carried { IfOk result (λ c. IsCarried script.now serial.now c) }
+    ensures carried { IfOk result (λ c. IsCarried run.entry.script.now run.entry.serial.now c) }
     ensures version { IfOk result (λ c. c.version ≡ version) }
-    ensures worths { IfOk result (λ c. c.values ≡ worths script.now history.now version.0) }
+    ensures worths { IfOk result (λ c. c.values ≡ worths run.entry.script.now run.entry.history.now version.0) }
 {
-    let trees = script.trees();
-    let members = serial.items();
+    let trees = run.script.trees();
+    let members = run.serial.items();
     let mut place = carried.place;
     let mut values = carried.values;
     while place < members.len() && members[place].version.0 <= version.0 {
@@ -84,6 +81,11 @@ pub fn worths_at(
 {
     let outcomes = outcomes_of(alloc, script, history)?;
     let first = start(alloc, script, &outcomes.serial)?;
-    let reached = carry(alloc, script, history, &outcomes.serial, first, version)?;
+    let run = Run {
+        script,
+        history,
+        serial: &outcomes.serial,
+    };
+    let reached = carry(alloc, run, first, version)?;
     Ok(reached.values)
 }

@@ -13,5 +13,5 @@ mod tallies;
 pub use balances::{Balances, Marks, written_at};
 pub use ballots::{Ballot, Ballots, ballots_of};
 pub use carried::{Carried, carry, start, worths_at};
-pub use serial::{Member, Members, Outcomes, by_version, outcomes_of};
+pub use serial::{Member, Members, Outcomes, Run, by_version, outcomes_of};
 pub use standings::{Standing, Standings};

@@ -1,18 +1,18 @@
 // The serial order of a history, and what the history says of each tree.
 ghost use Rattle.std.specs.Prelude.{◌≡◌, IfOk, OnOk};
 ghost use Rattle.board_model.specs.inside.Closed.{closed_back};
-ghost use Rattle.board_rules.specs.Histories.{places_of};
+ghost use Rattle.board_rules.specs.Histories.{places_at, places_of};
 ghost use Rattle.board_model.specs.SerialList.{IsByVersion, IsSerial};
-ghost use Rattle.board_model.specs.inside.SerialList.{counted_member, counts_by, found_back, member_of, placed};
+ghost use Rattle.board_model.specs.inside.SerialList.{counted_member, counts_by, found_back, member_of};
 ghost use Rattle.board_model.specs.Standings.{standings_of};
 ghost use Rattle.board_model.specs.inside.Tallies.{noted_back};
 
 use crate::closed_trees::Closings;
 use crate::standings::{Standing, Standings};
 use crate::tallies::{Tally, blank_rows, note, stood_by};
-use letter_types::{Act, Entry, History};
+use letter_types::{Entry, History};
 use std::alloc::Global;
-use tv_base::{ActorNo, NoMemory, Seq, TreeNo, Version};
+use tv_base::{NoMemory, Seq, TreeNo, Version};
 use tx_trees::{Script, Tree, TreeKind};
 
 /// A transaction with its version.
@@ -32,6 +32,14 @@ pub struct Outcomes {
     pub standings: Standings,
     /// The transactions that take effect, in serial order: by version, and within a version by their last closing act.
     pub serial: Members,
+}
+
+/// A script, a history, and the history's serial order.
+#[derive(Clone, Copy)]
+pub struct Run<'a> {
+    pub script: &'a Script,
+    pub history: &'a History,
+    pub serial: &'a Members,
 }
 
 /// What a history says of each transaction of the script, and the serial order.
@@ -64,27 +72,26 @@ fn note_entries(
 {
     let count = entries.len();
     for k in 0..count {
-        let entry = &entries[count - 1 - k];
-        note_acts(script, entry.actor, entry.acts.items(), rows, closings)?;
+        note_acts(script, &entries[count - 1 - k], rows, closings)?;
     }
     Ok(())
 }
 
-// Notes acts of this actor, from the last one.
+// Notes the acts of an entry, from the last one.
 fn note_acts(
     script: &Script,
-    actor: ActorNo,
-    acts: &[Act],
+    entry: &Entry,
     rows: &mut Vec<Tally>,
     closings: &mut Closings,
 ) -> Result<(), NoMemory>
-    ensures rows { OnOk result (rows.new.items ≡ noted_back (placed actor.0 acts.now) rows.old.items) }
-    ensures closings { OnOk result (closings.new ≡ closed_back script.now (placed actor.0 acts.now) closings.old) }
+    ensures rows { OnOk result (rows.new.items ≡ noted_back (places_at entry.now) rows.old.items) }
+    ensures closings { OnOk result (closings.new ≡ closed_back script.now (places_at entry.now) closings.old) }
 {
+    let acts = entry.acts.items();
     let count = acts.len();
     for k in 0..count {
         let act = &acts[count - 1 - k];
-        note(rows, actor, act);
+        note(rows, entry.actor, act);
         closings.note(script, act)?;
     }
     Ok(())

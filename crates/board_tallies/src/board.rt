@@ -5,11 +5,11 @@ ghost use Rattle.board_rules.specs.Histories.{Place, act_at};
 
 use crate::gates::{Gates, RowGate};
 use crate::keeping::{all_gone, all_swept, is_client};
-use crate::moves::{may_by_node, may_with, tree_of};
+use crate::moves::{NodeNow, TreeNow, may_by_node, may_by_tree, tree_of};
 use crate::noting::{ToldWas, closed_by, finished_by, note_tree, passed_on, take_back};
 use crate::numbers::{Numbers, first_numbers, note_numbers, numbers_at, put_numbers};
 use crate::pending::{Pending, drop_zeros};
-use crate::states::{TreeState, first_state};
+use crate::states::{TreeState, first_state, news_by};
 use letter_types::Act;
 use std::alloc::Global;
 use std::marker::Model;
@@ -101,17 +101,18 @@ impl Board {
     fn may_come(&self, trees: &[Tree], node: ActorNo, act: &Act) -> bool
         ensures { result ≡ may_come trees.now self.now node.0 act.now }
     {
-        match tree_of(act) {
-            Some(tree) => may_with(
-                trees,
-                &self.trees,
-                tree,
-                numbers_at(&self.nodes, node),
-                node,
-                act,
-            ),
-            None => may_by_node(&self.nodes, &self.pending, node, act),
-        }
+        let Some(tree) = tree_of(act) else {
+            return may_by_node(&self.nodes, &self.pending, node, act);
+        };
+        let place = tree.0 as usize;
+        let Some(row) = trees.get(place) else {
+            return false;
+        };
+        let Some(state) = self.trees.get(place) else {
+            return false;
+        };
+        let numbers = numbers_at(&self.nodes, node);
+        may_by_tree(TreeNow { row, state }, NodeNow { node, numbers }, act)
     }
 
     /// Whether an act of this actor keeps to the script, whose gates these are, after the acts so far: a transaction is
@@ -178,7 +179,8 @@ impl Board {
         ensures back { IfOk result (λ n. taken_back n self.new ≡ self.old) }
         ensures err { OnErr result (self.new ≡ self.old) }
     {
-        let told = note_tree(&mut self.trees, &mut self.pending, trees, node, act)?;
+        let news = news_by(node, act);
+        let told = note_tree(&mut self.trees, &mut self.pending, trees, news)?;
         let numbers = note_numbers(&mut self.nodes, node, act);
         let passed = self.passed;
         let finished = self.finished;

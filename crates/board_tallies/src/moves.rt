@@ -1,8 +1,8 @@
 // Whether an act may come, by the tallies.
-ghost use Rattle.std.specs.Prelude.{◌≡◌, ◌+◌, ◌==◌, nat_le, nat_lt, slice_get};
+ghost use Rattle.std.specs.Prelude.{◌≡◌, ◌+◌, ◌==◌, nat_le, nat_lt};
 ghost use Rattle.std.specs.List.{list_all};
 ghost use Rattle.board_tallies.specs.declared.numbers.Numbers.{Numbers};
-ghost use Rattle.board_tallies.specs.inside.May.{are_apart, takes_turn, may_apply_at, may_bear, may_begin, may_by_node, may_by_tree, may_decide, may_do, may_free, may_show, may_sweep, may_turn, may_vote, may_wait, may_with, runs_at, takes_version, tree_of};
+ghost use Rattle.board_tallies.specs.inside.May.{are_apart, takes_turn, may_apply_at, may_bear, may_begin, may_by_node, may_by_tree, may_decide, may_do, may_free, may_show, may_sweep, may_turn, may_vote, may_wait, runs_at, takes_version, tree_of};
 
 use crate::numbers::{Numbers, numbers_at};
 use crate::pending::{Pending, none_to};
@@ -13,6 +13,20 @@ use script_parts::children::visits;
 use script_parts::kinds::{is_strict, is_update};
 use tv_base::{ActorNo, NodeNo, SubNo, TreeNo, Version};
 use tx_trees::{Sub, Tree, TreeKind};
+
+// A tree of the script, and its state.
+#[derive(Clone, Copy)]
+pub(crate) struct TreeNow<'a> {
+    pub(crate) row: &'a Tree,
+    pub(crate) state: &'a TreeState,
+}
+
+// A node, and its numbers.
+#[derive(Clone, Copy)]
+pub(crate) struct NodeNow {
+    pub(crate) node: ActorNo,
+    pub(crate) numbers: Numbers,
+}
 
 // The tree whose state has a say in the act.
 pub(crate) fn tree_of(act: &Act) -> Option<TreeNo>
@@ -42,87 +56,54 @@ pub(crate) fn tree_of(act: &Act) -> Option<TreeNo>
     }
 }
 
-// Whether an act of a node, of these numbers, may come for the tree of this number, if it is there.
-pub(crate) fn may_with(
-    trees: &[Tree],
-    states: &[TreeState],
-    tree: TreeNo,
-    numbers: Numbers,
-    node: ActorNo,
-    act: &Act,
-) -> bool
-    ensures { result ≡ may_with (slice_get trees.now tree.0) (slice_get states.now tree.0) numbers node.0 act.now }
+// Whether an act of a node may come for its tree.
+pub(crate) fn may_by_tree(tree: TreeNow, here: NodeNow, act: &Act) -> bool
+    ensures { result ≡ may_by_tree tree.entry.row.now tree.entry.state.now here.numbers here.node.0 act.now }
 {
-    let place = tree.0 as usize;
-    let Some(tree) = trees.get(place) else {
-        return false;
-    };
-    let Some(state) = states.get(place) else {
-        return false;
-    };
-    may_by_tree(tree, state, numbers, node, act)
-}
-
-// The same of a tree that is there.
-fn may_by_tree(tree: &Tree, state: &TreeState, numbers: Numbers, node: ActorNo, act: &Act) -> bool
-    ensures { result ≡ may_by_tree tree.now state.now numbers node.0 act.now }
-{
+    let node = here.node;
     match act {
-        Act::Born { tree: _, version } => may_bear(tree, state, numbers, node, *version),
+        Act::Born { tree: _, version } => may_bear(tree, here, *version),
         Act::Waits {
             tree: _,
             update,
             read,
-        } => may_wait(tree, state, numbers, node, *update, *read),
+        } => may_wait(tree, here, *update, *read),
         Act::Did {
             tree: _,
             sub,
             values,
-        } => may_do(tree, state, node, *sub, values),
+        } => may_do(tree, node, *sub, values),
         Act::Voted {
             tree: _,
             sub,
             vote: _,
-        } => may_vote(tree, state, node, *sub),
-        Act::Freed { tree: _ } => may_free(tree, state, node),
-        Act::Decided { tree: _, commit } => may_decide(tree, state, node, *commit),
-        Act::Applied { tree: _, commit } => may_apply_at(tree, state, node, *commit),
+        } => may_vote(tree, node, *sub),
+        Act::Freed { tree: _ } => may_free(tree, node),
+        Act::Decided { tree: _, commit } => may_decide(tree, node, *commit),
+        Act::Applied { tree: _, commit } => may_apply_at(tree, node, *commit),
         _ => false,
     }
 }
 
 // Whether the tree may be born.
-fn may_bear(
-    tree: &Tree,
-    state: &TreeState,
-    numbers: Numbers,
-    node: ActorNo,
-    version: Version,
-) -> bool
-    ensures { result ≡ may_bear tree.now state.now numbers node.0 version.0 }
+fn may_bear(tree: TreeNow, here: NodeNow, version: Version) -> bool
+    ensures { result ≡ may_bear tree.entry.row.now tree.entry.state.now here.numbers here.node.0 version.0 }
 {
-    may_begin(tree, state, node) && takes_version(tree.kind, numbers, version)
+    may_begin(tree, here.node) && takes_version(tree.row.kind, here.numbers, version)
 }
 
 // Whether the tree isn't born, and its home is the node.
-fn may_begin(tree: &Tree, state: &TreeState, node: ActorNo) -> bool
-    ensures { result ≡ may_begin tree.now state.now node.0 }
+fn may_begin(tree: TreeNow, node: ActorNo) -> bool
+    ensures { result ≡ may_begin tree.entry.row.now tree.entry.state.now node.0 }
 {
-    runs_at(tree.subs.items(), SubNo(0), node) && state.born.is_none()
+    runs_at(tree.row.subs.items(), SubNo(0), node) && tree.state.born.is_none()
 }
 
 // Whether the tree may wait.
-fn may_wait(
-    tree: &Tree,
-    state: &TreeState,
-    numbers: Numbers,
-    node: ActorNo,
-    update: Version,
-    read: Version,
-) -> bool
-    ensures { result ≡ may_wait tree.now state.now numbers node.0 update.0 read.0 }
+fn may_wait(tree: TreeNow, here: NodeNow, update: Version, read: Version) -> bool
+    ensures { result ≡ may_wait tree.entry.row.now tree.entry.state.now here.numbers here.node.0 update.0 read.0 }
 {
-    is_strict(tree.kind) && may_begin(tree, state, node) && are_apart(numbers, update, read)
+    is_strict(tree.row.kind) && may_begin(tree, here.node) && are_apart(here.numbers, update, read)
 }
 
 // Whether these are a node's update and read versions, and not one after the other.
@@ -133,58 +114,58 @@ fn are_apart(numbers: Numbers, update: Version, read: Version) -> bool
 }
 
 // Whether the subtransaction may be done, and give these values.
-fn may_do(tree: &Tree, state: &TreeState, node: ActorNo, sub: SubNo, given: &Values) -> bool
-    ensures { result ≡ may_do tree.now state.now node.0 sub.0 given.now }
+fn may_do(tree: TreeNow, node: ActorNo, sub: SubNo, given: &Values) -> bool
+    ensures { result ≡ may_do tree.entry.row.now tree.entry.state.now node.0 sub.0 given.now }
 {
-    !is_strict(tree.kind)
-        && state.born.is_some()
-        && takes_turn(tree.subs.items(), &state.done, sub, node)
-        && (!is_update(tree.kind) || given.items().is_empty())
+    !is_strict(tree.row.kind)
+        && tree.state.born.is_some()
+        && takes_turn(tree.row.subs.items(), &tree.state.done, sub, node)
+        && (!is_update(tree.row.kind) || given.items().is_empty())
 }
 
 // Whether the subtransaction may vote.
-fn may_vote(tree: &Tree, state: &TreeState, node: ActorNo, sub: SubNo) -> bool
-    ensures { result ≡ may_vote tree.now state.now node.0 sub.0 }
+fn may_vote(tree: TreeNow, node: ActorNo, sub: SubNo) -> bool
+    ensures { result ≡ may_vote tree.entry.row.now tree.entry.state.now node.0 sub.0 }
 {
-    is_strict(tree.kind)
-        && state.born.is_some()
-        && takes_turn(tree.subs.items(), &state.voted, sub, node)
+    is_strict(tree.row.kind)
+        && tree.state.born.is_some()
+        && takes_turn(tree.row.subs.items(), &tree.state.voted, sub, node)
 }
 
 // Whether the tree's marks may be freed.
-fn may_free(tree: &Tree, state: &TreeState, node: ActorNo) -> bool
-    ensures { result ≡ may_free tree.now state.now node.0 }
+fn may_free(tree: TreeNow, node: ActorNo) -> bool
+    ensures { result ≡ may_free tree.entry.row.now tree.entry.state.now node.0 }
 {
-    is_update(tree.kind)
-        && visits(tree.subs.items(), NodeNo(node.0))
-        && is_whole_by(tree, state)
-        && !is_marked(&state.freed, node.0 as usize)
+    is_update(tree.row.kind)
+        && visits(tree.row.subs.items(), NodeNo(node.0))
+        && is_whole_by(tree.row, tree.state)
+        && !is_marked(&tree.state.freed, node.0 as usize)
 }
 
 // Whether the tree may be decided so.
-fn may_decide(tree: &Tree, state: &TreeState, node: ActorNo, commit: bool) -> bool
-    ensures { result ≡ may_decide tree.now state.now node.0 commit }
+fn may_decide(tree: TreeNow, node: ActorNo, commit: bool) -> bool
+    ensures { result ≡ may_decide tree.entry.row.now tree.entry.state.now node.0 commit }
 {
-    let subs = tree.subs.items();
-    is_strict(tree.kind)
+    let subs = tree.row.subs.items();
+    is_strict(tree.row.kind)
         && runs_at(subs, SubNo(0), node)
-        && marked_to(subs.len(), &state.voted)
-        && !(state.committed || state.aborted)
-        && commit == marked_to(subs.len(), &state.yes)
+        && marked_to(subs.len(), &tree.state.voted)
+        && !(tree.state.committed || tree.state.aborted)
+        && commit == marked_to(subs.len(), &tree.state.yes)
 }
 
 // Whether what was decided may be applied.
-fn may_apply_at(tree: &Tree, state: &TreeState, node: ActorNo, commit: bool) -> bool
-    ensures { result ≡ may_apply_at tree.now state.now node.0 commit }
+fn may_apply_at(tree: TreeNow, node: ActorNo, commit: bool) -> bool
+    ensures { result ≡ may_apply_at tree.entry.row.now tree.entry.state.now node.0 commit }
 {
-    is_strict(tree.kind)
-        && visits(tree.subs.items(), NodeNo(node.0))
+    is_strict(tree.row.kind)
+        && visits(tree.row.subs.items(), NodeNo(node.0))
         && (if commit {
-            state.committed
+            tree.state.committed
         } else {
-            state.aborted
+            tree.state.aborted
         })
-        && !is_marked(&state.applied, node.0 as usize)
+        && !is_marked(&tree.state.applied, node.0 as usize)
 }
 
 // Whether the subtransaction is there, at the node.

@@ -4,15 +4,13 @@ ghost use Rattle.board_rules.specs.Right.{finishes};
 ghost use Rattle.script_parts.specs.ScriptData.{is_strict, is_update};
 ghost use Rattle.board_tallies.specs.Board.{state_at};
 ghost use Rattle.board_tallies.specs.TakenBack.{pending_back, states_back};
-ghost use Rattle.board_tallies.specs.inside.Noting.{GoesOn, closed_by, kind_passes, pending_at, reads_at, states_told, states_with, StayCounted};
+ghost use Rattle.board_tallies.specs.inside.Noting.{GoesOn, closed_by, kind_passes, pending_at, reads_at, states_told, StayCounted};
 
 use crate::pending::{Pending, PendingWas, recount, recount_back};
-use crate::states::{
-    StateNews, StateWas, TreeState, news_by, pending_version, tell, tell_back, whole_at,
-};
+use crate::states::{StateNews, StateWas, TreeState, pending_version, tell, tell_back, whole_at};
 use letter_types::Act;
 use script_parts::kinds::{is_read, is_strict, is_update};
-use tv_base::{ActorNo, NoMemory, TreeNo, Version};
+use tv_base::{NoMemory, TreeNo, Version};
 use tx_trees::Tree;
 
 // What an act has changed: the state of a tree, if of one, and a count.
@@ -22,15 +20,15 @@ pub(crate) struct ToldWas {
     pub(crate) pending: PendingWas,
 }
 
-// Notes an act at a node, and gives what was there. After an error all is as it was.
+// Notes what an act tells of a tree, if it tells of one that is there, and gives what was there. After an error all is as
+// it was.
 pub(crate) fn note_tree(
     states: &mut Vec<TreeState>,
     pending: &mut Vec<Pending>,
     trees: &[Tree],
-    node: ActorNo,
-    act: &Act,
+    told: Option<(TreeNo, StateNews)>,
 ) -> Result<ToldWas, NoMemory>
-    ensures states { OnOk result (states.new.items ≡ states_with node.0 act.now states.old.items) }
+    ensures states { OnOk result (states.new.items ≡ states_told told states.old.items) }
     ensures counted { OnOk result (StayCounted trees.now states.old.items pending.old.items
         states.new.items pending.new.items) }
     ensures states_back { IfOk result (λ told. states_back told.state states.new.items ≡ states.old.items) }
@@ -38,10 +36,26 @@ pub(crate) fn note_tree(
     ensures states_err { OnErr result (states.new.items ≡ states.old.items) }
     ensures pending_err { OnErr result (pending.new.items ≡ pending.old.items) }
 {
-    let Some((tree, news)) = news_by(node, act) else {
+    let Some((tree, news)) = told else {
         return Ok(nothing());
     };
-    note_news(states, pending, trees, tree, news)
+    let place = tree.0 as usize;
+    if place >= states.len() {
+        return Ok(nothing());
+    }
+    let before = pending_at(trees, states, place);
+    let was = tell(&mut states[place], news);
+    let after = pending_at(trees, states, place);
+    match recount(pending, reads_at(trees, place), before, after) {
+        Ok(counted) => Ok(ToldWas {
+            state: Some((tree, was)),
+            pending: counted,
+        }),
+        Err(none) => {
+            tell_back(&mut states[place], was);
+            Err(none)
+        }
+    }
 }
 
 // Takes back what an act has changed.
@@ -65,41 +79,6 @@ fn nothing() -> ToldWas
     ToldWas {
         state: None,
         pending: PendingWas::Same,
-    }
-}
-
-// Notes what is told of a tree, if it is there.
-fn note_news(
-    states: &mut Vec<TreeState>,
-    pending: &mut Vec<Pending>,
-    trees: &[Tree],
-    tree: TreeNo,
-    news: StateNews,
-) -> Result<ToldWas, NoMemory>
-    ensures states { OnOk result (states.new.items ≡ states_told (Some (tree, news)) states.old.items) }
-    ensures counted { OnOk result (StayCounted trees.now states.old.items pending.old.items
-        states.new.items pending.new.items) }
-    ensures states_back { IfOk result (λ told. states_back told.state states.new.items ≡ states.old.items) }
-    ensures pending_back { IfOk result (λ told. pending_back told.pending pending.new.items ≡ pending.old.items) }
-    ensures states_err { OnErr result (states.new.items ≡ states.old.items) }
-    ensures pending_err { OnErr result (pending.new.items ≡ pending.old.items) }
-{
-    let place = tree.0 as usize;
-    if place >= states.len() {
-        return Ok(nothing());
-    }
-    let before = pending_at(trees, states, place);
-    let was = tell(&mut states[place], news);
-    let after = pending_at(trees, states, place);
-    match recount(pending, reads_at(trees, place), before, after) {
-        Ok(counted) => Ok(ToldWas {
-            state: Some((tree, was)),
-            pending: counted,
-        }),
-        Err(none) => {
-            tell_back(&mut states[place], was);
-            Err(none)
-        }
     }
 }
 

@@ -1,16 +1,18 @@
 -- What is kept of a message changes neither to whom orders go nor how many advances are wanted, so the coordinator
 -- resumes as its table says.
-use Rattle.std.proofs.Common.{◌≡◌, ◌+◌, ◌∙◌, ap, ℕ, List, [], ◌∷◌, refl}
-use Rattle.std.specs.Prelude.{max}
+use Rattle.std.proofs.Common.{◌≡◌, ◌+◌, ◌∙◌, ap, sym, ℕ, List, [], ◌∷◌, Some, true, refl}
+use Rattle.std.specs.Prelude.{is_some, max}
+use Rattle.std.specs.List.{list_all}
 use Rattle.letter_types.specs.declared.bodies.Body.TheVariants.{Advanced, Order}
 use Rattle.letter_types.specs.declared.entries.Outgoing.{Outgoing}
 use Rattle.world_model.specs.Coordinator.{version, to_nodes}
 use Rattle.world_model.specs.declared.restarting.RestartPhase.{RestartPhase}
 use Rattle.world_model.specs.declared.restarting.RestartPhase.TheVariants.{Idle, Recovering, Doing, Counting, Paused}
-use Rattle.world_model.specs.Restarting.{AllTold, Restarting, orders, target, to_client, enter_telling, in_restart_phase, with_advances, phase_by, least_low, resume}
+use Rattle.world_model.specs.Restarting.{AllTold, Restarting, orders, target, to_client, enter_telling, in_restart_phase, with_advances, phase_by, least_low, recover, resume, resume_if}
+use Rattle.coord_restart.specs.declared.change.Onward.{Onward}
 use Rattle.coord_restart.specs.declared.change.Taken.{Taken}
 use Rattle.coord_restart.specs.declared.change.Taken.TheVariants.{Nothing, Row, Nudge, Numbers, Sent}
-use Rattle.coord_restart.specs.RestartChanges.{with_taken}
+use Rattle.coord_restart.specs.RestartChanges.{caught_up, onward, with_taken}
 
 same_nodes : (taken : Taken) (c : Restarting) → c.nodes ≡ (with_taken taken c).nodes
 same_nodes Nothing c = refl
@@ -62,13 +64,22 @@ telling taken phase wanted f c sent is = λ i. record {
   acts = [];
 }
 
--- and a coordinator that goes on so resumes
-pub resumes : (taken : Taken) (k : ℕ) (c : Restarting) (ts : AllTold) (wanted f : ℕ) (phase : RestartPhase)
-    → ts ≡ (with_taken taken c).told → wanted ≡ max c.wanted k → f ≡ least_low ts → phase ≡ phase_by ts wanted f
-    → enter_telling phase (with_advances wanted f (with_taken taken c)) ≡ resume k (with_taken taken c)
-resumes taken k c ts wanted f phase told want least at =
-    rw
-    (at, least, want, told)
-    (ap
-    (λ (w : ℕ). enter_telling (phase_by (with_taken taken c).told (max w k) (least_low (with_taken taken c).told)) (with_advances (max w k) (least_low (with_taken taken c).told) (with_taken taken c)))
-    (same_wanted taken c))
+-- and a coordinator that goes on so, once it was told by each node and by the client, recovers
+resumes : (taken : Taken) (k : ℕ) (c : Restarting) (ts : AllTold) (wanted : ℕ) → ts ≡ (with_taken taken c).told → wanted ≡ max c.wanted k
+    → enter_telling (onward wanted ts).phase (caught_up taken (onward wanted ts) c) ≡ resume k (with_taken taken c)
+resumes taken k c ts wanted told want =
+    let d : Restarting = with_taken taken c in
+    ap (λ (w : ℕ). enter_telling (phase_by ts w (least_low ts)) (with_advances w (least_low ts) d)) want
+    ∙ ap (λ (zs : AllTold). enter_telling (phase_by zs (max c.wanted k) (least_low zs)) (with_advances (max c.wanted k) (least_low zs) d)) told
+    ∙ ap (λ (w : ℕ). enter_telling (phase_by d.told (max w k) (least_low d.told)) (with_advances (max w k) (least_low d.told) d)) (same_wanted taken c)
+
+recovers : (d : Restarting) (k : ℕ) → list_all is_some d.told ≡ true → d.heard ≡ Some k → resume k d ≡ recover d
+recovers d k all heard = sym (λ i. resume_if (all i) (heard i) d)
+
+pub goes_on : (taken : Taken) (k : ℕ) (c : Restarting) (ts : AllTold) (wanted : ℕ) (o : Onward) → ts ≡ (with_taken taken c).told
+    → wanted ≡ max c.wanted k → o ≡ onward wanted ts → list_all is_some ts ≡ true → (with_taken taken c).heard ≡ Some k
+    → enter_telling o.phase (caught_up taken o c) ≡ recover (with_taken taken c)
+goes_on taken k c ts wanted o told want is all heard =
+    ap (λ (next : Onward). enter_telling next.phase (caught_up taken next c)) is
+    ∙ resumes taken k c ts wanted told want
+    ∙ recovers (with_taken taken c) k (sym (ap (list_all is_some) told) ∙ all) heard

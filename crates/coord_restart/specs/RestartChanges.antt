@@ -4,12 +4,13 @@ use Rattle.tv_base.specs.Outside.{one_more}
 use Rattle.phase_out.specs.Counts.{MayKeep, count_with, count_begun, nudged}
 use Rattle.letter_types.specs.declared.bodies.Body.{Body}
 use Rattle.letter_types.specs.Steps.{Out, made}
-use Rattle.world_model.specs.Restarting.{Restarting, by_counted, enter, in_restart_phase, next_advance, next_epoch, restart_row_of, with_advances, with_told, with_wanted}
+use Rattle.world_model.specs.Restarting.{AllTold, Restarting, by_counted, enter, in_restart_phase, least_low, next_advance, next_epoch, phase_by, restart_row_of, with_advances, with_told, with_wanted}
 use Rattle.world_model.specs.declared.restarting.RestartPhase.{RestartPhase}
 use Rattle.world_model.specs.declared.restarting.RestartPhase.TheVariants.{Counting}
 use Rattle.advance_coord.specs.declared.rounds.RowTaken.{RowTaken}
 use Rattle.coord_restart.specs.declared.change.Taken.{Taken}
 use Rattle.coord_restart.specs.declared.change.Taken.TheVariants.{Nothing, Row, Nudge, Numbers, Sent}
+use Rattle.coord_restart.specs.declared.change.Onward.{Onward}
 use Rattle.coord_restart.specs.declared.change.RestartNext.{RestartNext}
 use Rattle.coord_restart.specs.declared.change.RestartNext.TheVariants.{Stay, Want, Acknowledge, Begin, Count, GoOn, Forget}
 use Rattle.coord_restart.specs.declared.change.RestartChange.{RestartChange}
@@ -23,9 +24,14 @@ with_taken Nudge c = record c { count = nudged c.count }
 with_taken (Numbers from t) c = with_told from.0 t c
 with_taken (Sent k) c = record c { heard = Some k }
 
--- the same, once this many advances are wanted and this many have ended
-abbrev pub caught_up : Taken → ℕ → ℕ → Restarting → Restarting
-caught_up taken wanted ended c = with_advances wanted ended (with_taken taken c)
+-- the same, once as many advances are wanted and have ended as when it goes on so
+abbrev pub caught_up : Taken → Onward → Restarting → Restarting
+caught_up taken onward c = with_advances onward.wanted onward.ended (with_taken taken c)
+
+-- how it goes on by what nodes told, if this many advances are wanted
+abbrev pub onward : ℕ → AllTold → Onward
+onward wanted ts =
+    record { wanted = wanted; ended = least_low ts; phase = phase_by ts wanted (least_low ts) }
 
 -- advances up to a number are wanted, in phase idle
 abbrev pub begin_wanted : ℕ → Restarting → Out Restarting
@@ -48,7 +54,7 @@ after_restart_next (Want wanted) c = record c { wanted = wanted }
 after_restart_next Acknowledge c = record c { acks = one_more c.acks }
 after_restart_next (Begin phase) c = in_restart_phase phase c
 after_restart_next (Count reads round) c = in_restart_phase (Counting reads) (record c { count = count_begun round })
-after_restart_next (GoOn wanted ended phase) c = in_restart_phase phase (with_advances wanted ended c)
+after_restart_next (GoOn o) c = in_restart_phase o.phase (with_advances o.wanted o.ended c)
 after_restart_next (Forget count told) c = record (next_epoch c) { count = count; told = told }
 
 -- the coordinator after a step

@@ -25,6 +25,17 @@ pub enum Taken {
     Sent(u64),
 }
 
+/// How the coordinator goes on.
+#[derive(Clone, Copy)]
+pub struct Onward {
+    /// How many advances are wanted.
+    pub wanted: u64,
+    /// How many advancements have ended.
+    pub ended: u64,
+    /// The phase that begins.
+    pub phase: RestartPhase,
+}
+
 /// What comes next.
 #[derive(Drop)]
 pub enum RestartNext {
@@ -37,21 +48,11 @@ pub enum RestartNext {
     /// A phase begins.
     Begin(RestartPhase),
     /// A round begins.
-    Count {
-        reads: bool,
-        round: Round,
-    },
-    /// A phase begins: this many advances are wanted, and this many have ended.
-    GoOn {
-        wanted: u64,
-        ended: u64,
-        phase: RestartPhase,
-    },
+    Count { reads: bool, round: Round },
+    /// A phase begins, with how many advances are wanted and have ended.
+    GoOn(Onward),
     /// The next epoch begins, with a count before its first round and a place for what each node tells.
-    Forget {
-        count: Count,
-        told: AllTold,
-    },
+    Forget { count: Count, told: AllTold },
 }
 
 /// What the coordinator does: it keeps what the message says, and then does what comes next.

@@ -8,6 +8,6 @@ mod restarting;
 mod tellings;
 
 pub use advance_coord::MOST_NODES;
-pub use change::{AllTold, RestartChange, RestartNext, RestartPrepared, Taken};
+pub use change::{AllTold, Onward, RestartChange, RestartNext, RestartPrepared, Taken};
 pub use restarting::Restarting;
 pub use world_model::RestartPhase;

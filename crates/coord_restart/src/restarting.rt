@@ -4,9 +4,9 @@ ghost use Rattle.letter_types.specs.declared.bodies.Body.TheVariants.{Numbers, W
 ghost use Rattle.world_model.specs.declared.restarting.RestartPhase.TheVariants.{Recovering, Doing};
 ghost use Rattle.advance_coord.specs.Rounds.{told_numbers};
 ghost use Rattle.coord_restart.specs.RestartChanges.{IsRestartStepOf, MayTakeUp, after_restart_change, after_restart_next, after_row_kept, begin_wanted, caught_up, with_taken, IsRestartRow};
-ghost use Rattle.world_model.specs.Restarting.{start_restarting, restarting_row, forget, enter_telling, orders, target, version_counted, begin_counting, ask_all_requests, end_counting, by_count, end_advancing, after_doing, same_what, is_answer, resume, recover, in_restart_phase};
+ghost use Rattle.world_model.specs.Restarting.{start_restarting, restarting_row, forget, enter_telling, orders, target, version_counted, begin_counting, ask_all_requests, end_counting, by_count, end_advancing, after_doing, same_what, is_answer, recover, in_restart_phase};
 
-use crate::change::{AllTold, RestartNext, RestartPrepared, Taken};
+use crate::change::{AllTold, Onward, RestartNext, RestartPrepared, Taken};
 use crate::tellings::{Tellings, next_advance};
 use advance_coord::{
     MOST_NODES, RoundStart, RowTaken, ask_requests, start_round, take_row, to_nodes, with_nodes,
@@ -33,6 +33,21 @@ pub struct Restarting {
     count: Count,
     told: AllTold,
     heard: Option<u64>,
+}
+
+/// Whose answer a message is, and to the question of which epoch.
+#[derive(Clone, Copy)]
+struct Reply {
+    from: ActorNo,
+    epoch: u64,
+}
+
+/// An order that a node has obeyed.
+#[derive(Clone, Copy)]
+struct ObeyedOrder {
+    epoch: u64,
+    what: What,
+    version: Version,
 }
 
 impl Model for Restarting {
@@ -80,7 +95,7 @@ impl Restarting {
     pub fn prepare(&self, alloc: Global, letter: &Letter) -> Result<RestartPrepared, NoMemory>
         ensures { IfOk result (IsRestartStepOf (restarting_row self.now letter.now.from.0 letter.now.body) self.now) }
     {
-        let from = NodeNo(letter.from.0);
+        let from = letter.from;
         match (&letter.body, self.phase) {
             (Body::Lose, _) => self.forget(alloc),
             (Body::AdvanceNo { advance }, RestartPhase::Idle) => {
@@ -104,10 +119,12 @@ impl Restarting {
                     read: *read,
                     low: *low,
                 };
-                self.on_numbers(alloc, from, *epoch, told)
+                let epoch = *epoch;
+                self.on_numbers(alloc, Reply { from, epoch }, told)
             }
             (Body::Wanted { epoch, advances }, RestartPhase::Recovering) => {
-                self.on_wanted(alloc, letter.from, *epoch, *advances)
+                let epoch = *epoch;
+                self.on_wanted(alloc, Reply { from, epoch }, *advances)
             }
             (
                 Body::Obeyed {
@@ -116,7 +133,14 @@ impl Restarting {
                     version,
                 },
                 RestartPhase::Doing(doing),
-            ) => self.on_obeyed(alloc, *epoch, *what, *version, doing),
+            ) => {
+                let order = ObeyedOrder {
+                    epoch: *epoch,
+                    what: *what,
+                    version: *version,
+                };
+                self.on_obeyed(alloc, order, doing)
+            }
             (Body::DoneRow { .. } | Body::AskedRow { .. }, RestartPhase::Counting { reads }) => {
                 self.on_row(alloc, reads, letter)
             }
@@ -169,14 +193,10 @@ impl Restarting {
                 self.count.begin(round);
                 self.enter(RestartPhase::Counting { reads });
             }
-            RestartNext::GoOn {
-                wanted,
-                ended,
-                phase,
-            } => {
-                self.wanted = wanted;
-                self.ended = ended;
-                self.enter(phase);
+            RestartNext::GoOn(onward) => {
+                self.wanted = onward.wanted;
+                self.ended = onward.ended;
+                self.enter(onward.phase);
             }
             RestartNext::Forget { count, told } => self.begin_epoch(count, told),
         }
@@ -226,23 +246,23 @@ impl Restarting {
         Ok(RestartPrepared::sending(alloc, Taken::Nothing, next, sent))
     }
 
-    /// These messages, and after them the orders with which a phase begins, if `ended` advancements have ended.
+    /// These messages, and after them the orders with which the coordinator goes on.
     fn with_orders(
         &self,
         alloc: Global,
         first: Letters,
-        phase: RestartPhase,
-        ended: u64,
+        onward: Onward,
     ) -> Result<Letters, NoMemory>
-        ensures { IfOk result (λ sent. sent ≡ first ++ orders phase (record self.now { ended = ended })) }
+        ensures { IfOk result (λ sent. sent
+            ≡ first ++ orders onward.phase (record self.now { ended = onward.ended })) }
     {
-        let RestartPhase::Doing(what) = phase else {
+        let RestartPhase::Doing(what) = onward.phase else {
             return Ok(first);
         };
         let order = Body::Order {
             epoch: self.epoch,
             what,
-            version: target(what, ended),
+            version: target(what, onward.ended),
         };
         let sent = with_nodes(alloc, first, self.nodes, &order)?;
         Ok(sent)
@@ -254,36 +274,30 @@ impl Restarting {
     {
         let wanted = self.wanted.max(advance);
         let ended = self.ended;
-        let phase = next_advance(wanted, ended);
-        let sent = self.with_orders(alloc, Letters::new(alloc), phase, ended)?;
-        let next = RestartNext::GoOn {
+        let onward = Onward {
             wanted,
             ended,
-            phase,
+            phase: next_advance(wanted, ended),
         };
+        let sent = self.with_orders(alloc, Letters::new(alloc), onward)?;
+        let next = RestartNext::GoOn(onward);
         Ok(RestartPrepared::sending(alloc, Taken::Nothing, next, sent))
     }
 
-    /// The client hears how many advancements have ended, and a phase begins.
+    /// The client hears how many advancements have ended, and the coordinator goes on so.
     fn enter_telling(
         &self,
         alloc: Global,
         taken: Taken,
-        wanted: u64,
-        ended: u64,
-        phase: RestartPhase,
+        onward: Onward,
     ) -> Result<RestartPrepared, NoMemory>
         requires { MayTakeUp taken self.now }
-        ensures { IfOk result (IsRestartStepOf (enter_telling phase (caught_up taken wanted ended self.now)) self.now) }
+        ensures { IfOk result (IsRestartStepOf (enter_telling onward.phase (caught_up taken onward self.now)) self.now) }
     {
-        let version = Version(ended);
+        let version = Version(onward.ended);
         let told = one_letter(alloc, self.client(), Body::Advanced { version })?;
-        let sent = self.with_orders(alloc, told, phase, ended)?;
-        let next = RestartNext::GoOn {
-            wanted,
-            ended,
-            phase,
-        };
+        let sent = self.with_orders(alloc, told, onward)?;
+        let next = RestartNext::GoOn(onward);
         Ok(RestartPrepared::sending(alloc, taken, next, sent))
     }
 
@@ -291,79 +305,73 @@ impl Restarting {
     fn on_numbers(
         &self,
         alloc: Global,
-        from: NodeNo,
-        epoch: u64,
+        reply: Reply,
         told: Told,
     ) -> Result<RestartPrepared, NoMemory>
         ensures { IfOk result (IsRestartRow
-            (Numbers epoch told.update told.read told.low) Recovering from.0 self.now) }
+            (Numbers reply.epoch told.update told.read told.low) Recovering reply.from.0 self.now) }
     {
+        let from = NodeNo(reply.from.0);
         let place = from.0 as usize;
         let kept = self.told.items();
-        if !(epoch == self.epoch && place < kept.len()) {
+        if !(reply.epoch == self.epoch && place < kept.len()) {
             return Ok(RestartPrepared::silent(alloc, Taken::Nothing, RestartNext::Stay));
         }
         let new = [Some(told)];
         let tellings = Tellings::with(kept, place, &told, &new);
-        self.recover(alloc, Taken::Numbers { from, told }, &tellings, self.heard)
+        self.recover(alloc, Taken::Numbers { from, told }, &tellings)
     }
 
     /// The client said how many advances it sent, while the coordinator recovers.
     fn on_wanted(
         &self,
         alloc: Global,
-        from: ActorNo,
-        epoch: u64,
+        reply: Reply,
         advances: u32,
     ) -> Result<RestartPrepared, NoMemory>
-        ensures { IfOk result (IsRestartRow (Wanted epoch advances) Recovering from.0 self.now) }
+        ensures { IfOk result (IsRestartRow (Wanted reply.epoch advances) Recovering reply.from.0 self.now) }
     {
-        if !(epoch == self.epoch && from.0 == self.nodes + 1) {
+        if !(reply.epoch == self.epoch && reply.from.0 == self.nodes + 1) {
             return Ok(RestartPrepared::silent(alloc, Taken::Nothing, RestartNext::Stay));
         }
         let sent = u64::from(advances);
         let tellings = Tellings::kept(self.told.items());
-        self.recover(alloc, Taken::Sent(sent), &tellings, Some(sent))
+        self.recover(alloc, Taken::Sent(sent), &tellings)
     }
 
-    /// The coordinator resumes once each node and the client have told: with what is taken now, this is what they told.
+    /// How many advances the client sent, if it has told, with what is taken now.
+    fn heard_with(&self, taken: &Taken) -> Option<u64>
+        ensures { result ≡ (with_taken taken.now self.now).heard }
+    {
+        match taken {
+            Taken::Nothing => self.heard,
+            Taken::Row(_) => self.heard,
+            Taken::Nudge => self.heard,
+            Taken::Numbers { from: _, told: _ } => self.heard,
+            Taken::Sent(sent) => Some(*sent),
+        }
+    }
+
+    /// The coordinator resumes once each node and the client have told: by what nodes told, with what is taken now, and
+    /// by how many advances the client sent.
     fn recover(
         &self,
         alloc: Global,
         taken: Taken,
         tellings: &Tellings,
-        heard: Option<u64>,
     ) -> Result<RestartPrepared, NoMemory>
         requires may { MayTakeUp taken self.now }
         requires told { tellings.now ≡ (with_taken taken self.now).told }
-        requires heard { heard ≡ (with_taken taken self.now).heard }
         ensures { IfOk result (IsRestartStepOf (recover (with_taken taken self.now)) self.now) }
     {
         if !tellings.are_all() {
             return Ok(RestartPrepared::silent(alloc, taken, RestartNext::Stay));
         }
-        let Some(sent) = heard else {
+        let Some(sent) = self.heard_with(&taken) else {
             return Ok(RestartPrepared::silent(alloc, taken, RestartNext::Stay));
         };
-        self.resume(alloc, taken, tellings, sent)
-    }
-
-    /// The coordinator goes on by what nodes told, and by how many advances the client sent.
-    fn resume(
-        &self,
-        alloc: Global,
-        taken: Taken,
-        tellings: &Tellings,
-        sent: u64,
-    ) -> Result<RestartPrepared, NoMemory>
-        requires may { MayTakeUp taken self.now }
-        requires told { tellings.now ≡ (with_taken taken self.now).told }
-        ensures { IfOk result (IsRestartStepOf (resume sent (with_taken taken self.now)) self.now) }
-    {
-        let wanted = self.wanted.max(sent);
-        let ended = tellings.least_low();
-        let phase = tellings.phase(wanted, ended);
-        let prepared = self.enter_telling(alloc, taken, wanted, ended, phase)?;
+        let onward = tellings.onward(self.wanted.max(sent));
+        let prepared = self.enter_telling(alloc, taken, onward)?;
         Ok(prepared)
     }
 
@@ -371,14 +379,12 @@ impl Restarting {
     fn on_obeyed(
         &self,
         alloc: Global,
-        epoch: u64,
-        what: What,
-        version: Version,
+        order: ObeyedOrder,
         doing: What,
     ) -> Result<RestartPrepared, NoMemory>
-        ensures { IfOk result (IsRestartRow (Obeyed epoch what version) (Doing doing) 0 self.now) }
+        ensures { IfOk result (IsRestartRow (Obeyed order.epoch order.what order.version) (Doing doing) 0 self.now) }
     {
-        if !self.is_answer(epoch, what, version, doing) {
+        if !self.is_answer(order, doing) {
             return Ok(RestartPrepared::silent(alloc, Taken::Nothing, RestartNext::Stay));
         }
         if self.acks.saturating_add(1) == u64::from(self.nodes) {
@@ -387,11 +393,12 @@ impl Restarting {
         Ok(RestartPrepared::silent(alloc, Taken::Nothing, RestartNext::Acknowledge))
     }
 
-    /// Whether an answer is to the order that nodes are doing.
-    fn is_answer(&self, epoch: u64, what: What, version: Version, doing: What) -> bool
-        ensures { result ≡ is_answer epoch what version doing self.now }
+    /// Whether an order that a node has obeyed is the one that nodes are doing.
+    fn is_answer(&self, order: ObeyedOrder, doing: What) -> bool
+        ensures { result ≡ is_answer order.epoch order.what order.version doing self.now }
     {
-        epoch == self.epoch && (same_what(what, doing) && version.0 == target(doing, self.ended).0)
+        order.epoch == self.epoch
+            && (same_what(order.what, doing) && order.version.0 == target(doing, self.ended).0)
     }
 
     /// Every node has obeyed.
@@ -410,8 +417,12 @@ impl Restarting {
         ensures { IfOk result (IsRestartStepOf (end_advancing self.now) self.now) }
     {
         let ended = self.ended.saturating_add(1);
-        let phase = next_advance(self.wanted, ended);
-        self.enter_telling(alloc, Taken::Nothing, self.wanted, ended, phase)
+        let onward = Onward {
+            wanted: self.wanted,
+            ended,
+            phase: next_advance(self.wanted, ended),
+        };
+        self.enter_telling(alloc, Taken::Nothing, onward)
     }
 
     /// The version that a round counts.
@@ -493,7 +504,12 @@ impl Restarting {
     {
         let what = if reads { What::Sweep } else { What::Show };
         let phase = RestartPhase::Doing(what);
-        let sent = self.with_orders(alloc, Letters::new(alloc), phase, self.ended)?;
+        let onward = Onward {
+            wanted: self.wanted,
+            ended: self.ended,
+            phase,
+        };
+        let sent = self.with_orders(alloc, Letters::new(alloc), onward)?;
         Ok(RestartPrepared::sending(alloc, Taken::Row(row), RestartNext::Begin(phase), sent))
     }
 }

@@ -2,8 +2,10 @@
 ghost use Rattle.std.specs.Prelude.{◌≡◌, ◌<◌, ◌∷◌, [], length, slice_set, is_some, Some};
 ghost use Rattle.std.specs.List.{list_all, list_any};
 ghost use Rattle.world_model.specs.Restarting.{least_low, next_advance, phase_by};
+ghost use Rattle.coord_restart.specs.RestartChanges.{onward};
 ghost use Rattle.coord_restart.specs.inside.Tests.{passes};
 
+use crate::change::Onward;
 use letter_types::What;
 use std::marker::Model;
 use world_model::{RestartPhase, Told};
@@ -76,7 +78,7 @@ impl<'a> Tellings<'a> {
 
     /// The least low version, or the greatest number if no node has told one.
     #[tactic(auto, using(crate::proofs::Parts::least_parts))]
-    pub(crate) fn least_low(&self) -> u64
+    fn least_low(&self) -> u64
         ensures { result ≡ least_low self.now }
     {
         least(self.before).min(least(self.new).min(least(self.after)))
@@ -91,7 +93,7 @@ impl<'a> Tellings<'a> {
     }
 
     /// The phase in which the coordinator goes on, by how many advances are wanted and how many have ended.
-    pub(crate) fn phase(&self, wanted: u64, ended: u64) -> RestartPhase
+    fn phase(&self, wanted: u64, ended: u64) -> RestartPhase
         ensures { result ≡ phase_by self.now wanted ended }
     {
         let next = ended.saturating_add(1);
@@ -105,6 +107,18 @@ impl<'a> Tellings<'a> {
             return RestartPhase::Doing(What::Turn);
         }
         next_advance(wanted, ended)
+    }
+
+    /// How the coordinator goes on once all have told, if this many advances are wanted.
+    pub(crate) fn onward(&self, wanted: u64) -> Onward
+        ensures { result ≡ onward wanted self.now }
+    {
+        let ended = self.least_low();
+        Onward {
+            wanted,
+            ended,
+            phase: self.phase(wanted, ended),
+        }
     }
 }
 

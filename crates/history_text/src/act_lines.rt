@@ -2,7 +2,7 @@
 ghost use Rattle.std.specs.Prelude.{◌≡◌, ◌++◌, OnOk};
 ghost use Rattle.history_text.specs.LineParts.{act_parts, parts_text};
 
-use crate::actor_names::push_sub_word;
+use crate::actor_names::push_sub;
 use crate::causes_text::push_got;
 use crate::counts::push_count;
 use crate::letter_lines::push_version;
@@ -22,7 +22,8 @@ pub(crate) fn push_act(text: &mut Text, script: &Script, act: &Act) -> Result<()
             push_version(text, *version)
         }
         Act::Did { tree, sub, values } => {
-            push_sub_word(text, script, b" did ", *tree, *sub)?;
+            push_tree_word(text, script, b" did ", *tree)?;
+            push_sub(text, *sub)?;
             push_got(text, script, values)
         }
         Act::Turned { version } => push_count(text, b" turned ", version.0),
@@ -40,12 +41,14 @@ pub(crate) fn push_act(text: &mut Text, script: &Script, act: &Act) -> Result<()
             item,
             holder,
         } => {
-            push_sub_word(text, script, b" parked ", *tree, *sub)?;
+            push_tree_word(text, script, b" parked ", *tree)?;
+            push_sub(text, *sub)?;
             push_item_word(text, script, b" ", *item)?;
             push_tree_word(text, script, b" ", *holder)
         }
         Act::Voted { tree, sub, vote } => {
-            push_sub_word(text, script, b" voted ", *tree, *sub)?;
+            push_tree_word(text, script, b" voted ", *tree)?;
+            push_sub(text, *sub)?;
             push_vote(text, script, vote.get())
         }
         Act::Freed { tree } => push_tree_word(text, script, b" freed ", *tree),

@@ -1,11 +1,10 @@
-// Actors by name, and subtransactions by the names of their trees.
-ghost use Rattle.std.specs.Prelude.{◌≡◌, ◌++◌, OnOk};
-ghost use Rattle.std.specs.Str.{IsAscii};
-ghost use Rattle.history_text.specs.TreeNames.{actor_text, sub_text};
+// Actors by name, and subtransactions by number.
+ghost use Rattle.std.specs.Prelude.{◌≡◌, ◌++◌, OnOk, codes};
+ghost use Rattle.history_text.specs.TreeNames.{actor_text};
+ghost use Rattle.history_text.specs.Values.{count_text};
 
 use crate::counts::push_count;
-use crate::tree_names::push_tree_word;
-use tv_base::{ActorNo, NoMemory, SubNo, Text, TreeNo};
+use tv_base::{ActorNo, NoMemory, SubNo, Text};
 use tx_trees::Script;
 
 // An actor: the nodes come first, then the coordinator, then the client.
@@ -22,17 +21,9 @@ pub(crate) fn push_actor(text: &mut Text, script: &Script, actor: ActorNo) -> Re
     push_count(text, b"n", actor.0 as u64)
 }
 
-// A word, a tree and a subtransaction.
-pub(crate) fn push_sub_word(
-    text: &mut Text,
-    script: &Script,
-    word: &[u8],
-    tree: TreeNo,
-    sub: SubNo,
-) -> Result<(), NoMemory>
-    requires { IsAscii word.now }
-    ensures { OnOk result (text.new ≡ text.old ++ sub_text word.now script.now tree.0 sub.0) }
+// The number of a subtransaction, behind its tree.
+pub(crate) fn push_sub(text: &mut Text, sub: SubNo) -> Result<(), NoMemory>
+    ensures { OnOk result (text.new ≡ text.old ++ count_text (codes " ") sub.0) }
 {
-    push_tree_word(text, script, word, tree)?;
     push_count(text, b" ", sub.0 as u64)
 }

@@ -1,14 +1,14 @@
 // What letters say.
 ghost use Rattle.std.specs.Prelude.{◌≡◌, ◌++◌, OnOk, codes};
 ghost use Rattle.std.specs.Str.{IsAscii};
-ghost use Rattle.history_text.specs.LineParts.{body_parts, parts_text, order_text};
-ghost use Rattle.history_text.specs.Values.{count_text, numbers_text, round_text, row_text, three_text};
+ghost use Rattle.history_text.specs.LineParts.{body_parts, parts_text, what_word};
+ghost use Rattle.history_text.specs.Values.{count_text, numbers_text, round_text, three_text};
 
-use crate::actor_names::push_sub_word;
+use crate::actor_names::push_sub;
 use crate::counts::push_count;
 use crate::tree_names::push_tree_word;
 use crate::votes_text::{push_answer, push_commit, push_notice};
-use letter_types::{Body, Row, What};
+use letter_types::{Body, What};
 use tv_base::{NoMemory, Text, Version};
 use tx_trees::Script;
 
@@ -26,21 +26,6 @@ fn push_round(text: &mut Text, word: &[u8], version: Version, round: u64) -> Res
 {
     push_count(text, word, version.0)?;
     push_count(text, b" round ", round)
-}
-
-// A word, a version, a round, and the numbers of a row.
-fn push_row(
-    text: &mut Text,
-    word: &[u8],
-    version: Version,
-    round: u64,
-    row: &Row,
-) -> Result<(), NoMemory>
-    requires { IsAscii word.now }
-    ensures { OnOk result (text.new ≡ text.old ++ row_text word.now version.0 round row.now) }
-{
-    push_round(text, word, version, round)?;
-    push_numbers(text, row.items())
 }
 
 // Numbers, each after a space.
@@ -62,18 +47,11 @@ fn push_three(text: &mut Text, update: Version, read: Version, low: Version) -> 
     push_count(text, b" low ", low.0)
 }
 
-// A word, an epoch, and what is to be done with a version, or was done.
-fn push_order(
-    text: &mut Text,
-    word: &[u8],
-    epoch: u64,
-    what: What,
-    version: Version,
-) -> Result<(), NoMemory>
-    requires { IsAscii word.now }
-    ensures { OnOk result (text.new ≡ text.old ++ order_text word.now epoch what version.0) }
+// What is to be done with a version, or was done.
+fn push_what(text: &mut Text, what: What, version: Version) -> Result<(), NoMemory>
+    ensures { OnOk result (text.new ≡ text.old
+        ++ (codes " " ++ (what_word what ++ count_text (codes " ") version.0))) }
 {
-    push_count(text, word, epoch)?;
     match what {
         What::Turn => push_count(text, b" turn ", version.0),
         What::Show => push_count(text, b" show ", version.0),
@@ -89,7 +67,8 @@ pub(crate) fn push_body(text: &mut Text, script: &Script, body: &Body) -> Result
         Body::Go => text.push_all(b" go"),
         Body::Root { tree } => push_tree_word(text, script, b" root ", *tree),
         Body::Sub { tree, sub, version } => {
-            push_sub_word(text, script, b" sub ", *tree, *sub)?;
+            push_tree_word(text, script, b" sub ", *tree)?;
+            push_sub(text, *sub)?;
             push_version(text, *version)
         }
         Body::Done {
@@ -98,7 +77,8 @@ pub(crate) fn push_body(text: &mut Text, script: &Script, body: &Body) -> Result
             version,
             notice,
         } => {
-            push_sub_word(text, script, b" done ", *tree, *sub)?;
+            push_tree_word(text, script, b" done ", *tree)?;
+            push_sub(text, *sub)?;
             push_version(text, *version)?;
             push_notice(text, script, *tree, notice)
         }
@@ -125,12 +105,18 @@ pub(crate) fn push_body(text: &mut Text, script: &Script, body: &Body) -> Result
             version,
             round,
             row,
-        } => push_row(text, b" donerow ", *version, *round, row),
+        } => {
+            push_round(text, b" donerow ", *version, *round)?;
+            push_numbers(text, row.items())
+        }
         Body::AskedRow {
             version,
             round,
             row,
-        } => push_row(text, b" askedrow ", *version, *round, row),
+        } => {
+            push_round(text, b" askedrow ", *version, *round)?;
+            push_numbers(text, row.items())
+        }
         Body::Advanced { version } => push_count(text, b" advanced ", version.0),
         Body::Decide {
             tree,
@@ -146,7 +132,10 @@ pub(crate) fn push_body(text: &mut Text, script: &Script, body: &Body) -> Result
             push_version(text, *version)
         }
         Body::Release { tree } => push_tree_word(text, script, b" release ", *tree),
-        Body::Wake { tree, sub } => push_sub_word(text, script, b" wake ", *tree, *sub),
+        Body::Wake { tree, sub } => {
+            push_tree_word(text, script, b" wake ", *tree)?;
+            push_sub(text, *sub)
+        }
         Body::Lose => text.push_all(b" lose"),
         Body::AdvanceNo { advance } => push_count(text, b" advance ", *advance as u64),
         Body::Ask { epoch } => push_count(text, b" ask ", *epoch),
@@ -167,11 +156,17 @@ pub(crate) fn push_body(text: &mut Text, script: &Script, body: &Body) -> Result
             epoch,
             what,
             version,
-        } => push_order(text, b" order ", *epoch, *what, *version),
+        } => {
+            push_count(text, b" order ", *epoch)?;
+            push_what(text, *what, *version)
+        }
         Body::Obeyed {
             epoch,
             what,
             version,
-        } => push_order(text, b" obeyed ", *epoch, *what, *version),
+        } => {
+            push_count(text, b" obeyed ", *epoch)?;
+            push_what(text, *what, *version)
+        }
     }
 }

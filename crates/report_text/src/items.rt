@@ -10,66 +10,69 @@ use history_text::push_value;
 use tv_base::{NoMemory, Text, Version};
 use tx_trees::ItemRow;
 
-// The lines of the items of these values: those shown, those at the next version, and whether that is written.
+// What items are worth, by item number: at the version that reads are shown, at the next one, and whether the item is
+// written there.
+#[derive(Clone, Copy)]
+pub(crate) struct AllWorth<'a> {
+    pub(crate) shown: &'a [Value],
+    pub(crate) later: &'a [Value],
+    pub(crate) written: &'a [bool],
+}
+
+// The same of one item.
+#[derive(Clone, Copy)]
+struct ItemWorth<'a> {
+    shown: &'a Value,
+    later: &'a Value,
+    written: bool,
+}
+
+// The lines of the items, which are worth this.
 pub(crate) fn push_rows(
     text: &mut Text,
     advances: u32,
     rows: &[ItemRow],
-    shown: &[Value],
-    later: &[Value],
-    written: &[bool],
+    worth: AllWorth,
 ) -> Result<(), NoMemory>
     requires names { AreAsciiItems rows.now }
-    requires shown { length shown.now ≡ length rows.now }
-    requires later { length later.now ≡ length rows.now }
-    requires written { length written.now ≡ length rows.now }
-    ensures { OnOk result (text.new ≡ text.old ++ rows_lines advances rows.now shown.now later.now written.now) }
+    requires shown { length worth.shown.now ≡ length rows.now }
+    requires later { length worth.later.now ≡ length rows.now }
+    requires written { length worth.written.now ≡ length rows.now }
+    ensures { OnOk result (text.new ≡ text.old
+        ++ rows_lines advances rows.now worth.entry.shown.now worth.entry.later.now worth.entry.written.now) }
 {
     for (item, row) in rows.iter().enumerate() {
-        push_row(
-            text,
-            advances,
-            row,
-            &shown[item],
-            &later[item],
-            written[item],
-        )?;
+        let one = ItemWorth {
+            shown: &worth.shown[item],
+            later: &worth.later[item],
+            written: worth.written[item],
+        };
+        push_row(text, advances, row, one)?;
     }
     Ok(())
 }
 
 // The line of an item.
-fn push_row(
-    text: &mut Text,
-    advances: u32,
-    row: &ItemRow,
-    shown: &Value,
-    later: &Value,
-    written: bool,
-) -> Result<(), NoMemory>
+fn push_row(text: &mut Text, advances: u32, row: &ItemRow, worth: ItemWorth) -> Result<(), NoMemory>
     requires { IsAscii row.now.name }
-    ensures { OnOk result (text.new ≡ text.old ++ item_line advances row.now shown.now later.now written) }
+    ensures { OnOk result (text.new ≡ text.old
+        ++ item_line advances row.now worth.entry.shown.now worth.entry.later.now worth.entry.written) }
 {
     text.push_all(b"item ")?;
     text.push_all(row.name.bytes())?;
-    push_balances(text, advances, shown, later, written)?;
+    push_balances(text, advances, worth)?;
     text.push_all(b"\n")
 }
 
 // What an item is worth at the version that reads are shown, and at the next if that is written.
-fn push_balances(
-    text: &mut Text,
-    advances: u32,
-    shown: &Value,
-    later: &Value,
-    written: bool,
-) -> Result<(), NoMemory>
-    ensures { OnOk result (text.new ≡ text.old ++ balances advances shown.now later.now written) }
+fn push_balances(text: &mut Text, advances: u32, worth: ItemWorth) -> Result<(), NoMemory>
+    ensures { OnOk result (text.new ≡ text.old
+        ++ balances advances worth.entry.shown.now worth.entry.later.now worth.entry.written) }
 {
     let version = Version(advances as u64);
-    push_balance(text, version, shown)?;
-    if written {
-        push_balance(text, Version(version.0 + 1), later)?;
+    push_balance(text, version, worth.shown)?;
+    if worth.written {
+        push_balance(text, Version(version.0 + 1), worth.later)?;
     }
     Ok(())
 }

@@ -7,7 +7,6 @@ mod items;
 mod outcomes;
 mod parts;
 mod reads;
-mod run;
 mod run_report;
 mod run_summary;
 mod served;

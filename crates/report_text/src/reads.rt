@@ -1,16 +1,16 @@
 // The values of read trees.
 ghost use Rattle.std.specs.Prelude.{◌≡◌, ◌++◌, IfOk, OnOk, length, slice_get};
 ghost use Rattle.std.specs.Str.{IsAscii};
-ghost use Rattle.board_model.specs.inside.Balances.{subs_in};
 ghost use Rattle.report_text.specs.inside.Lines.{found_text, ops_texts, subs_texts};
 ghost use Rattle.tx_trees.specs.AsciiNames.{AreAsciiItems};
+ghost use Rattle.tx_trees.specs.ScriptData.{subs_at};
 ghost use Rattle.history_text.specs.Values.{get_text};
 
 use commute_ops::Value;
 use history_text::push_value;
 use std::alloc::Global;
 use tv_base::{ItemNo, Name, NoMemory, Seq, Text, TreeNo};
-use tx_trees::{ItemRow, Sub, SubOp, Tree};
+use tx_trees::{ItemRow, Script, Sub, SubOp, Tree};
 
 // What read trees show, by tree number.
 pub(crate) type Reads = Seq<Text, 0xffff_ffff>;
@@ -29,16 +29,14 @@ pub(crate) fn no_texts(alloc: Global, trees: &[Tree]) -> Result<Reads, NoMemory>
 // The values of the items that a tree's operations are on, among these of all items. A tree that isn't there has none.
 pub(crate) fn values_of(
     alloc: Global,
-    rows: &[ItemRow],
-    trees: &[Tree],
+    script: &Script,
     tree: TreeNo,
     values: &[Value],
 ) -> Result<Text, NoMemory>
-    requires { AreAsciiItems rows.now }
-    ensures { IfOk result (λ text. text ≡ subs_texts rows.now values.now (subs_in trees.now tree.0)) }
+    ensures { IfOk result (λ text. text ≡ subs_texts script.now.items values.now (subs_at script.now tree.0)) }
 {
-    match trees.get(tree.0 as usize) {
-        Some(row) => values_in(alloc, rows, values, row.subs.items()),
+    match script.trees().get(tree.0 as usize) {
+        Some(row) => values_in(alloc, script.items(), values, row.subs.items()),
         None => Ok(Text::new(alloc)),
     }
 }

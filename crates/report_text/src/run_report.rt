@@ -4,11 +4,10 @@ ghost use Rattle.tx_trees.specs.Adding.{advances_in};
 ghost use Rattle.report_text.specs.inside.Lines.{history_of_votes};
 ghost use Rattle.report_text.specs.Report.{report_of};
 
-use crate::items::push_rows;
-use crate::run::Run;
+use crate::items::{AllWorth, push_rows};
 use crate::served::shown_of;
-use crate::trees::{push_nodes, push_trees};
-use board_model::{ballots_of, outcomes_of, written_at};
+use crate::trees::{TreesTold, push_nodes, push_trees};
+use board_model::{Run, ballots_of, outcomes_of, written_at};
 use letter_types::History;
 use std::alloc::Global;
 use tv_base::{NoMemory, Text, Version};
@@ -42,7 +41,7 @@ pub fn report(alloc: Global, script: &Script, history: &History) -> Result<Text,
     let standings = outcomes.standings.items();
     let shown = shown_of(alloc, run, standings, advances)?;
     let next = Version(advances as u64 + 1);
-    let written = written_at(alloc, script, history, &outcomes.standings, next)?;
+    let written = written_at(alloc, run, &outcomes.standings, next)?;
     let reads = shown.reads.items();
     let balances = shown.balances.items();
     let later = shown.later.items();
@@ -52,9 +51,19 @@ pub fn report(alloc: Global, script: &Script, history: &History) -> Result<Text,
     let ballots = ballots_of(alloc, script, voting)?;
     let votes = ballots.rows();
     let mut text = Text::new(alloc);
-    push_trees(&mut text, script, trees, standings, reads, votes)?;
+    let told = TreesTold {
+        standings,
+        reads,
+        ballots: votes,
+    };
+    push_trees(&mut text, script, trees, told)?;
     push_nodes(&mut text, advances, nodes)?;
-    push_rows(&mut text, advances, rows, balances, later, marks)?;
+    let worth = AllWorth {
+        shown: balances,
+        later,
+        written: marks,
+    };
+    push_rows(&mut text, advances, rows, worth)?;
     Ok(text)
 }
 

@@ -3,11 +3,10 @@ ghost use Rattle.std.specs.Prelude.{◌≡◌, ◌++◌, ◌+◌, ◌<◌, ◌�
 ghost use Rattle.board_model.specs.Balances.{worths};
 ghost use Rattle.board_model.specs.SerialList.{IsSerial};
 ghost use Rattle.board_model.specs.Standings.{standings_of};
-ghost use Rattle.report_text.specs.inside.Served.{AreAsked, AreRead, AreTold, IsServed, ask_at, asks_from, read_version, IsAskedFor, IsServedIn};
+ghost use Rattle.report_text.specs.inside.Served.{AreAsked, AreRead, AreTold, ask_at, asks_from, read_version, IsAskedFor, IsServedIn};
 
 use crate::reads::{Reads, no_texts, values_of};
-use crate::run::Run;
-use board_model::{Balances, Carried, Member, Members, Standing, by_version, carry, start};
+use board_model::{Balances, Carried, Member, Members, Run, Standing, by_version, carry, start};
 use std::alloc::Global;
 use tv_base::{NoMemory, TreeNo, Version};
 use tx_trees::{Tree, TreeKind};
@@ -17,6 +16,14 @@ use tx_trees::{Tree, TreeKind};
 pub(crate) struct Served {
     pub(crate) place: usize,
     pub(crate) carried: Carried,
+}
+
+// A pass over the serial order: where it asks for memory, the run, and its read trees that are born, by version.
+#[derive(Clone, Copy)]
+pub(crate) struct Pass<'a> {
+    pub(crate) alloc: Global,
+    pub(crate) run: Run<'a>,
+    pub(crate) asks: &'a Members,
 }
 
 // What a run shows: the values of read trees by tree number, and what all items are worth after the advancements and at
@@ -46,18 +53,23 @@ pub(crate) fn shown_of(
     let trees = run.script.trees();
     let found = asks_of(alloc, trees, standings)?;
     let asks = by_version(alloc, found)?;
+    let pass = Pass {
+        alloc,
+        run,
+        asks: &asks,
+    };
     let mut reads = no_texts(alloc, trees)?;
     let first = Served {
         place: 0,
         carried: start(alloc, run.script, run.serial)?,
     };
     let version = Version(advances as u64);
-    let now = serve_to(alloc, run, &asks, &mut reads, first, version)?;
+    let now = serve_to(pass, &mut reads, first, version)?;
     let balances = copied(alloc, &now.carried.values)?;
     let next = Version(version.0 + 1);
-    let after = serve_to(alloc, run, &asks, &mut reads, now, next)?;
+    let after = serve_to(pass, &mut reads, now, next)?;
     let later = copied(alloc, &after.carried.values)?;
-    serve_rest(alloc, run, &asks, &mut reads, after)?;
+    serve_rest(pass, &mut reads, after)?;
     Ok(Shown {
         reads,
         balances,
@@ -112,91 +124,65 @@ fn push_ask(asks: &mut Members, version: Option<Version>, tree: u32) -> Result<(
 }
 
 // The next read tree shows its values.
-fn serve_one(
-    alloc: Global,
-    run: Run,
-    asks: &Members,
-    reads: &mut Reads,
-    served: Served,
-) -> Result<Served, NoMemory>
-    requires serial { IsSerial run.script.now run.history.now run.serial.now }
-    requires asks { AreAsked run.script.now run.history.now asks.now }
-    requires served { IsServed run.script.now run.history.now run.serial.now asks.now reads.old served }
-    requires more { served.place < length asks.now }
-    ensures served { IfOk result (IsServedIn run.entry asks.now reads.new) }
+fn serve_one(pass: Pass, reads: &mut Reads, served: Served) -> Result<Served, NoMemory>
+    requires serial { IsSerial pass.run.script.now pass.run.history.now pass.run.serial.now }
+    requires asks { AreAsked pass.run.script.now pass.run.history.now pass.asks.now }
+    requires served { IsServedIn pass.run pass.asks.now reads.old served }
+    requires more { served.place < length pass.asks.now }
+    ensures served { IfOk result (IsServedIn pass.entry.run pass.entry.asks.now reads.new) }
     ensures place { IfOk result (λ r. r.place ≡ served.place + 1) }
-    ensures version { IfOk result (λ r. IsAskedFor asks.now served.place r.carried.version) }
+    ensures version { IfOk result (λ r. IsAskedFor pass.entry.asks.now served.place r.carried.version) }
 {
-    let rows = run.script.items();
-    let trees = run.script.trees();
-    let ask = asks.items()[served.place];
+    let run = pass.run;
+    // (read for its clause, that the script is valid)
+    let _valid = run.script.nodes();
+    let ask = pass.asks.items()[served.place];
     let place = served.place + 1;
-    let carried = carry(
-        alloc,
-        run.script,
-        run.history,
-        run.serial,
-        served.carried,
-        ask.version,
-    )?;
-    let text = values_of(alloc, rows, trees, ask.tree, carried.values.items())?;
+    let carried = carry(pass.alloc, run, served.carried, ask.version)?;
+    let text = values_of(pass.alloc, run.script, ask.tree, carried.values.items())?;
     reads.put(ask.tree.0 as usize, text);
     Ok(Served { place, carried })
 }
 
 // The read trees of at most this version show their values, and what all items are worth is carried on to it.
 fn serve_to(
-    alloc: Global,
-    run: Run,
-    asks: &Members,
+    pass: Pass,
     reads: &mut Reads,
     served: Served,
     version: Version,
 ) -> Result<Served, NoMemory>
-    requires serial { IsSerial run.script.now run.history.now run.serial.now }
-    requires asks { AreAsked run.script.now run.history.now asks.now }
-    requires served { IsServed run.script.now run.history.now run.serial.now asks.now reads.old served }
+    requires serial { IsSerial pass.run.script.now pass.run.history.now pass.run.serial.now }
+    requires asks { AreAsked pass.run.script.now pass.run.history.now pass.asks.now }
+    requires served { IsServedIn pass.run pass.asks.now reads.old served }
     requires later { served.carried.version.0 ≤ version.0 }
-    ensures served { IfOk result (IsServedIn run.entry asks.now reads.new) }
+    ensures served { IfOk result (IsServedIn pass.entry.run pass.entry.asks.now reads.new) }
     ensures version { IfOk result (λ r. r.carried.version ≡ version) }
-    ensures worths { IfOk result (λ r. r.carried.values ≡ worths run.entry.script.now run.entry.history.now version.0) }
+    ensures worths { IfOk result (λ r. r.carried.values ≡ worths pass.entry.run.script.now pass.entry.run.history.now version.0) }
 {
-    let list = asks.items();
+    let list = pass.asks.items();
     let mut now = served;
     while now.place < list.len() && list[now.place].version.0 <= version.0 {
-        now = serve_one(alloc, run, asks, reads, now)?;
+        now = serve_one(pass, reads, now)?;
     }
     let place = now.place;
-    let carried = carry(
-        alloc,
-        run.script,
-        run.history,
-        run.serial,
-        now.carried,
-        version,
-    )?;
+    let carried = carry(pass.alloc, pass.run, now.carried, version)?;
     Ok(Served { place, carried })
 }
 
 // All other read trees show their values.
-fn serve_rest(
-    alloc: Global,
-    run: Run,
-    asks: &Members,
-    reads: &mut Reads,
-    served: Served,
-) -> Result<(), NoMemory>
-    requires serial { IsSerial run.script.now run.history.now run.serial.now }
-    requires asks { AreAsked run.script.now run.history.now asks.now }
-    requires served { IsServed run.script.now run.history.now run.serial.now asks.now reads.old served }
-    ensures count { OnOk result (length reads.new ≡ length run.entry.script.now.trees) }
+fn serve_rest(pass: Pass, reads: &mut Reads, served: Served) -> Result<(), NoMemory>
+    requires serial { IsSerial pass.run.script.now pass.run.history.now pass.run.serial.now }
+    requires asks { AreAsked pass.run.script.now pass.run.history.now pass.asks.now }
+    requires served { IsServedIn pass.run pass.asks.now reads.old served }
+    ensures count { OnOk result (length reads.new ≡ length pass.entry.run.script.now.trees) }
     ensures told { OnOk result
-        (AreTold run.entry.script.now run.entry.history.now asks.now (length asks.now) reads.new) }
+        (AreTold pass.entry.run.script.now pass.entry.run.history.now pass.entry.asks.now
+        (length pass.entry.asks.now) reads.new) }
 {
-    let list = asks.items();
+    let list = pass.asks.items();
     let mut now = served;
     while now.place < list.len() {
-        now = serve_one(alloc, run, asks, reads, now)?;
+        now = serve_one(pass, reads, now)?;
     }
     Ok(())
 }

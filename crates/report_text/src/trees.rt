@@ -13,30 +13,47 @@ use commute_ops::push_number;
 use tv_base::{Name, NoMemory, Text, TreeNo, Version};
 use tx_trees::{Script, Tree, TreeKind, Written};
 
-// The lines of the trees, which have these standings; the values of read trees and the votes come by tree number.
+// What is told of trees, by tree number: their standings, the values of read trees, and the votes.
+#[derive(Clone, Copy)]
+pub(crate) struct TreesTold<'a> {
+    pub(crate) standings: &'a [Standing],
+    pub(crate) reads: &'a [Text],
+    pub(crate) ballots: &'a [Ballot<'a>],
+}
+
+// The version of a tree, if it is born, and its values, if it is a read tree.
+#[derive(Clone, Copy)]
+struct TreeTold<'a> {
+    born: Option<Version>,
+    values: &'a Text,
+}
+
+// The lines of the trees, of which this is told.
 pub(crate) fn push_trees(
     text: &mut Text,
     script: &Script,
     trees: &[Tree],
-    standings: &[Standing],
-    reads: &[Text],
-    ballots: &[Ballot],
+    told: TreesTold,
 ) -> Result<(), NoMemory>
     requires names { AreAsciiTrees trees.now }
     requires few { length trees.now < 2 ^ 32 }
-    requires standings { length standings.now ≡ length trees.now }
-    requires reads { length reads.now ≡ length trees.now }
-    requires ballots { length ballots.now ≡ length trees.now }
+    requires standings { length told.standings.now ≡ length trees.now }
+    requires reads { length told.reads.now ≡ length trees.now }
+    requires ballots { length told.ballots.now ≡ length trees.now }
     ensures { OnOk result (text.new ≡ text.old
-        ++ trees_lines script.now 0 trees.now standings.now reads.now ballots.now) }
+        ++ trees_lines script.now 0 trees.now told.entry.standings.now told.entry.reads.now told.entry.ballots.now) }
 {
     for (t, tree) in trees.iter().enumerate() {
         let voters = Voters {
             number: TreeNo(t as u32),
             tree,
-            ballot: &ballots[t],
+            ballot: &told.ballots[t],
         };
-        push_tree(text, script, voters, standings[t].born, &reads[t])?;
+        let one = TreeTold {
+            born: told.standings[t].born,
+            values: &told.reads[t],
+        };
+        push_tree(text, script, voters, one)?;
     }
     Ok(())
 }
@@ -46,16 +63,16 @@ fn push_tree(
     text: &mut Text,
     script: &Script,
     voters: Voters,
-    born: Option<Version>,
-    values: &Text,
+    told: TreeTold,
 ) -> Result<(), NoMemory>
     requires { IsAscii voters.tree.now.name }
-    ensures { OnOk result (text.new ≡ text.old ++ line_shown script.now voters.entry born values.now) }
+    ensures { OnOk result
+        (text.new ≡ text.old ++ line_shown script.now voters.entry told.entry.born told.entry.values.now) }
 {
     let tree = voters.tree;
-    match (tree.kind, born) {
+    match (tree.kind, told.born) {
         (TreeKind::Update, Some(version)) => push_update(text, tree, version),
-        (TreeKind::Read, Some(version)) => push_read(text, &tree.name, version, values),
+        (TreeKind::Read, Some(version)) => push_read(text, &tree.name, version, told.values),
         (TreeKind::Strict, Some(version)) => push_strict(text, script, voters, version),
         _ => Ok(()),
     }

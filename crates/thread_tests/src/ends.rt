@@ -4,7 +4,7 @@ use std::alloc::Global;
 use std::sync::Wait;
 use std::test::Fail;
 use std::thread::Threads;
-use threev_top::threev;
+use threev_top::{Host, threev};
 use tv_base::{MemSink, MemSource, NoGate};
 
 /// A script of 24 bytes, and its text of 35.
@@ -50,7 +50,12 @@ fn ended<R: Threads + Wait + Sync>(
     let failing = [ends.failing_write].to_vec(alloc)?;
     let mut out = MemSink::new(alloc, ends.out_room, ends.out_most, failing)?;
     let mut err = MemSink::new(alloc, ends.err_room, 16, Vec::new(alloc))?;
-    let ended = threev(rt, alloc, &words, &mut source, &mut out, &mut err, &NoGate);
+    let host = Host {
+        rt,
+        alloc,
+        gate: &NoGate,
+    };
+    let ended = threev(&host, &words, &mut source, &mut out, &mut err);
     let written = out.bytes();
     Ok((ended.status, written.len(), TEXT.starts_with(written)))
 }

@@ -10,7 +10,7 @@ use std::sync::Wait;
 use std::sync::atomic::{AtomicU64, Ordering};
 use std::test::Fail;
 use std::thread::{self, Threads};
-use threev_top::threev;
+use threev_top::{Host, threev};
 use tv_base::{ActorNo, Gate, MemSink, MemSource};
 
 // How often a gate looks for what it waits for, at most.
@@ -114,17 +114,16 @@ impl Gate for EveryThird {
 
 /// The history of a call over ends in memory, if it ends with status 0 and writes a text that ends with this one.
 fn history_of<R: Threads + Wait + Sync, G: Gate + Sync>(
-    rt: &R,
-    alloc: Global,
+    host: &Host<'_, R, G>,
     line: &[&str],
     (script, text): (&str, &str),
-    gate: &G,
 ) -> Result<History, Fail> {
+    let alloc = host.alloc;
     let words = words_of(alloc, line)?;
     let mut source = MemSource::new(script.as_bytes().to_vec(alloc)?, 64, Vec::new(alloc));
     let mut out = MemSink::new(alloc, 2000, 64, Vec::new(alloc))?;
     let mut err = MemSink::new(alloc, 100, 64, Vec::new(alloc))?;
-    let ended = threev(rt, alloc, &words, &mut source, &mut out, &mut err, gate);
+    let ended = threev(host, &words, &mut source, &mut out, &mut err);
     if ended.status != 0 || !out.bytes().ends_with(text.as_bytes()) {
         return Err("another status or text".into());
     }
@@ -157,7 +156,12 @@ fn met(gate: &Meeting, history: &History, actors: u8) -> bool
 fn two_nodes_step_side_by_side(rt: HostRuntime) -> Result<(), Fail> {
     let gate = Meeting::new();
     let words = ["threev", "--mode", "run", "--workers", "4"];
-    let history = history_of(&rt, rt.alloc(), &words, (TWO_TREES, TWO_TREES_TEXT), &gate)?;
+    let host = Host {
+        rt: &rt,
+        alloc: rt.alloc(),
+        gate: &gate,
+    };
+    let history = history_of(&host, &words, (TWO_TREES, TWO_TREES_TEXT))?;
     assert!(rt; met(&gate, &history, 4));
     Ok(())
 }
@@ -172,13 +176,12 @@ fn a_generated_run_steps_side_by_side(rt: HostRuntime) -> Result<(), Fail> {
         "--trees=2",
         "--workers=4",
     ];
-    let history = history_of(
-        &rt,
-        rt.alloc(),
-        &words,
-        ("", "total sum 28000 top 0\n"),
-        &gate,
-    )?;
+    let host = Host {
+        rt: &rt,
+        alloc: rt.alloc(),
+        gate: &gate,
+    };
+    let history = history_of(&host, &words, ("", "total sum 28000 top 0\n"))?;
     assert!(rt; met(&gate, &history, 6));
     Ok(())
 }
@@ -203,7 +206,12 @@ fn a_node_that_is_held_back_changes_no_text(rt: HostRuntime) -> Result<(), Fail>
     };
     let words = ["threev", "--mode", "run", "--workers", "4"];
     let ends = (WHOLE_ADVANCEMENT, WHOLE_ADVANCEMENT_TEXT);
-    let history = history_of(&rt, rt.alloc(), &words, ends, &gate)?;
+    let host = Host {
+        rt: &rt,
+        alloc: rt.alloc(),
+        gate: &gate,
+    };
+    let history = history_of(&host, &words, ends)?;
     assert!(rt; is_right(rt.alloc(), WHOLE_ADVANCEMENT.as_bytes(), &history)?);
     Ok(())
 }

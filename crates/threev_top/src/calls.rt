@@ -9,6 +9,7 @@ ghost use Rattle.threev_top.specs.declared.stops.Stop.{Stop};
 ghost use Rattle.threev_top.specs.declared.stops.Stop.TheVariants as stops;
 ghost use Rattle.tv_base.specs.Outside.{AppendsFront, Rose};
 
+use crate::host::Host;
 use crate::making::made_by_words;
 use crate::modes::MadeText;
 use crate::stops::Stop;
@@ -94,21 +95,19 @@ fn write<K: Sink>(made: MadeText, out: &mut K) -> Outcome
 
 /// Makes what the words ask for, and writes it.
 fn make_and_write<R: Threads + Wait + Sync, S: Source, K: Sink, G: Gate + Sync>(
-    rt: &R,
-    alloc: Global,
+    host: &Host<'_, R, G>,
     words: &[String],
     source: &mut S,
     out: &mut K,
-    gate: &G,
 ) -> Outcome
     ensures { EndsAs S.left S.faults source.old source.new K.written K.faults out.old out.new
         (line_said words.now) result.stop result.history }
 {
-    match made_by_words(rt, alloc, words, source, gate) {
+    match made_by_words(host, words, source) {
         Ok(made) => write(made, out),
         Err(stop) => Outcome {
             stop: Some(stop),
-            history: History::new(alloc),
+            history: History::new(host.alloc),
             script: None,
         },
     }
@@ -197,13 +196,11 @@ pub fn end_without_words<E: Sink>(alloc: Global, why: WordsError, err: &mut E) -
 /// In the modes that run, the history at the statuses 0 and 5 has the headline (`HasHeadline`). On threads the call may
 /// wait, and what is promised holds if it returns.
 pub fn threev<R: Threads + Wait + Sync, S: Source, K: Sink, E: Sink, G: Gate + Sync>(
-    rt: &R,
-    alloc: Global,
+    host: &Host<'_, R, G>,
     words: &[String],
     source: &mut S,
     out: &mut K,
     err: &mut E,
-    gate: &G,
 ) -> Ended
     // How the call ends, with a stop or without one: when it ends so, what it leaves, its status, and what standard
     // error is told.
@@ -220,7 +217,7 @@ pub fn threev<R: Threads + Wait + Sync, S: Source, K: Sink, E: Sink, G: Gate + S
         stop,
         history,
         script,
-    } = make_and_write(rt, alloc, words, source, out, gate);
+    } = make_and_write(host, words, source, out);
     match stop {
         None => Ended {
             status: 0,
@@ -228,7 +225,7 @@ pub fn threev<R: Threads + Wait + Sync, S: Source, K: Sink, E: Sink, G: Gate + S
             script,
         },
         Some(stop) => {
-            let told = tell_stop(alloc, stop, err);
+            let told = tell_stop(host.alloc, stop, err);
             Ended {
                 status: told.status(),
                 history,

@@ -2,6 +2,7 @@
 #![tactic(auto)]
 
 mod calls;
+mod host;
 mod making;
 mod modes;
 mod stops;
@@ -9,5 +10,6 @@ mod texts;
 mod upgraded;
 
 pub use calls::{Ended, end_without_words, threev};
+pub use host::Host;
 pub use stops::Stop;
 pub use upgraded::upgraded_scripts_have_the_same_runs;

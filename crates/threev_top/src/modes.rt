@@ -10,6 +10,7 @@ ghost use Rattle.threev_top.specs.inside.Calls.{bytes_of};
 ghost use Rattle.tx_trees.specs.Adding.{upgraded};
 ghost use Rattle.world_model.specs.Scheduled.{IsScheduled};
 
+use crate::host::Host;
 use crate::texts::{HELP, VERSION};
 use command_words::ScriptMode;
 use history_text::history_lines_behind;
@@ -106,12 +107,10 @@ fn simulated(
 
 /// The run of a script on threads, and its report.
 fn ran<R: Threads + Wait + Sync, G: Gate + Sync>(
-    rt: &R,
-    alloc: Global,
+    host: &Host<'_, R, G>,
     script: Script,
     workers: u32,
     lines: bool,
-    gate: &G,
 ) -> Result<MadeText, NoMemory>
     requires { (1 ≤ workers) × (workers ≤ 32) }
     ensures headline { IfOk result (λ made. HasHeadline script made.history) }
@@ -119,7 +118,8 @@ fn ran<R: Threads + Wait + Sync, G: Gate + Sync>(
 {
     // (read for its clause, that the script is valid)
     let _valid = script.nodes();
-    let history = run(rt, alloc, &script, workers, gate)?;
+    let alloc = host.alloc;
+    let history = run(host.rt, alloc, &script, workers, host.gate)?;
     let text = report_with(alloc, &script, &history, lines)?;
     Ok(MadeText {
         history,
@@ -150,19 +150,18 @@ fn upgraded_of(alloc: Global, script: Script) -> Result<MadeText, NoMemory>
 
 /// What a mode makes of a script.
 pub(crate) fn made_of_script<R: Threads + Wait + Sync, G: Gate + Sync>(
-    rt: &R,
-    alloc: Global,
+    host: &Host<'_, R, G>,
     mode: ScriptMode,
     script: Script,
-    gate: &G,
 ) -> Result<MadeText, NoMemory>
     requires { HasWorkers mode }
     ensures { IfOk result (λ made. IsText mode script made.history (bytes_of made.output)) }
 {
+    let alloc = host.alloc;
     match mode {
         ScriptMode::Check => counts_of(alloc, &script),
         ScriptMode::Sim { seed, history } => simulated(alloc, script, seed, history),
-        ScriptMode::Run { workers, history } => ran(rt, alloc, script, workers, history, gate),
+        ScriptMode::Run { workers, history } => ran(host, script, workers, history),
         ScriptMode::Upgrade => upgraded_of(alloc, script),
     }
 }

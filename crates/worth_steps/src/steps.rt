@@ -22,6 +22,13 @@ pub(crate) struct WorthStep {
     pub(crate) value: Amount,
 }
 
+/// An item before all deeds: its kind, and its number.
+#[derive(Clone, Copy)]
+pub(crate) struct Start<'a> {
+    pub(crate) kind: Kind,
+    pub(crate) first: &'a Amount,
+}
+
 /// Steps as they were.
 type Steps = Seq<WorthStep, 0xffff_ffff_ffff_ffff>;
 
@@ -151,16 +158,15 @@ fn number_below<'a>(first: &'a Amount, steps: &'a [WorthStep], place: usize) -> 
 
 /// A step with its value, from the number below a place.
 fn valued_at(
-    kind: Kind,
-    first: &Amount,
+    start: Start,
     steps: &[WorthStep],
     place: usize,
     step: &WorthStep,
 ) -> Result<WorthStep, NoMemory>
-    ensures { IfOk result (λ s. s ≡ step_valued kind (number_below first.now place steps.now) step.now) }
+    ensures { IfOk result (λ s. s ≡ step_valued start.entry.kind (number_below start.entry.first.now place steps.now) step.now) }
 {
-    let below = number_below(first, steps, place);
-    step_valued(kind, below, step).ok_or(NoMemory)
+    let below = number_below(start.first, steps, place);
+    step_valued(start.kind, below, step).ok_or(NoMemory)
 }
 
 /// How many of the steps, which ascend, are of at most this version. If all are, it doesn't search.
@@ -223,43 +229,48 @@ pub(crate) fn newest_step(steps: &[WorthStep]) -> Version
 
 /// Notes a deed of the version, after all that came. If no step stands above, only a new step needs memory.
 pub(crate) fn note_step(
-    kind: Kind,
-    first: &Amount,
+    start: Start,
     steps: &mut Vec<WorthStep>,
     version: Version,
     deed: &Deed,
 ) -> Result<StepChange, NoMemory>
-    ensures ok { OnOk result (AreEdited kind first.now version.0 deed.now steps.old.items steps.new.items) }
+    ensures ok { OnOk result (AreEdited start.entry.kind start.entry.first.now version.0 deed.now
+        steps.old.items steps.new.items) }
     ensures back { IfOk result (λ c. steps_back c steps.new.items ≡ steps.old.items) }
     ensures err { OnErr result (steps.new.items ≡ steps.old.items) }
 {
     let place = steps_up_to(steps, version);
     if stands_before(steps, place, version) {
-        let change = go_on(kind, first, steps, place - 1, deed)?;
+        let change = go_on(start, steps, place - 1, deed)?;
         return Ok(change);
     }
     let step = step_begun(version, deed).ok_or(NoMemory)?;
-    let change = begin(kind, first, steps, place, &step)?;
+    let change = begin(start, steps, place, &step)?;
     Ok(change)
 }
 
 /// The step at a place goes on with a deed, and the values above it are worked out anew.
 fn go_on(
-    kind: Kind,
-    first: &Amount,
+    start: Start,
     steps: &mut Vec<WorthStep>,
     place: usize,
     deed: &Deed,
 ) -> Result<StepChange, NoMemory>
     requires { place < length steps.old.items }
-    ensures ok { OnOk result (HasGoneOn kind first.now place deed.now steps.old.items steps.new.items) }
+    ensures ok { OnOk result (HasGoneOn start.entry.kind start.entry.first.now place deed.now
+        steps.old.items steps.new.items) }
     ensures back { IfOk result (λ c. steps_back c steps.new.items ≡ steps.old.items) }
     ensures err { OnErr result (steps.new.items ≡ steps.old.items) }
 {
     let old = steps[place];
     let gone_on = step_gone_on(&old, deed).ok_or(NoMemory)?;
-    let step = valued_at(kind, first, steps, place, &gone_on)?;
-    let mut above = revalued(*steps.allocator(), kind, &step.value, &steps[place + 1..])?;
+    let step = valued_at(start, steps, place, &gone_on)?;
+    let mut above = revalued(
+        *steps.allocator(),
+        start.kind,
+        &step.value,
+        &steps[place + 1..],
+    )?;
     steps[place] = step;
     swap_above(steps, place + 1, &mut above);
     Ok(StepChange::GoneOn(place, old, Steps::from_vec(above)))
@@ -267,19 +278,19 @@ fn go_on(
 
 /// A step begins at a place with a deed, and the values above it are worked out anew.
 fn begin(
-    kind: Kind,
-    first: &Amount,
+    start: Start,
     steps: &mut Vec<WorthStep>,
     place: usize,
     step: &WorthStep,
 ) -> Result<StepChange, NoMemory>
     requires { place ≤ length steps.old.items }
-    ensures ok { OnOk result (steps.new.items ≡ begun_at kind first.now place step.now steps.old.items) }
+    ensures ok { OnOk result (steps.new.items
+        ≡ begun_at start.entry.kind start.entry.first.now place step.now steps.old.items) }
     ensures back { IfOk result (λ c. steps_back c steps.new.items ≡ steps.old.items) }
     ensures err { OnErr result (steps.new.items ≡ steps.old.items) }
 {
-    let step = valued_at(kind, first, steps, place, step)?;
-    let mut above = revalued(*steps.allocator(), kind, &step.value, &steps[place..])?;
+    let step = valued_at(start, steps, place, step)?;
+    let mut above = revalued(*steps.allocator(), start.kind, &step.value, &steps[place..])?;
     steps.insert(place, step)?;
     swap_above(steps, place + 1, &mut above);
     Ok(StepChange::Begun(place, Steps::from_vec(above)))

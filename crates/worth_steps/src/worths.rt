@@ -7,7 +7,7 @@ ghost use Rattle.worth_steps.specs.inside.Showing.{AreOrdered, newest_by_kind, s
 
 use crate::change::{Changed, WorthChange};
 use crate::puts::{self, Put};
-use crate::steps::{self, WorthStep};
+use crate::steps::{self, Start, WorthStep};
 use commute_ops::{Amount, Kind, SumValue, TopValue, Value};
 use script_parts::parts::Deed;
 use std::alloc::Global;
@@ -72,13 +72,11 @@ impl Worths {
                 })
             }
             None => {
-                let change = steps::note_step(
-                    self.kind,
-                    &self.first,
-                    &mut self.steps,
-                    version,
-                    deed,
-                )?;
+                let start = Start {
+                    kind: self.kind,
+                    first: &self.first,
+                };
+                let change = steps::note_step(start, &mut self.steps, version, deed)?;
                 Ok(WorthChange {
                     changed: Changed::Steps(change),
                 })

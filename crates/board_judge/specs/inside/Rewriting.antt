@@ -10,18 +10,19 @@ use Rattle.script_parts.specs.declared.parts.Deed.{Deed}
 use Rattle.script_parts.specs.declared.parts.Sub.{Sub}
 use Rattle.script_parts.specs.declared.parts.SubOp.{SubOp}
 use Rattle.board_rules.specs.ButCause.{IsMoveButCause}
-use Rattle.board_rules.specs.Histories.{Place, places_of, act_at, acts_at}
+use Rattle.board_rules.specs.Histories.{Place, places_of, acts_at}
 use Rattle.board_rules.specs.Moves.{OneByOne}
 use Rattle.board_tallies.specs.Board.{BoardData, IsBoardOf, closes_in, OfBoard, tree_number}
 use Rattle.worth_steps.specs.Kept.{WorthsData, worths_back, AreWorthsWith}
 use Rattle.worth_steps.specs.Worth.{Noted, deed_suits}
 use Rattle.board_judge.specs.Notes.{AreKnown, tree_noted, subs_noted}
 use Rattle.board_judge.specs.declared.rewriting.Altered.{Altered}
+use Rattle.board_judge.specs.declared.rewriting.ItemWorths.{ItemWorths}
 use Rattle.board_judge.specs.inside.Votes.{IsRightRead}
 use Rattle.tv_base.specs.declared.numbers.ItemNo.{ItemNo}
 use Rattle.letter_types.specs.declared.acts.Act.{Act}
 use Rattle.worth_steps.specs.declared.change.WorthChange.{WorthChange}
-use Rattle.board_judge.specs.declared.noting.NotedStep.{NotedStep}
+use Rattle.board_judge.specs.declared.noting.Tallies.{Tallies}
 use Rattle.board_judge.specs.inside.Steps.{AreNoted}
 
 -- the worths with one change taken back: an item that isn't there changes nothing
@@ -32,6 +33,10 @@ altered_back a ws = elim (slice_get ws a.item.0) [ Some w ↦ slice_set ws a.ite
 abbrev pub unaltered : List Altered → List WorthsData → List WorthsData
 unaltered [] ws = ws
 unaltered (a ∷ rest) ws = altered_back a (unaltered rest ws)
+
+-- the worths with what was changed of them taken back
+abbrev pub worths_before : ItemWorths → List WorthsData
+worths_before kept = unaltered kept.trail.items kept.worths.items
 
 -- the first worths come back from the second ones by this change of an item
 abbrev pub ComesBack : ItemNo → List WorthsData → List WorthsData → WorthChange → Type 0
@@ -99,17 +104,9 @@ pub record IsCompared (s : ScriptData) (xs : List Place) (y : Place) (right : Bo
   pub reads : Decides right (IsRightRead s (xs ++ y ∷ []) y.act)
   pub known : AreKnown s (xs ++ y ∷ []) ws
 
--- what was found of an act whose step this is, with the worths after it, whatever acts were before it and later: the
--- first worths are those of the acts before, and the tallies those of all
-abbrev pub IsComparedBy : ScriptData → BoardData → NotedStep → Act → List WorthsData → List WorthsData → Bool → Type 0
-IsComparedBy s b st act olds news right =
-    (xs later : List Place) (p : ℕ) → IsClosing s xs later (act_at p act) st.noted.closed b → AreKnown s xs olds
-    → IsCompared s xs (act_at p act) right news
-
--- what the walk over these acts of an entry with these steps has found, with the worths after it, whatever history was
--- before
-abbrev pub IsRewrittenBy : ScriptData → BoardData → List NotedStep → List Act → List WorthsData → List WorthsData → Bool
-    → Type 0
-IsRewrittenBy s b steps acts olds news right =
-    (h : List Entry) (p : ℕ) → AreNoted s h (acts_at p acts) steps b → AreKnown s (places_of h) olds
-    → IsRewritten s h (acts_at p acts) right news
+-- what the walk over these acts of an entry that was noted with these tallies has found, with the worths after it,
+-- whatever history was before
+abbrev pub IsRewrittenBy : ScriptData → Tallies → List Act → List WorthsData → List WorthsData → Bool → Type 0
+IsRewrittenBy s tallies acts olds news right =
+    (h : List Entry) (p : ℕ) → AreNoted s h (acts_at p acts) tallies.steps.items tallies.board
+    → AreKnown s (places_of h) olds → IsRewritten s h (acts_at p acts) right news

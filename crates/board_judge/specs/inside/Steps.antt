@@ -9,11 +9,11 @@ use Rattle.board_rules.specs.Moves.{IsMove, OneByOne}
 use Rattle.board_tallies.specs.Board.{BoardData, IsBoardOf, closes_in, tree_number}
 use Rattle.board_tallies.specs.TakenBack.{taken_back}
 use Rattle.board_judge.specs.declared.noting.NotedStep.{NotedStep}
-use Rattle.board_judge.specs.inside.Votes.{IsRightYes, IsMidway, OfHistory, OfMidway}
+use Rattle.board_judge.specs.inside.Votes.{IsMidwayOf, IsRightYes, OfHistory, OfMidway, script_before}
 use Rattle.board_rules.specs.Judging.{FirstFails}
 use Rattle.board_rules.specs.declared.rule_names.Rule.{Rule}
-use Rattle.worth_steps.specs.Kept.{WorthsData}
-use Rattle.board_judge.specs.declared.votes.Basis.{Basis}
+use Rattle.board_judge.specs.declared.votes.Before.{Before}
+use Rattle.board_judge.specs.declared.noting.Tallies.{Tallies}
 
 -- an act that was noted after the acts xs, and what was found of it
 pub record IsStepped (s : ScriptData) (h : List Entry) (xs : List Place) (x : Place) (st : NotedStep) (b : BoardData) : Type 0 where
@@ -46,27 +46,31 @@ restored [] b = b
 restored (st ∷ sts) b = taken_back st.noted (restored sts b)
 
 -- the act x was noted with this step, and these are the tallies after it, whatever was before
-abbrev pub IsStepOf : Basis → BoardData → List WorthsData → Place → BoardData → NotedStep → Type 0
-IsStepOf basis b ws x new st = OfMidway basis b ws (λ h xs. IsStepped basis.script.now h xs x st new)
+abbrev pub IsStepOf : Before → BoardData → Place → BoardData → NotedStep → Type 0
+IsStepOf before b x new st = OfMidway before b (λ h xs. IsStepped (script_before before) h xs x st new)
 
-abbrev pub IsStepIfNoted : Basis → BoardData → List WorthsData → Place → BoardData → Option NotedStep → Type 0
-IsStepIfNoted basis b ws x new step = IfSome step (IsStepOf basis b ws x new)
+abbrev pub IsStepIfNoted : Before → BoardData → Place → BoardData → Option NotedStep → Type 0
+IsStepIfNoted before b x new step = IfSome step (IsStepOf before b x new)
 
--- if the act x is a move, it was noted behind those of its entry, whichever were noted with the first steps and
--- tallies: with it these are the second ones
-abbrev pub AreNotedIf : Basis → List WorthsData → Place → List NotedStep → BoardData → List NotedStep → BoardData → Bool
-    → Type 0
-AreNotedIf basis ws x steps b steps' b' moves = moves ≡ true → (h : List Entry) (ys : List Place)
-    → IsMidway basis.script.now basis.gates basis.users h (places_of h ++ ys) b ws
-    → AreNoted basis.script.now h ys steps b → AreNoted basis.script.now h (ys ++ x ∷ []) steps' b'
+-- if the act x is a move, it was noted behind those of its entry, whichever were noted with the first tallies: with it
+-- these are the second ones
+abbrev pub AreNotedIf : Before → Place → Tallies → Tallies → Bool → Type 0
+AreNotedIf before x old new moves = moves ≡ true → (h : List Entry) (ys : List Place)
+    → IsMidwayOf before h (places_of h ++ ys) old.board → AreNoted (script_before before) h ys old.steps.items old.board
+    → AreNoted (script_before before) h (ys ++ x ∷ []) new.steps.items new.board
 
--- all acts of an entry were noted with these steps and tallies; the same unless a rule is broken; and the first act that
--- isn't a move is of this rule
-abbrev pub AreAllNoted : Basis → BoardData → List WorthsData → Entry → List NotedStep → BoardData → Type 0
-AreAllNoted basis b ws e steps new = OfHistory basis b ws (λ h. AreNoted basis.script.now h (places_at e) steps new)
+-- all acts of an entry were noted, and these are the tallies with them; the same unless a rule is broken; and the first
+-- act that isn't a move is of this rule
+abbrev pub AreAllNoted : Before → BoardData → Entry → Tallies → Type 0
+AreAllNoted before b e new =
+    OfHistory before b (λ h. AreNoted (script_before before) h (places_at e) new.steps.items new.board)
 
-abbrev pub AreAllNotedUnless : Basis → BoardData → List WorthsData → Entry → List NotedStep → BoardData → Option Rule → Type 0
-AreAllNotedUnless basis b ws e steps new broken = IsNone broken → AreAllNoted basis b ws e steps new
+abbrev pub AreAllNotedUnless : Before → BoardData → Entry → Tallies → Option Rule → Type 0
+AreAllNotedUnless before b e new broken = IsNone broken → AreAllNoted before b e new
 
-abbrev pub FailsFirst : Basis → BoardData → List WorthsData → Entry → Rule → Type 0
-FailsFirst basis b ws e rule = OfHistory basis b ws (λ h. FirstFails basis.script.now h e rule)
+abbrev pub FailsFirst : Before → BoardData → Entry → Rule → Type 0
+FailsFirst before b e rule = OfHistory before b (λ h. FirstFails (script_before before) h e rule)
+
+-- the Board's tallies with these steps taken back
+abbrev pub board_before : Tallies → BoardData
+board_before t = restored t.steps.items t.board

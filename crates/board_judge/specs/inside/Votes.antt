@@ -24,7 +24,7 @@ use Rattle.board_judge.specs.declared.votes.Given.{Given}
 use Rattle.board_rules.specs.ButCause.{IsMoveButCause}
 use Rattle.board_rules.specs.Moves.{IsMove}
 use Rattle.board_rules.specs.Worth.{worth_in}
-use Rattle.board_judge.specs.declared.votes.Basis.{Basis}
+use Rattle.board_judge.specs.declared.votes.Before.{Before}
 
 -- after acts of an entry, before which the history was h, all acts so far were xs: these are their tallies, and the
 -- worths are still those of the history
@@ -34,28 +34,36 @@ pub record IsMidway (s : ScriptData) (g : GatesData) (u : UsersData) (h : List E
   pub view : IsView s xs b u
   pub known : AreKnown s (places_of h) ws
 
+-- the script by which an entry's acts are judged
+abbrev pub script_before : Before → ScriptData
+script_before before = before.basis.now.script.now
+
+-- these are the tallies in the midst of an entry, by what its acts are judged by
+abbrev pub IsMidwayOf : Before → List Entry → List Place → BoardData → Type 0
+IsMidwayOf before h xs b =
+    IsMidway (script_before before) before.basis.now.gates before.basis.now.users h xs b before.worths.now
+
 -- what holds of whatever history these are the worths after, and whatever acts of its next entry these are the tallies
 -- with
-abbrev pub OfMidway : Basis → BoardData → List WorthsData → (List Entry → List Place → Type 0) → Type 0
-OfMidway basis b ws P =
-    (h : List Entry) (xs : List Place) → IsMidway basis.script.now basis.gates basis.users h xs b ws → P h xs
+abbrev pub OfMidway : Before → BoardData → (List Entry → List Place → Type 0) → Type 0
+OfMidway before b P = (h : List Entry) (xs : List Place) → IsMidwayOf before h xs b → P h xs
 
 -- what holds of whatever history these are the tallies and the worths after
-abbrev pub OfHistory : Basis → BoardData → List WorthsData → (List Entry → Type 0) → Type 0
-OfHistory basis b ws P =
-    (h : List Entry) → IsMidway basis.script.now basis.gates basis.users h (places_of h) b ws → P h
+abbrev pub OfHistory : Before → BoardData → (List Entry → Type 0) → Type 0
+OfHistory before b P = (h : List Entry) → IsMidwayOf before h (places_of h) b → P h
 
 -- the act x is a move there; and it isn't
-abbrev pub DecidesMove : Basis → BoardData → List WorthsData → Place → Bool → Type 0
-DecidesMove basis b ws x moves = OfMidway basis b ws (λ h xs. Decides moves (IsMove basis.script.now h xs x))
+abbrev pub DecidesMove : Before → BoardData → Place → Bool → Type 0
+DecidesMove before b x moves = OfMidway before b (λ h xs. Decides moves (IsMove (script_before before) h xs x))
 
-abbrev pub IsNoMove : Basis → BoardData → List WorthsData → Place → Type 0
-IsNoMove basis b ws x = OfMidway basis b ws (λ h xs. IsMove basis.script.now h xs x → ⊥)
+abbrev pub IsNoMove : Before → BoardData → Place → Type 0
+IsNoMove before b x = OfMidway before b (λ h xs. IsMove (script_before before) h xs x → ⊥)
 
 -- why a subtransaction of a strict transaction has to vote no there, at node p, if it has to
-abbrev pub IsCauseThere : Basis → BoardData → List WorthsData → ℕ → Asked → Option Cause → Type 0
-IsCauseThere basis b ws p asked cause = OfMidway basis b ws (λ h xs. is_strict_tree basis.script.now asked.tree.0 ≡ true
-    → cause ≡ cause_of basis.script.now h xs p asked.tree.0 (ops_of basis.script.now asked.tree.0 asked.sub.0))
+abbrev pub IsCauseThere : Before → BoardData → ℕ → Asked → Option Cause → Type 0
+IsCauseThere before b p asked cause =
+    OfMidway before b (λ h xs. is_strict_tree (script_before before) asked.tree.0 ≡ true → cause ≡ cause_of
+    (script_before before) h xs p asked.tree.0 (ops_of (script_before before) asked.tree.0 asked.sub.0))
 
 -- the vote that an act is
 abbrev pub ballot_of : Act → Option NamedVote
@@ -117,9 +125,9 @@ abbrev pub DecidesRead : ScriptData → BoardData → List WorthsData → Act �
 DecidesRead s b ws act right =
     OfBoth s b ws (λ xs upto. HasVersions xs upto act → Decides right (IsRightRead s upto act))
 
-abbrev pub DecidesGiven : ScriptData → BoardData → List WorthsData → Asked → List (ItemNo × Value) → Bool → Type 0
-DecidesGiven s b ws asked values right = OfBoth s b ws (λ xs upto. Decides right
-    (IsShown (worth_in s upto) (gets_among (ops_of s asked.tree.0 asked.sub.0)) values (version_in asked.tree.0 xs)))
+abbrev pub DecidesGiven : ScriptData → BoardData → List WorthsData → Values → Bool → Type 0
+DecidesGiven s b ws given right = OfBoth s b ws (λ xs upto. Decides right (IsShown (worth_in s upto)
+    (gets_among (ops_of s given.asked.tree.0 given.asked.sub.0)) given.values (version_in given.asked.tree.0 xs)))
 
 -- an act that is a move shows what was worth in the history before its entry, if it is a yes
 abbrev pub DecidesYes : ScriptData → BoardData → List WorthsData → Act → Bool → Type 0

@@ -15,7 +15,7 @@ use Rattle.board_model.specs.declared.serial.Member.{Member}
 use Rattle.board_model.specs.declared.standings.Standing.{Standing}
 use Rattle.report_text.specs.declared.served.Served.{Served}
 use Rattle.report_text.specs.Report.{gets_text}
-use Rattle.report_text.specs.declared.run.Run.{Run}
+use Rattle.board_model.specs.declared.serial.Run.{Run}
 
 -- the version of a read transaction
 abbrev pub read_version : TreeKind → Option Version → Option Version

@@ -11,11 +11,11 @@ if_so b way is = rw is
 
 pub returns : goal.returns
 returns c = λ xs view.
-    let s = c.args.script.now in
+    let s = c.args.view.now.script.now in
     let t = c.args.asked.tree.0 in
     let k = c.args.asked.sub.0 in
     let same = c.ops_of-ops.ensures in
     let up = sym c.updates.ensures ∙ c.if-not-updates.false in
     c.conflict.ensures xs view (subst (AreThere s) (sym same) (ops_there s t k view.valid)) (subst (MayLook s) (sym same) (marks_asked s t k view.valid up))
-    ∙ ap (conflict_of s xs c.args.node.0 t) same
+    ∙ ap (conflict_of s xs c.args.view.now.node.0 t) same
     ∙ if_so _ _ up

@@ -9,6 +9,6 @@ pub returns-clause-noted : goal.returns-clause-noted
 returns-clause-noted c = λ xs is.
     let s = c.args.script.now in
     let t = c.in-Some.tree in
-    subst (λ (o : Option TreeNo). HasNoted (λ (x : ℕ). closed_noted s xs x o) c.args.worths.now.items c.note_tree.new.worths.items) (sym c.in-Some.is)
-    (subst (λ (v : ℕ). HasNoted (λ (x : ℕ). subs_noted v x (subs_at s t.0)) c.args.worths.now.items c.note_tree.new.worths.items)
+    subst (λ (o : Option TreeNo). HasNoted (λ (x : ℕ). closed_noted s xs x o) c.args.kept.now.worths.items c.note_tree.new.kept.worths.items) (sym c.in-Some.is)
+    (subst (λ (v : ℕ). HasNoted (λ (x : ℕ). subs_noted v x (subs_at s t.0)) c.args.kept.now.worths.items c.note_tree.new.kept.worths.items)
     (c.version_or_zero-version.ensures s xs is) c.in_ok-note_tree.ensures.noted)

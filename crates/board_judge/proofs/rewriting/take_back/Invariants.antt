@@ -1,9 +1,9 @@
 use Rattle.std.proofs.Common.{◌≡◌, length}
-use Rattle.board_judge.specs.inside.Rewriting.{unaltered}
+use Rattle.board_judge.specs.inside.Rewriting.{worths_before}
 use Rattle.board_judge.proofs.rewriting.take_back.Given as goal
 
 abbrev pub invariant-loop-altered : goal.invariant-loop-altered
-invariant-loop-altered l = unaltered l.trail.items l.worths.items ≡ unaltered l.fn.trail.items l.fn.worths.items
+invariant-loop-altered l = worths_before l.kept ≡ worths_before l.fn.kept
 
 abbrev pub decreases-loop-altered : goal.decreases-loop-altered
-decreases-loop-altered l = length l.trail.items
+decreases-loop-altered l = length l.kept.trail.items

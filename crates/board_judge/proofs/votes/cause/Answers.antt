@@ -11,7 +11,7 @@ use Rattle.board_judge.proofs.votes.cause.Goals as goal
 
 pub returns-then-is_some : goal.returns-then-is_some
 returns-then-is_some c = λ h xs midway strict.
-    let s = c.args.basis.now.script.now in
+    let s = c.args.before.now.basis.now.script.now in
     let t = c.args.asked.tree.0 in
     let k = c.args.asked.sub.0 in
     let same = c.ops_of-ops.ensures in
@@ -23,7 +23,7 @@ returns-then-is_some c = λ h xs midway strict.
 
 pub returns-then-is_some-2 : goal.returns-then-is_some-2
 returns-then-is_some-2 c = λ h xs midway strict.
-    let s = c.args.basis.now.script.now in
+    let s = c.args.before.now.basis.now.script.now in
     let t = c.args.asked.tree.0 in
     let k = c.args.asked.sub.0 in
     let same = c.ops_of-ops.ensures in
@@ -39,7 +39,7 @@ returns-then-is_some-2 c = λ h xs midway strict.
 
 pub returns : goal.returns
 returns c = λ h xs midway strict.
-    let s = c.args.basis.now.script.now in
+    let s = c.args.before.now.basis.now.script.now in
     let t = c.args.asked.tree.0 in
     let k = c.args.asked.sub.0 in
     let same = c.ops_of-ops.ensures in

@@ -12,8 +12,8 @@ use Rattle.board_model.proofs.carried.carry.Goals.{then-loop-place-test+else-mem
 
 pub all_after_tree-requires : goal.all_after_tree-requires
 all_after_tree-requires c =
-    let s : ScriptData = c.args.script.now in
-    let h : List Entry = c.args.history.now in
+    let s : ScriptData = c.args.run.script.now in
+    let h : List Entry = c.args.run.history.now in
     let ms : List Member = c.items-members.result.now in
     let d : Member = record { version = record { 0 = 0 }; tree = record { 0 = 0 } } in
     let p : ℕ = c.loop-place.place in
@@ -23,8 +23,8 @@ all_after_tree-requires c =
 
 pub returns-clause-worths : goal.returns-clause-worths
 returns-clause-worths c =
-    let s : ScriptData = c.args.script.now in
-    let h : List Entry = c.args.history.now in
+    let s : ScriptData = c.args.run.script.now in
+    let h : List Entry = c.args.run.history.now in
     let ms : List Member = c.items-members.result.now in
     let d : Member = record { version = record { 0 = 0 }; tree = record { 0 = 0 } } in
     let p : ℕ = c.loop-place.place in

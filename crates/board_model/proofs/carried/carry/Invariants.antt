@@ -6,7 +6,7 @@ use Rattle.board_model.proofs.carried.carry.Given as goal
 abbrev pub invariant-loop-place : goal.invariant-loop-place
 invariant-loop-place l = record {
   place : l.place ≤ length l.members;
-  values : l.values ≡ after_members l.script l.members l.place;
+  values : l.values ≡ after_members l.run.script.now l.members l.place;
   below : (i : ℕ) (d : Member) → i < l.place → (get_or l.members i d).version.0 ≤ l.version.0;
 }
 

@@ -1,10 +1,8 @@
 use Rattle.std.proofs.Common.{◌-◌, List, length, drop, refl, ap, sym, ◌∙◌, arith}
-use Rattle.letter_types.specs.declared.acts.Act.{Act}
 use Rattle.letter_types.specs.declared.entries.Entry.{Entry}
 use Rattle.board_model.specs.inside.Closed.{Closed}
 use Rattle.board_model.specs.inside.Closed.{closed_back}
 use Rattle.board_rules.specs.Histories.{Place, places_at, places_of}
-use Rattle.board_model.specs.inside.SerialList.{placed}
 use Rattle.board_model.specs.declared.tallies.Tally.{Tally}
 use Rattle.board_model.specs.inside.Tallies.{noted_back}
 use Rattle.board_model.proofs.Back.{closed_back-append, entry_back, noted_back-append}
@@ -19,13 +17,11 @@ loop-k-preserved c =
     record {
       rows =
           c.in_ok-note_acts.ensures.rows
-          ∙ ap (λ (acts : List Act). noted_back (placed e.actor.0 acts) c.loop-k.rows.items) c.items.ensures.items
           ∙ ap (λ (rows : List Tally). noted_back (places_at e) rows) c.loop-k.invariant.rows
           ∙ sym (noted_back-append (places_at e) rest c.args.rows.now.items)
           ∙ sym (ap (λ (xs : List Place). noted_back xs c.args.rows.now.items) here);
       closings =
           c.in_ok-note_acts.ensures.closings
-          ∙ ap (λ (acts : List Act). closed_back c.args.script.now (placed e.actor.0 acts) c.loop-k.closings) c.items.ensures.items
           ∙ ap (λ (z : Closed). closed_back c.args.script.now (places_at e) z) c.loop-k.invariant.closings
           ∙ sym (closed_back-append c.args.script.now (places_at e) rest c.args.closings.now)
           ∙ sym (ap (λ (xs : List Place). closed_back c.args.script.now xs c.args.closings.now) here);

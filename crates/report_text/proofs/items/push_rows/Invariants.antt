@@ -5,7 +5,7 @@ use Rattle.report_text.proofs.items.push_rows.Given as goal
 
 abbrev pub invariant-loop-item : goal.invariant-loop-item
 invariant-loop-item l = record {
-  text : l.text ++ rows_lines l.advances (drop l.item l.rows) (drop l.item l.shown) (drop l.item l.later) (drop l.item l.written)
-      ≡ l.initial.text ++ rows_lines l.advances l.rows l.shown l.later l.written;
+  text : l.text ++ rows_lines l.advances (drop l.item l.rows) (drop l.item l.worth.shown.now) (drop l.item l.worth.later.now) (drop l.item l.worth.written.now)
+      ≡ l.initial.text ++ rows_lines l.advances l.rows l.worth.shown.now l.worth.later.now l.worth.written.now;
   names : AreAsciiItems (drop l.item l.rows);
 }

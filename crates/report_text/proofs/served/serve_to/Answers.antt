@@ -10,15 +10,15 @@ use Rattle.report_text.proofs.served.serve_to.Goals.{then-loop-now-test+else-lis
 
 pub returns-clause-served : goal.returns-clause-served
 returns-clause-served c =
-    let s : ScriptData = c.args.run.script.now in
-    let h : List Entry = c.args.run.history.now in
-    let asks : List Member = c.args.asks.now in
+    let s : ScriptData = c.args.pass.run.script.now in
+    let h : List Entry = c.args.pass.run.history.now in
+    let asks : List Member = c.args.pass.asks.now in
     let list : List Member = c.items-list.result.now in
     let d : Member = record { version = record { 0 = 0 }; tree = record { 0 = 0 } } in
     let r : Served = c.loop-now.now in
     let same : list ≡ asks = c.items-list.ensures.items in
     let version : c.in_ok-carried.carried.version.0 ≡ c.args.version.0 = ap (λ (v : Version). v.0) c.in_ok-carried.ensures.version in
-    let at = served_at s h c.args.run.serial.now asks c.loop-now.reads r c.in_ok-carried.carried c.requires.asks c.loop-now.invariant.served
+    let at = served_at s h c.args.pass.run.serial.now asks c.loop-now.reads r c.in_ok-carried.carried c.requires.asks c.loop-now.invariant.served
     c.in_ok-carried.ensures.carried in
     elim c.loop-now-test.branch [
       | then-loop-now-test+else-list-now w ↦

@@ -1,10 +1,10 @@
 use Rattle.std.proofs.Common.{◌≤◌, ◌-◌, length}
-use Rattle.report_text.specs.inside.Served.{IsServed}
+use Rattle.report_text.specs.inside.Served.{IsServedIn}
 use Rattle.report_text.proofs.served.serve_to.Given as goal
 
 abbrev pub invariant-loop-now : goal.invariant-loop-now
 invariant-loop-now l = record {
-  served : IsServed l.run.script.now l.run.history.now l.run.serial.now l.asks l.reads l.now;
+  served : IsServedIn l.pass.run l.pass.asks.now l.reads l.now;
   later : l.now.carried.version.0 ≤ l.version.0;
 }
 

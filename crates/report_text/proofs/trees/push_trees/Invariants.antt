@@ -5,7 +5,7 @@ use Rattle.report_text.proofs.trees.push_trees.Given as goal
 
 abbrev pub invariant-loop-t : goal.invariant-loop-t
 invariant-loop-t l = record {
-  text : l.text ++ trees_lines l.script l.t (drop l.t l.trees) (drop l.t l.standings) (drop l.t l.reads) (drop l.t l.ballots)
-      ≡ l.initial.text ++ trees_lines l.script 0 l.trees l.standings l.reads l.ballots;
+  text : l.text ++ trees_lines l.script l.t (drop l.t l.trees) (drop l.t l.told.standings.now) (drop l.t l.told.reads.now) (drop l.t l.told.ballots.now)
+      ≡ l.initial.text ++ trees_lines l.script 0 l.trees l.told.standings.now l.told.reads.now l.told.ballots.now;
   names : AreAsciiTrees (drop l.t l.trees);
 }

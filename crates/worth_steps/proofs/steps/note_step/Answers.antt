@@ -12,7 +12,7 @@ returns-then-stands_before-clause-ok c = λ up chain.
     = c.steps_up_to-place.ensures.place (ascends_as ss c.deref.result.now (sym c.deref.ensures.value) up) ∙ ap (steps_up_to v) c.deref.ensures.value in
     let stands : stands_before place v ss ≡ true
     = ap (stands_before place v) (sym c.deref-2.ensures.value) ∙ sym c.if-stands_before.ensures in
-    noted_there c.args.kind c.args.first.now v c.args.deed.now ss c.go_on.new.steps.items place up chain is stands c.in_ok-change.ensures.ok
+    noted_there c.args.start.kind c.args.start.first.now v c.args.deed.now ss c.go_on.new.steps.items place up chain is stands c.in_ok-change.ensures.ok
 
 pub returns-clause-ok : goal.returns-clause-ok
 returns-clause-ok c = λ up chain.
@@ -24,4 +24,4 @@ returns-clause-ok c = λ up chain.
     let none : stands_before place v ss ≡ false
     = ap (stands_before place v) (sym c.deref-2.ensures.value) ∙ sym c.if-stands_before.ensures in
     let begun : c.in_ok-step.step ≡ step_begun v c.args.deed.now = rw c.in_ok-step.ensures.ok_part at c.step_begun.ensures in
-    noted_new c.args.kind c.args.first.now v c.args.deed.now ss c.begin.new.steps.items c.in_ok-step.step place up chain is none begun c.in_ok-change-2.ensures.ok
+    noted_new c.args.start.kind c.args.start.first.now v c.args.deed.now ss c.begin.new.steps.items c.in_ok-step.step place up chain is none begun c.in_ok-change-2.ensures.ok

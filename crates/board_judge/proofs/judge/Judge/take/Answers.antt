@@ -14,5 +14,5 @@ returns-in_default-clause-ok c = λ h taken.
     let inside = subst (λ (j : JudgeData). HasJudged j h) (sym c.self.view_is) taken in
     let both = at_ok _ _ None (no_refusal _ _ (sym c.refusal.ensures ∙ c.in_default.is)) c.try_entry-tried.ensures.tried h inside in (
       subst (λ (j : JudgeData). MayCome j.script h e) c.self.view_is both.0,
-      taken_settled (judge_of c.self.inside.basis c.try_entry-tried.new.board c.try_entry-tried.new.worths.items) c.settle.new.self (h ++ e ∷ []) both.1 c.settle.ensures,
+      taken_settled (judge_of c.self.inside.basis c.try_entry-tried.new.tallies.board c.try_entry-tried.new.kept.worths.items) c.settle.new.self (h ++ e ∷ []) both.1 c.settle.ensures,
     )

@@ -11,7 +11,7 @@ pub returns : goal.returns
 returns c = λ h taken.
     let inside = subst (λ (j : JudgeData). HasJudged j h) (sym c.self.view_is) taken in
     let s = c.self.inside.basis.script.now in
-    let ws = c.self.inside.worths.items in
+    let ws = c.self.inside.kept.worths.items in
     let x = c.args.item.0 in
     let known : AreKnown s (places_of h) ws = record { valid = inside.valid; run = inside.run; worths = inside.worths } in
     let kept = item_found s (places_of h) ws x c.index.result.now _ known (subst (λ (j : JudgeData). x < length j.script.items) (sym c.self.view_is) c.requires) c.index.ensures in

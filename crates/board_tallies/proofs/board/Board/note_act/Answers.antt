@@ -1,6 +1,8 @@
-use Rattle.std.proofs.Common.{List, subst, ◌∙◌}
+use Rattle.std.proofs.Common.{List, Option, ap, subst, ◌∙◌}
 use Rattle.board_tallies.specs.Board.{first_numbers, numbers_at}
-use Rattle.board_tallies.specs.inside.Noting.{GoesOn, numbers_with}
+use Rattle.board_tallies.specs.inside.Noting.{GoesOn, numbers_with, states_told}
+use Rattle.tv_base.specs.declared.numbers.TreeNo.{TreeNo}
+use Rattle.board_tallies.specs.declared.states.StateNews.{StateNews}
 use Rattle.board_tallies.specs.declared.states.TreeState.{TreeState}
 use Rattle.board_tallies.proofs.Marks.{set_back_by}
 use Rattle.board_tallies.proofs.Nexts.{noted_as}
@@ -11,7 +13,8 @@ returns-clause-noted c =
     noted_as c.args.trees.now c.args.node.0 c.args.act.now _ _ _ c.self.view_is
     (record {
       nodes = c.note_numbers-numbers.ensures.nodes;
-      trees = c.in_ok-told.ensures.states;
+      trees = c.in_ok-told.ensures.states
+          ∙ ap (λ (news : Option (TreeNo × StateNews)). states_told news c.self.inside.trees.items) c.news_by-news.ensures;
       pending = c.in_ok-told.ensures.counted;
       passed = subst (λ (states : List TreeState). GoesOn c.args.trees.now states c.self.inside.passed c.passed_on-self-inside.result)
           c.deref.ensures.value c.passed_on-self-inside.ensures;

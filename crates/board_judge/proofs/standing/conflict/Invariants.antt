@@ -1,9 +1,0 @@
-use Rattle.std.proofs.Common.{◌≡◌, List, drop}
-use Rattle.board_rules.specs.Histories.{Place}
-use Rattle.board_rules.specs.Stands.{conflict_of}
-use Rattle.board_judge.specs.Views.{AreThere, IsView, MayLook}
-use Rattle.board_judge.proofs.standing.conflict.Given as goal
-
-abbrev pub invariant-loop-op : goal.invariant-loop-op
-invariant-loop-op l = (xs : List Place) → IsView l.script xs l.board l.users → AreThere l.script l.ops → MayLook l.script l.ops
-    → conflict_of l.script xs l.node.0 l.tree.0 (drop l.op-index l.ops) ≡ conflict_of l.script xs l.node.0 l.tree.0 l.ops
