@@ -235,7 +235,7 @@ pub(crate) fn plan_acked(
     let homes = &core.parts.homes;
     let answered = freed_answer(alloc, homes, tree)?;
     let votes = dropping(&answered);
-    push_answer(alloc, &mut scratch.sent, script, &core.refusals, answered)?;
+    push_strict_reply(alloc, &mut scratch.sent, script, &core.refusals, answered)?;
     let doing = completing(tree, from, version, 0);
     scratch.plan = plan_with(doing, votes, acking(homes, tree));
     Ok(())
@@ -288,7 +288,7 @@ fn dropping(answered: &Option<Answered>) -> VotePlan
 }
 
 /// Adds the answer of a strict tree to the client, if there is one.
-fn push_answer(
+fn push_strict_reply(
     alloc: Global,
     sent: &mut Letters,
     script: &Script,

@@ -26,6 +26,20 @@ fn by_client(alloc: Global) -> Result<(usize, usize), Fail> {
     Ok(sent(&step))
 }
 
+/// Whether the client of a script would finish with Go, and whether it has finished once it has places for all
+/// transactions of a longer script.
+fn by_client_that_grows(alloc: Global, rows: &[u8]) -> Result<(bool, bool), Fail> {
+    let script = script_of(alloc, rows)?;
+    let longer = script_of(alloc, TWO_TREES)?;
+    let mut client = Client::new(alloc, &script)?;
+    let ends = client.ends_with(&letter(3, 3, Body::Go), &script);
+    if longer.trees().len() < script.trees().len() {
+        return Err("no longer script".into());
+    }
+    client.make_places(&longer)?;
+    Ok((ends, client.finished()))
+}
+
 /// What the coordinator of two nodes does at an Advance: a Turn to each.
 fn by_coordinator(alloc: Global) -> Result<(usize, usize), NoMemory> {
     let mut coordinator = Coordinator::new(alloc, 2);
@@ -74,5 +88,18 @@ fn others_step_by_one_call(rt: HostRuntime) -> Result<(), Fail> {
     assert_eq!(rt; by_client(alloc)?, (2, 2));
     assert_eq!(rt; by_coordinator(alloc)?, (2, 2));
     assert_eq!(rt; by_restarting(alloc)?, (3, 3));
+    Ok(())
+}
+
+#[test]
+fn a_client_says_whether_it_would_finish_and_takes_more_places(
+    rt: HostRuntime,
+) -> Result<(), Fail> {
+    for (rows, ends) in [
+        (b"nodes,2\n".as_slice(), true),
+        (b"nodes,2\nupdate,s,1\n", false),
+    ] {
+        assert_eq!(rt; by_client_that_grows(rt.alloc(), rows)?, (ends, false));
+    }
     Ok(())
 }

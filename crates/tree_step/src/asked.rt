@@ -10,7 +10,7 @@ ghost use Rattle.tree_step.specs.AtNode.{IsDueAt, IsTreePlanAt};
 use crate::lookups::ops_of;
 use crate::node::NodeParts;
 use crate::plan::{Doing, Scratch};
-use crate::subs::{plan_root, plan_sub};
+use crate::turns::{plan_root, plan_sub};
 use letter_types::{Body, Letter, Notice};
 use std::alloc::Global;
 use tv_base::{NoMemory, NodeNo, SubNo, TreeNo, Version};
@@ -73,7 +73,7 @@ pub struct SubTurn {
 }
 
 /// Plans the subtransaction that a message asks for, and that makes what is staged in the scratch, before the tree is
-/// answered. If no memory is found, the scratch may have anything.
+/// answered. If memory runs out, the scratch may have anything.
 pub fn plan_tree(
     node: &NodeParts,
     came: &Incoming,

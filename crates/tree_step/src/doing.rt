@@ -91,8 +91,8 @@ fn do_parts(alloc: Global, parts: &mut NodeParts, doing: Doing, scratch: &mut Sc
     }
 }
 
-/// Takes or frees locks, or puts a negative vote in or takes it out: the last that may need memory. If no memory is
-/// found, both are unchanged.
+/// Takes or frees locks, or puts a negative vote in or takes it out: the last that may need memory. If memory
+/// runs out, both are unchanged.
 #[inline(always)]
 fn change_votes(
     locks: &mut Locks,
@@ -132,7 +132,7 @@ fn hear_of(epoch: &mut u64, heard: Option<u64>)
     }
 }
 
-/// Does what is planned, if no tree is to be opened and the held answers stay. If no memory is found, the node is
+/// Does what is planned, if no tree is to be opened and the held answers stay. If memory runs out, the node is
 /// unchanged.
 #[inline(always)]
 fn do_still(
@@ -153,7 +153,7 @@ fn do_still(
     Ok(())
 }
 
-/// Does what is planned, if no tree is to be opened, and counts an acknowledgement of a tree. If no memory is found,
+/// Does what is planned, if no tree is to be opened, and counts an acknowledgement of a tree. If memory runs out,
 /// the node is unchanged.
 fn do_ack(
     alloc: Global,
@@ -189,8 +189,8 @@ fn ask_each(counters: &mut Counters, v: Version, nodes: &[NodeNo])
     }
 }
 
-/// Holds the answer of a tree, and then does the rest that is planned, if no tree is to be opened. If no memory is
-/// found, the node is unchanged.
+/// Holds the answer of a tree, and then does the rest that is planned, if no tree is to be opened. If memory
+/// runs out, the node is unchanged.
 fn do_hold(
     alloc: Global,
     core: &mut NodeCore,
@@ -224,7 +224,7 @@ fn do_hold(
     Ok(())
 }
 
-/// Does what is planned, if no tree is to be opened. If no memory is found, the node is unchanged.
+/// Does what is planned, if no tree is to be opened. If memory runs out, the node is unchanged.
 #[inline(always)]
 fn do_holds(
     alloc: Global,
@@ -300,7 +300,7 @@ fn once_open(plan: Plan) -> Plan
     }
 }
 
-/// Opens a tree, and then does the rest that is planned. If no memory is found, the node is unchanged.
+/// Opens a tree, and then does the rest that is planned. If memory runs out, the node is unchanged.
 fn do_open(
     alloc: Global,
     core: &mut NodeCore,
@@ -330,7 +330,7 @@ fn do_open(
 }
 
 /// Does what is planned in the scratch; what goes out stays there. Only its first calls may need memory: to open a tree,
-/// to hold an answer, for locks and negative votes. If no memory is found, the node is unchanged, and the scratch may
+/// to hold an answer, for locks and negative votes. If memory runs out, the node is unchanged, and the scratch may
 /// have anything.
 #[inline(always)]
 pub fn do_plan(alloc: Global, core: &mut NodeCore, scratch: &mut Scratch) -> Result<(), NoMemory>
@@ -346,8 +346,8 @@ pub fn do_plan(alloc: Global, core: &mut NodeCore, scratch: &mut Scratch) -> Res
     }
 }
 
-/// The parts do what is planned; what goes out stays in the scratch. Only to open a tree may need memory. If no memory
-/// is found, the parts are unchanged.
+/// The parts do what is planned; what goes out stays in the scratch. Only to open a tree may need memory. If memory
+/// runs out, the parts are unchanged.
 pub(crate) fn do_whole(
     alloc: Global,
     parts: &mut NodeParts,

@@ -7,7 +7,6 @@ mod asked;
 mod counting;
 mod doing;
 mod due;
-mod letters;
 mod lookups;
 mod node;
 mod node_core;
@@ -16,7 +15,8 @@ mod plan;
 mod public;
 mod refusals;
 mod replies;
-mod subs;
+mod sending;
+mod turns;
 
 pub use asked::{InVersion, Incoming, Request, SubTurn, asked_ops, asked_version, plan_tree};
 pub use counting::Counting;

@@ -48,8 +48,8 @@ fn notice_home(
 }
 
 /// Plans that a tree's home notes a notice of these values and counts its completion, before the tree is answered: it
-/// has an answer if no notice is missing then. A notice that isn't missing is counted and changes nothing else. If no
-/// memory is found, the scratch may have anything.
+/// has an answer if no notice is missing then. A notice that isn't missing is counted and changes nothing else. If
+/// memory runs out, the scratch may have anything.
 pub fn plan_notice(
     alloc: Global,
     node: &NodeParts,

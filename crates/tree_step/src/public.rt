@@ -12,7 +12,7 @@ use tv_base::{ActorNo, NoMemory};
 use tx_trees::Script;
 
 /// Does what is planned in the scratch for a tree's message, and gives what goes out in two equal copies, with the
-/// answer to the client behind what is sent, if the tree is answered. If no memory is found, the parts are unchanged,
+/// answer to the client behind what is sent, if the tree is answered. If memory runs out, the parts are unchanged,
 /// and the scratch may have anything.
 pub fn do_part(
     alloc: Global,

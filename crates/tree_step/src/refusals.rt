@@ -50,8 +50,8 @@ impl Refusals {
         }
     }
 
-    /// Puts the negative vote of a tree in, in place of the one before. Those of other trees stay. If no memory is
-    /// found, all stay.
+    /// Puts the negative vote of a tree in, in place of the one before. Those of other trees stay. If memory
+    /// runs out, all stay.
     pub fn put(&mut self, tree: TreeNo, refusal: NegativeVote) -> Result<(), NoMemory>
         ensures ok { OnOk result (by_tree self.new ≡ put_at tree.0 (Some refusal) (by_tree self.old)) }
         ensures err { OnErr result (self.new ≡ self.old) }

@@ -6,7 +6,7 @@ use letter_types::{Answer, Body, Letters, Outgoing};
 use tree_home::Answered;
 use tv_base::{ActorNo, NoMemory};
 
-/// Adds the answer to the client, if there is one. If no memory is found, the messages are unchanged.
+/// Adds the answer to the client, if there is one. If memory runs out, the messages are unchanged.
 pub fn push_reply(
     sent: &mut Letters,
     client: ActorNo,

@@ -6,7 +6,7 @@ use Rattle.world_model.proofs.Addressed.{children_nodes, children_few}
 use Rattle.tree_step.specs.Meant.{home_planned_at}
 use Rattle.tree_step.proofs.Begun.{root_answered}
 use Rattle.tree_step.proofs.Made.{all_requests, may_count, root_ready}
-use Rattle.tree_step.proofs.subs.plan_root.Goals as goal
+use Rattle.tree_step.proofs.turns.plan_root.Goals as goal
 
 pub returns-clause-part : goal.returns-clause-part
 returns-clause-part c =
@@ -21,8 +21,8 @@ returns-clause-part c =
     record {
       row = root_ready s q.from q.tree q.version asked c.args.notice c.args.scratch.now.staged home
           c.root_home-home.result.1 n sent c.in_ok-acts.acts xs c.subs_of-subs.ensures.subs c.in_ok-sent.ensures count
-          (rw c.values_of-values.ensures at c.root_home-home.ensures.home.after)
-          (rw c.values_of-values.ensures at c.root_home-home.ensures.answered
+          (rw c.into_values-values.ensures at c.root_home-home.ensures.home.after)
+          (rw c.into_values-values.ensures at c.root_home-home.ensures.answered
           ∙ root_answered q.tree (length xs) q.version (values_of c.args.notice) (open_trees n.homes)
           (rw c.subs_of-subs.ensures.subs c.requires.there))
           c.in_ok-acts.ensures;

@@ -13,9 +13,9 @@ ghost use Rattle.tree_step.specs.AtNode.{IsRootPlan, IsSubPlan};
 
 use crate::asked::{Request, SubTurn};
 use crate::counting::Counting;
-use crate::letters::{push_done, root_acts, sub_acts, sub_letters};
 use crate::node::NodeParts;
 use crate::plan::{Doing, HomePlan, Scratch, TreePlan};
+use crate::sending::{push_done, root_acts, sub_acts, sub_letters};
 use commute_ops::Values;
 use letter_types::Notice;
 use std::alloc::Global;
@@ -24,7 +24,7 @@ use tv_base::{NoMemory, NodeNo, SubNo};
 use tx_trees::Script;
 
 /// The values that a notice brings.
-fn values_of(alloc: Global, notice: Notice) -> Values
+fn into_values(alloc: Global, notice: Notice) -> Values
     ensures { result ≡ values_of notice }
 {
     match notice {
@@ -64,7 +64,7 @@ fn root_home(
 }
 
 /// Plans the root of a tree with this notice: it is counted, its children are asked for, and its home notes the notice,
-/// which may be the last. If no memory is found, the scratch may have anything.
+/// which may be the last. If memory runs out, the scratch may have anything.
 pub(crate) fn plan_root(
     alloc: Global,
     node: &NodeParts,
@@ -96,7 +96,7 @@ pub(crate) fn plan_root(
     let acts = root_acts(alloc, tree, version, &notice)?;
     scratch.sent = sent;
     scratch.acts = acts;
-    let values = values_of(alloc, notice);
+    let values = into_values(alloc, notice);
     let (home, answered) = root_home(&node.homes, request, count, values, &mut scratch.values);
     let counting = Counting {
         version,
@@ -117,7 +117,7 @@ pub(crate) fn plan_root(
 }
 
 /// Plans the turn of a subtransaction that isn't a root: it is counted, its children are asked for, and its notice goes
-/// to the tree's home. If no memory is found, the scratch may have anything.
+/// to the tree's home. If memory runs out, the scratch may have anything.
 pub(crate) fn plan_sub(
     alloc: Global,
     node: &NodeParts,

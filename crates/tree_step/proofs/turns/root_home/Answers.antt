@@ -1,7 +1,7 @@
 use Rattle.std.proofs.Common.{◌<◌, refl, arith}
 use Rattle.tree_home.specs.Homes.{begun, open_trees}
 use Rattle.tree_step.proofs.Begun.{opened_noted}
-use Rattle.tree_step.proofs.subs.root_home.Goals as goal
+use Rattle.tree_step.proofs.turns.root_home.Goals as goal
 
 pub returns-clause-home : goal.returns-clause-home
 returns-clause-home c =

@@ -5,7 +5,7 @@ use Rattle.world_model.specs.Children.{done_letter}
 use Rattle.world_model.proofs.Addressed.{sent_nodes, sent_few}
 use Rattle.tree_step.proofs.Made.{all_requests, may_count, sub_ready}
 use Rattle.tree_step.proofs.Rooted.{home_there}
-use Rattle.tree_step.proofs.subs.plan_sub.Goals as goal
+use Rattle.tree_step.proofs.turns.plan_sub.Goals as goal
 
 pub returns-clause-part : goal.returns-clause-part
 returns-clause-part c =
