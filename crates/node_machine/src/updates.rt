@@ -20,10 +20,12 @@ use crate::node_plan::{CoreChoice, KeepPlan};
 use letter_types::{Act, Acts, Body, KeepReason, Letter};
 use nc_locks::{Locks, Met, Mode, WantedLocks};
 use node_versions::Turns;
-use tree_step::{Incoming, NodeCore, Scratch, VotePlan, asked_ops, asked_version, is_above};
+use tree_step::{
+    Incoming, NodeCore, Scratch, VotePlan, asked_ops, asked_version, can_update, is_above,
+    plan_update,
+};
 use tv_base::{NoMemory, SubNo, TreeNo, Version};
 use tx_trees::{Script, SubOp};
-use update_step::{can_update, plan_update};
 
 /// A subtransaction of an update tree: if its operations may be made, it is parked if it meets a lock, and else done.
 pub(crate) fn choose_update(

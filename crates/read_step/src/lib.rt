@@ -1,8 +1,6 @@
-//! A node's step for a subtransaction of a read tree, as a plan.
+//! A node's step for a subtransaction of a read tree, as one call. What it plans is in `tree_step`.
 #![tactic(auto)]
 
-mod plan;
 mod public;
 
-pub use plan::plan_read;
 pub use public::run_read;

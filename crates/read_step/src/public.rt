@@ -6,7 +6,6 @@ ghost use Rattle.tree_step.specs.Node.{IsInWindow, IsOf, IsReady, state_of};
 ghost use Rattle.tree_step.specs.AtNode.{IsDueAt};
 ghost use Rattle.read_step.specs.Rows.{HasRead, read_done_at};
 
-use crate::plan::get_values;
 use commute_ops::Values;
 use item_versions::ItemTable;
 use letter_types::{Letter, Notice, Step};
@@ -16,8 +15,8 @@ use std::alloc::Global;
 use std::mem;
 use tree_home::Homes;
 use tree_step::{
-    InVersion, Incoming, NodeParts, SubTurn, asked_ops, asked_version, do_part, new_scratch,
-    plan_tree,
+    InVersion, Incoming, NodeParts, SubTurn, asked_ops, asked_version, do_part, get_values,
+    new_scratch, plan_tree,
 };
 use tv_base::{NoMemory, Version};
 use tx_trees::Script;

@@ -11,3 +11,5 @@ pub mod Asking
 pub mod Stepped
 pub mod Undone
 pub mod PlanOpened
+pub mod Updated
+pub mod WasRead

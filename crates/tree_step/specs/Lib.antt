@@ -8,3 +8,5 @@ pub mod CoreChanges
 pub mod Raising
 pub mod Meant
 pub mod AtNode
+pub mod Updates
+pub mod Reads

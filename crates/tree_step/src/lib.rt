@@ -1,6 +1,6 @@
 //! A node's parts, and its core: the parts with locks, negative votes and the latest epoch heard of. Which messages of a
-//! tree are due. What every subtransaction and notice plans, of any kind of tree: what is counted, sent and told. Plans,
-//! the scratch, and the one call that changes a core.
+//! tree are due. What every subtransaction and notice plans: what is counted, sent and told; and what those of update and
+//! read trees make. Plans, the scratch, and the one call that changes a core.
 #![tactic(auto)]
 
 mod asked;
@@ -13,10 +13,12 @@ mod node_core;
 mod notices;
 mod plan;
 mod public;
+mod reads;
 mod refusals;
 mod replies;
 mod sending;
 mod turns;
+mod updates;
 
 pub use asked::{InVersion, Incoming, Request, SubTurn, asked_ops, asked_version, plan_tree};
 pub use counting::Counting;
@@ -31,5 +33,7 @@ pub use plan::{
     wipe,
 };
 pub use public::do_part;
+pub use reads::{get_values, plan_read};
 pub use refusals::Refusals;
 pub use replies::push_reply;
+pub use updates::{can_update, plan_update};

@@ -1,8 +1,6 @@
-//! A node's step for a subtransaction of an update tree, as a plan.
+//! A node's step for a subtransaction of an update tree, as one call. What it plans is in `tree_step`.
 #![tactic(auto)]
 
-mod plan;
 mod public;
 
-pub use plan::{can_update, plan_update};
 pub use public::run_update;

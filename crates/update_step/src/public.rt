@@ -5,7 +5,6 @@ ghost use Rattle.tree_step.specs.Node.{IsInWindow, IsOf, IsReady, state_of};
 ghost use Rattle.tree_step.specs.AtNode.{IsDueAt};
 ghost use Rattle.update_step.specs.Rows.{update_at, Updated};
 
-use crate::plan::plan_update;
 use item_versions::ItemTable;
 use letter_types::{Letter, Step};
 use node_versions::Turns;
@@ -13,7 +12,7 @@ use pair_counters::Counters;
 use std::alloc::Global;
 use std::mem;
 use tree_home::Homes;
-use tree_step::{Incoming, NodeParts, do_part, new_scratch};
+use tree_step::{Incoming, NodeParts, do_part, new_scratch, plan_update};
 use tv_base::NoMemory;
 use tx_trees::Script;
 

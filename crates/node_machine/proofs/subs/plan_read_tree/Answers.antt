@@ -1,6 +1,7 @@
 use Rattle.std.proofs.Common.{false}
 use Rattle.std.proofs.lemmas.Bool.{OnTrue_at}
-use Rattle.read_step.specs.Rows.{getting, read_part}
+use Rattle.world_model.specs.Reads.{getting}
+use Rattle.tree_step.specs.Reads.{read_part}
 use Rattle.tree_home.specs.HeldAnswers.{held_answers}
 use Rattle.tree_step.specs.Meant.{part_meant}
 use Rattle.tree_step.specs.Node.{data_of}

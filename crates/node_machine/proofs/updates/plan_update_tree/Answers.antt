@@ -3,7 +3,8 @@ use Rattle.std.proofs.lemmas.Bool.{OnTrue_at}
 use Rattle.std.specs.Prelude.{nat_lt}
 use Rattle.nc_locks.specs.Locks.{with_locks}
 use Rattle.tx_trees.specs.declared.parts.SubOp.{SubOp}
-use Rattle.update_step.specs.Rows.{touching, update_part}
+use Rattle.world_model.specs.Updates.{touching}
+use Rattle.tree_step.specs.Updates.{update_part}
 use Rattle.tree_home.specs.HeldAnswers.{held_answers}
 use Rattle.tree_step.specs.Core.{core_of}
 use Rattle.tree_step.specs.Meant.{part_meant}

@@ -3,8 +3,8 @@ use Rattle.std.proofs.lemmas.Bool.{OnTrue_at}
 use Rattle.letter_types.specs.declared.bodies.Notice.TheVariants.{Did}
 use Rattle.item_versions.specs.Table.{pending}
 use Rattle.tree_step.specs.Node.{Effect, data_of}
-use Rattle.update_step.proofs.Updated.{asked_within, touchable, updated}
-use Rattle.update_step.proofs.plan.plan_update.Goals as goal
+use Rattle.tree_step.proofs.Updated.{asked_within, touchable, updated}
+use Rattle.tree_step.proofs.updates.plan_update.Goals as goal
 
 pub stage_ops-requires-clause-near : goal.stage_ops-requires-clause-near
 stage_ops-requires-clause-near c =

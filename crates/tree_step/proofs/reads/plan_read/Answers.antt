@@ -6,8 +6,8 @@ use Rattle.letter_types.specs.declared.bodies.Notice.TheVariants.{Did}
 use Rattle.item_versions.specs.Table.{pending}
 use Rattle.tree_step.specs.Node.{Effect, data_of}
 use Rattle.tree_step.proofs.Dues.{asked_near}
-use Rattle.read_step.proofs.WasRead.{gettable, part_read}
-use Rattle.read_step.proofs.plan.plan_read.Goals as goal
+use Rattle.tree_step.proofs.WasRead.{gettable, part_read}
+use Rattle.tree_step.proofs.reads.plan_read.Goals as goal
 
 pub plan_tree-requires-clause-near : goal.plan_tree-requires-clause-near
 plan_tree-requires-clause-near c =

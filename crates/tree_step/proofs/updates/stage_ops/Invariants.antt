@@ -1,8 +1,8 @@
 use Rattle.std.proofs.Common.{◌≡◌, drop}
 use Rattle.item_versions.specs.Table.{IsHeldTable, pending}
 use Rattle.item_versions.specs.Window.{IsWindowedTable}
-use Rattle.update_step.proofs.plan.stage_ops.Given as goal
-use Rattle.update_step.specs.Rows.{table_after_ops, can_touch}
+use Rattle.tree_step.proofs.updates.stage_ops.Given as goal
+use Rattle.world_model.specs.Updates.{table_after_ops, can_touch}
 
 abbrev pub invariant-loop-op : goal.invariant-loop-op
 invariant-loop-op l = record {

@@ -1,7 +1,7 @@
 use Rattle.std.proofs.Common.{◌∙◌}
 use Rattle.tree_step.specs.Node.{data_of}
-use Rattle.update_step.proofs.Updated.{asked_within, touchable}
-use Rattle.update_step.proofs.plan.can_update.Goals as goal
+use Rattle.tree_step.proofs.Updated.{asked_within, touchable}
+use Rattle.tree_step.proofs.updates.can_update.Goals as goal
 
 pub stage_ops-requires-clause-near : goal.stage_ops-requires-clause-near
 stage_ops-requires-clause-near c =

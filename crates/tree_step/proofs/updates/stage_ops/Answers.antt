@@ -5,7 +5,7 @@ use Rattle.item_versions.specs.Table.{Table, IsHeldTable, pending}
 use Rattle.item_versions.specs.Window.{IsWindowedTable}
 use Rattle.item_versions.proofs.Holding.{IsHeldTable-touched_in}
 use Rattle.item_versions.proofs.Window.{has_room_in-may_touch, IsWindowedTable-touched_in}
-use Rattle.update_step.proofs.plan.stage_ops.Goals as goal
+use Rattle.tree_step.proofs.updates.stage_ops.Goals as goal
 
 pub stage_if_may-requires : goal.stage_if_may-requires
 stage_if_may-requires c =

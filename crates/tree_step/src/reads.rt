@@ -4,16 +4,17 @@ ghost use Rattle.std.specs.Bool.{OnFalse, OnTrue};
 ghost use Rattle.std.specs.Option.{option_copied};
 ghost use Rattle.tree_step.specs.Meant.{ChangesPart, out_in};
 ghost use Rattle.tree_step.specs.Node.{data_of, IsReady};
-ghost use Rattle.read_step.specs.Rows.{can_get, can_read, gets, got_by_deed, IsReadPartPlan};
+ghost use Rattle.world_model.specs.Reads.{can_get, can_read, gets, got_by_deed};
+ghost use Rattle.tree_step.specs.Reads.{IsReadPartPlan};
 ghost use Rattle.tree_step.specs.AtNode.{IsDueAt};
 
+use crate::asked::{InVersion, Incoming, SubTurn, asked_ops, asked_version, plan_tree};
+use crate::node::NodeParts;
+use crate::plan::Scratch;
 use commute_ops::{Value, Values};
 use item_versions::ItemTable;
 use letter_types::Notice;
 use std::alloc::Global;
-use tree_step::{
-    InVersion, Incoming, NodeParts, Scratch, SubTurn, asked_ops, asked_version, plan_tree,
-};
 use tv_base::{NoMemory, Version};
 use tx_trees::{Deed, SubOp};
 
@@ -32,7 +33,7 @@ fn shown<'a>(items: &'a ItemTable, v: Version, op: &SubOp) -> Option<&'a Value>
 
 /// The values of the gets of a read in version `v`. None exactly if one of the operations isn't a get, or its item
 /// isn't there.
-pub(crate) fn get_values(
+pub fn get_values(
     alloc: Global,
     items: &ItemTable,
     v: Version,

@@ -4,16 +4,18 @@ ghost use Rattle.std.specs.Bool.{OnFalse, OnTrue};
 ghost use Rattle.item_versions.specs.Window.{in_window, IsWindowedTable};
 ghost use Rattle.tree_step.specs.Meant.{ChangesPart, out_in};
 ghost use Rattle.tree_step.specs.Node.{data_of, IsReady};
-ghost use Rattle.update_step.specs.Rows.{can_touch, can_update, FitsStaged, IsStagedBy, IsUpdatePartPlan};
+ghost use Rattle.world_model.specs.Updates.{can_touch, can_update};
+ghost use Rattle.tree_step.specs.Updates.{FitsStaged, IsStagedBy, IsUpdatePartPlan};
 ghost use Rattle.tree_step.specs.AtNode.{IsDueAt};
 
+use crate::asked::{InVersion, Incoming, SubTurn, asked_ops, asked_version, plan_tree};
+use crate::due::is_above;
+use crate::node::NodeParts;
+use crate::plan::Scratch;
 use commute_ops::Values;
 use item_versions::Staged;
 use letter_types::{Letter, Notice};
 use std::alloc::Global;
-use tree_step::{
-    InVersion, Incoming, NodeParts, Scratch, SubTurn, asked_ops, asked_version, is_above, plan_tree,
-};
 use tv_base::{NoMemory, Version};
 use tx_trees::{Deed, Script, SubOp};
 

@@ -1,6 +1,6 @@
 use Rattle.std.proofs.Common.{◌≡◌, ◌++◌, drop}
-use Rattle.read_step.specs.Rows.{can_get, gets}
-use Rattle.read_step.proofs.plan.get_values.Given as goal
+use Rattle.world_model.specs.Reads.{can_get, gets}
+use Rattle.tree_step.proofs.reads.get_values.Given as goal
 
 abbrev pub invariant-loop-op : goal.invariant-loop-op
 invariant-loop-op l = record {
