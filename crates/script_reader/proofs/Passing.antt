@@ -1,19 +1,15 @@
 -- A row that passes its conditions.
 use Rattle.std.proofs.Common.{◌≡◌, ◌<◌, ◌≤◌, ◌^◌, ◌∙◌, ℕ, Bool, true, false, List, [], ◌∷◌, length, Option, Some, None, Result, Ok, Err, refl, sym, subst, ap, arith, inl, inr, to_z, of_z}
 use Rattle.std.specs.Map.{lookup}
-use Rattle.std.specs.Str.{IsAscii, IsUtf8, bytes_eq}
+use Rattle.std.specs.Str.{bytes_eq}
 use Rattle.std.proofs.lemmas.Slice.Eq.{bytes_eq-Decides}
-use Rattle.std.proofs.lemmas.Str.{IsUtf8-from_ascii}
-use Rattle.std.proofs.lemmas.Str.Ascii.{IsAscii-cons, IsAscii-nil}
-use Rattle.tv_base.proofs.Truths.{left_true, right_true}
-use Rattle.std.specs.Prelude.{codes, find, nat_le, nat_lt, min, not, ◌&&◌, ◌==◌, ℤ, unsigned_abs, IsErrAnd, ◌⊎◌}
+use Rattle.std.specs.Prelude.{codes, nat_le, min, not, ◌&&◌, ◌==◌, ℤ, unsigned_abs, IsErrAnd, ◌⊎◌}
 use Rattle.std.specs.Int.{w128}
 use Rattle.std.specs.List.{AllByRecursion}
-use Rattle.std.proofs.lemmas.Bool.{cases_lt, le-leb, lt-leb, ltb-true}
+use Rattle.std.proofs.lemmas.Bool.{cases_lt, le-leb, lt-leb}
 use Rattle.std.proofs.lemmas.Int.{fits_signed_from_abs, to_z-of_z}
 use Rattle.std.proofs.lemmas.Option.{cond_some}
 use Rattle.commute_ops.specs.declared.kinds.Kind.{Kind}
-use Rattle.commute_ops.specs.declared.kinds.Kind.TheVariants as kinds
 use Rattle.tv_base.specs.declared.numbers.NodeNo.{NodeNo}
 use Rattle.tx_trees.specs.ScriptData.{ScriptData}
 use Rattle.tx_trees.specs.Valid.{IsTree, IsValid}
@@ -35,8 +31,8 @@ use Rattle.script_reader.specs.Numbers.{amount_value, is_amount, is_number}
 use Rattle.tv_base.specs.Digits.{decimal_value}
 use Rattle.script_reader.specs.inside.Numbers.{amount_of, number_spelled}
 use Rattle.script_reader.specs.Rows.{amount_row, and_then, deed_of, fail_row, field, item_of, item_row, later_form, later_row, node_no, op_row, row_word_of, sub_row, tree_row}
-use Rattle.script_reader.specs.inside.Rows.{Leaves, row_by}
-use Rattle.script_reader.specs.Words.{RowShape, is_second, kind_of, kind_word, may_follow, row_words}
+use Rattle.script_reader.specs.inside.Rows.{Leaves, row_by, unnamed}
+use Rattle.script_reader.specs.Words.{RowShape, is_second, kind_of, may_follow, row_words}
 use Rattle.script_reader.specs.declared.words.OpWord.{OpWord}
 use Rattle.script_reader.specs.declared.words.RowWord.{RowWord}
 use Rattle.script_reader.specs.declared.words.RowWord.TheVariants as words
@@ -117,13 +113,53 @@ sub_row_is s parent node p n q hp hn valid same =
     let passes : sub_row s parent node ≡ adds_sub s p (node_no n) = rw (a.0, b.0, a.1, b.1) refl in
     passes ∙ is
 
--- an operation that passes its conditions is added
-pub op_row_is : (s : ScriptData) (item m : List ℕ) (deed : Deed) → is_in_range s.form deed ≡ true → m ≡ item → 0 < length item → length item ≤ 32 → op_row s item deed ≡ adds_op s m deed
-op_row_is s item m deed range same some few =
-    let low : nat_le 1 (length item) ≡ true = le-leb 1 (length item) some in
-    let high : nat_le (length item) 32 ≡ true = le-leb (length item) 32 few in
-    let named : has_name_len item ≡ true = rw (low, high) refl in
-    rw (same, range, named) refl
+-- an operation on an item that may have its name is added
+pub op_row_is : (s : ScriptData) (item m : List ℕ) (deed : Deed) → m ≡ item → 0 < length item → length item ≤ 32 → op_row s item deed ≡ adds_op s m deed
+op_row_is s item m deed same some few = by (is_in_range s.form deed) refl
+  where
+    low : nat_le 1 (length item) ≡ true
+    low = le-leb 1 (length item) some
+
+    high : nat_le (length item) 32 ≡ true
+    high = le-leb (length item) 32 few
+
+    named : has_name_len item ≡ true
+    named = rw (low, high) refl
+
+    by : (b : Bool) → is_in_range s.form deed ≡ b → op_row s item deed ≡ adds_op s m deed
+    by true range = rw (same, range, named) refl
+    by false range = rw (same, range) refl
+
+-- bytes that have no name's length
+never : (b : Bool) → (b && false) ≡ false
+never true = refl
+never false = refl
+
+no_name_len : (item : List ℕ) → (length item ≡ 0) ⊎ (32 < length item) → has_name_len item ≡ false
+no_name_len item (inl none) = rw none refl
+no_name_len item (inr long) =
+    let high : nat_le (length item) 32 ≡ false = lt-leb (length item) 32 long in
+    ap (λ (b : Bool). nat_le 1 (length item) && b) high ∙ never (nat_le 1 (length item))
+
+-- an operation on an item that can't have its name is refused
+pub op_unnamed : (s : ScriptData) (item : List ℕ) (deed : Deed) (f : Form) (w : Why) → f ≡ s.form → w ≡ unnamed f deed → (length item ≡ 0) ⊎ (32 < length item) → op_row s item deed ≡ Err w
+op_unnamed s item deed f w same is odd = by (is_in_range s.form deed) refl
+  where
+    here : w ≡ unnamed s.form deed
+    here = is ∙ ap (λ (g : Form). unnamed g deed) same
+
+    nameless : has_name_len item ≡ false
+    nameless = no_name_len item odd
+
+    by : (b : Bool) → is_in_range s.form deed ≡ b → op_row s item deed ≡ Err w
+    by true range =
+        let told : unnamed s.form deed ≡ why.UnknownItem = rw range refl in
+        let row : op_row s item deed ≡ Err why.UnknownItem = rw (range, nameless) refl in
+        subst (λ (x : Why). op_row s item deed ≡ Err x) (sym (here ∙ told)) row
+    by false range =
+        let told : unnamed s.form deed ≡ why.OutOfRange = rw range refl in
+        let row : op_row s item deed ≡ Err why.OutOfRange = rw range refl in
+        subst (λ (x : Why). op_row s item deed ≡ Err x) (sym (here ∙ told)) row
 
 -- an operation row whose amount is read
 pub amount_row_is : (s : ScriptData) (word : OpWord) (item bytes : List ℕ) (a : ℤ) (deed : Deed) → Some a ≡ amount_of bytes → deed ≡ deed_of word a → amount_row s word item bytes ≡ op_row s item deed
@@ -228,35 +264,33 @@ tree_form_is s fields w kind a b is ha hb = rw (is, ha, hb) refl
 pub sub_form_is : (s : ScriptData) (fields : List (List ℕ)) (w : RowWord) (a b : List ℕ) → w ≡ words.Sub → a ≡ field fields 1 → b ≡ field fields 2 → later_form s fields w ≡ sub_row s a b
 sub_form_is s fields w a b is ha hb = rw (is, ha, hb) refl
 
--- a field that is no text is none of the words
-abbrev ascii : List ℕ → Bool
-ascii [] = true
-ascii (b ∷ bs) = nat_lt b 128 && ascii bs
+-- a word that is told is looked up as itself
+pub told : (word w : List ℕ) (v : Option RowShape) → bytes_eq word w ≡ true → v ≡ lookup (bytes_eq w) row_words → v ≡ lookup (bytes_eq word) row_words
+told word w v is found = found ∙ ap (λ (x : List ℕ). lookup (bytes_eq x) row_words) (sym ((bytes_eq-Decides word w).0 is))
 
-is_ascii_text : (bs : List ℕ) → ascii bs ≡ true → IsAscii bs
-is_ascii_text [] e = IsAscii-nil
-is_ascii_text (b ∷ bs) e = IsAscii-cons b bs (ltb-true b 128 (left_true (nat_lt b 128) (ascii bs) e)) (is_ascii_text bs (right_true (nat_lt b 128) (ascii bs) e))
-
-other_word : (word w : List ℕ) → (IsUtf8 word → ⊥) → ascii w ≡ true → bytes_eq word w ≡ false
-other_word word w never plain = by (bytes_eq word w) refl
+-- what is none of the words is no row
+pub no_row_word : (p : List ℕ → Bool)
+    → p (codes "sub") ≡ false
+    → p (codes "get") ≡ false
+    → p (codes "item") ≡ false
+    → p (codes "add") ≡ false
+    → p (codes "top") ≡ false
+    → p (codes "put") ≡ false
+    → p (codes "set") ≡ false
+    → p (codes "draw") ≡ false
+    → p (codes "update") ≡ false
+    → p (codes "read") ≡ false
+    → p (codes "strict") ≡ false
+    → p (codes "threev") ≡ false
+    → p (codes "nodes") ≡ false
+    → p (codes "advance") ≡ false
+    → p (codes "settle") ≡ false
+    → p (codes "pick") ≡ false
+    → p (codes "lose") ≡ false
+    → p (codes "fail") ≡ false
+    → None ≡ lookup p row_words
+no_row_word p a b c d e f g h i j k l m n o q r s
+    = sym none
   where
-    by : (b : Bool) → bytes_eq word w ≡ b → b ≡ false
-    by true is = absurd (never (subst IsUtf8 (sym ((bytes_eq-Decides word w).0 is)) (IsUtf8-from_ascii w (is_ascii_text w plain))))
-    by false is = refl
-
-abbrev all_ascii : List (List ℕ × RowShape) → Bool
-all_ascii [] = true
-all_ascii (e ∷ es) = ascii e.0 && all_ascii es
-
-no_text : (word : List ℕ) (es : List (List ℕ × RowShape)) → (IsUtf8 word → ⊥) → all_ascii es ≡ true → lookup (bytes_eq word) es ≡ None
-no_text word [] never all = refl
-no_text word (e ∷ es) never all = rw (other_word word e.0 never (left_true (ascii e.0) (all_ascii es) all)) (no_text word es never (right_true (ascii e.0) (all_ascii es) all))
-
-pub no_row_word : (word : List ℕ) → (IsUtf8 word → ⊥) → lookup (bytes_eq word) row_words ≡ None
-no_row_word word never = no_text word row_words never refl
-
-none_of_three : (p : Kind → Bool) → p kinds.Sum ≡ false → p kinds.Top ≡ false → p kinds.Bag ≡ false → find p (kinds.Sum ∷ kinds.Top ∷ kinds.Bag ∷ []) ≡ None
-none_of_three p a b c = rw (a, b, c) refl
-
-pub no_kind : (word : List ℕ) → (IsUtf8 word → ⊥) → kind_of word ≡ None
-no_kind word never = none_of_three (λ k. bytes_eq word (kind_word k)) (other_word word (codes "sum") never refl) (other_word word (codes "top") never refl) (other_word word (codes "bag") never refl)
+    none : lookup p row_words ≡ None
+    none = rw (a, b, c, d, e, f, g, h, i, j, k, l, m, n, o, q, r, s) refl

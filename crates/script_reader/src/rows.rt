@@ -5,11 +5,13 @@ ghost use Rattle.tx_trees.specs.Adding.{last_may_fail, last_subs, puts_undone};
 ghost use Rattle.tx_trees.specs.Ranges.{may_start as may_start_in};
 ghost use Rattle.script_reader.specs.Rows.{amount_row, deed_of, fail_row, first_form, first_row, form_row, item_of, item_row, later_form, later_row, nodes_row, op_row, pick_row, row_word_of, second_form, second_row, sub_row, tree_row};
 ghost use Rattle.script_reader.specs.Words.{may_be_first, may_follow};
-ghost use Rattle.script_reader.specs.inside.Rows.{HasBegunWith, Leaves, Makes};
+ghost use Rattle.script_reader.specs.inside.Rows.{HasBegunWith, Leaves, Makes, unnamed};
 
 use crate::numbers::{amount, number};
 use crate::records::field;
-use crate::words::{OpWord, RowWord, first_by, kind_of, later_by, name_of, row_word};
+use crate::words::{
+    OpWord, RowWord, first_by, kind_of, later_by, name_of, plain_name_of, row_word,
+};
 use commute_ops::{Amount, Kind, Op};
 use csv::ByteRecord;
 use std::alloc::Global;
@@ -124,7 +126,7 @@ fn unknown_kind(script: &Script, name: &[u8], node: u128, initial: &Amount) -> W
     if initial.unsigned_abs() > script.form().most_amount() {
         return Why::OutOfRange;
     }
-    let Some(name) = name_of(name) else {
+    let Some(name) = plain_name_of(name) else {
         return Why::BadName;
     };
     if script.names_item(&name) {
@@ -181,16 +183,26 @@ fn deed_of(word: OpWord, amount: &Amount) -> Deed
     }
 }
 
+#[inline(always)]
 fn op_row_of(script: &mut Script, item: &[u8], deed: Deed) -> Result<(), Refusal>
     ensures { Leaves (op_row script.old item.now deed) result script.new }
 {
-    if !is_in_range(script.form(), deed) {
-        return Err(Refusal::Why(Why::OutOfRange));
-    }
     let Some(item) = Name::new(item) else {
-        return Err(Refusal::Why(Why::UnknownItem));
+        return Err(Refusal::Why(unnamed(script.form(), deed)));
     };
     script.add_op(&item, deed)
+}
+
+// Why an operation is refused whose item has no name.
+#[inline(never)]
+fn unnamed(form: Form, deed: Deed) -> Why
+    ensures { result ≡ unnamed form deed }
+{
+    if is_in_range(form, deed) {
+        Why::UnknownItem
+    } else {
+        Why::OutOfRange
+    }
 }
 
 fn amount_row_of(
@@ -258,6 +270,7 @@ fn first_word(row: &ByteRecord) -> Result<RowWord, Why>
 }
 
 // What a later record of a script of this form is.
+#[inline(always)]
 fn later_word(form: Form, row: &ByteRecord) -> Result<RowWord, Why>
     ensures { result ≡ row_word_of (may_follow form) (fields_of row.now) }
 {

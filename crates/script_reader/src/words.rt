@@ -37,41 +37,75 @@ pub(crate) enum RowWord {
     Fail,
 }
 
-// What a row is, and how many fields it has, by its first field.
+// Whether these bytes are this word. Inlined, it compares the length and the first four bytes as numbers.
+#[inline(always)]
+fn is_word(bytes: &[u8], word: &[u8]) -> bool
+    ensures { result ≡ bytes_eq bytes.now word.now }
+{
+    bytes == word
+}
+
+// What a row is, and how many fields it has, by its first field. The words that most rows have come first.
+#[inline(always)]
+#[tactic(auto, using(crate::proofs::Passing::told, crate::proofs::Passing::no_row_word))]
 pub(crate) fn row_word(word: &[u8]) -> Option<(RowWord, usize)>
     ensures { result ≡ lookup (bytes_eq word.now) row_words }
 {
-    match str::from_utf8(word) {
-        Ok(word) => row_named(word),
-        Err(_) => None,
+    if is_word(word, b"sub") {
+        return Some((RowWord::Sub, 3));
     }
-}
-
-// The words that most rows have come first.
-fn row_named(word: &str) -> Option<(RowWord, usize)>
-    ensures { result ≡ lookup (bytes_eq word.now) row_words }
-{
-    match word {
-        "sub" => Some((RowWord::Sub, 3)),
-        "get" => Some((RowWord::Get, 2)),
-        "item" => Some((RowWord::Item, 5)),
-        "add" => Some((RowWord::Op(OpWord::Add), 3)),
-        "top" => Some((RowWord::Op(OpWord::Top), 3)),
-        "put" => Some((RowWord::Op(OpWord::Put), 3)),
-        "set" => Some((RowWord::Op(OpWord::Set), 3)),
-        "draw" => Some((RowWord::Op(OpWord::Draw), 3)),
-        "update" => Some((RowWord::Tree(TreeKind::Update), 3)),
-        "read" => Some((RowWord::Tree(TreeKind::Read), 3)),
-        "strict" => Some((RowWord::Tree(TreeKind::Strict), 3)),
-        "threev" => Some((RowWord::Form, 2)),
-        "nodes" => Some((RowWord::Nodes, 2)),
-        "advance" => Some((RowWord::Advance, 1)),
-        "settle" => Some((RowWord::Settle, 1)),
-        "pick" => Some((RowWord::Pick, 2)),
-        "lose" => Some((RowWord::Lose, 1)),
-        "fail" => Some((RowWord::Fail, 2)),
-        _ => None,
+    if is_word(word, b"add") {
+        return Some((RowWord::Op(OpWord::Add), 3));
     }
+    if is_word(word, b"get") {
+        return Some((RowWord::Get, 2));
+    }
+    if is_word(word, b"update") {
+        return Some((RowWord::Tree(TreeKind::Update), 3));
+    }
+    if is_word(word, b"top") {
+        return Some((RowWord::Op(OpWord::Top), 3));
+    }
+    if is_word(word, b"read") {
+        return Some((RowWord::Tree(TreeKind::Read), 3));
+    }
+    if is_word(word, b"item") {
+        return Some((RowWord::Item, 5));
+    }
+    if is_word(word, b"put") {
+        return Some((RowWord::Op(OpWord::Put), 3));
+    }
+    if is_word(word, b"set") {
+        return Some((RowWord::Op(OpWord::Set), 3));
+    }
+    if is_word(word, b"draw") {
+        return Some((RowWord::Op(OpWord::Draw), 3));
+    }
+    if is_word(word, b"strict") {
+        return Some((RowWord::Tree(TreeKind::Strict), 3));
+    }
+    if is_word(word, b"threev") {
+        return Some((RowWord::Form, 2));
+    }
+    if is_word(word, b"nodes") {
+        return Some((RowWord::Nodes, 2));
+    }
+    if is_word(word, b"advance") {
+        return Some((RowWord::Advance, 1));
+    }
+    if is_word(word, b"settle") {
+        return Some((RowWord::Settle, 1));
+    }
+    if is_word(word, b"pick") {
+        return Some((RowWord::Pick, 2));
+    }
+    if is_word(word, b"lose") {
+        return Some((RowWord::Lose, 1));
+    }
+    if is_word(word, b"fail") {
+        return Some((RowWord::Fail, 2));
+    }
+    None
 }
 
 // Whether the first record may be such a row: it may name the second form, and isn't of it.
@@ -86,6 +120,7 @@ fn may_be_first(word: RowWord) -> bool
 }
 
 // Whether a later record may be such a row: it names no form, and `lose` and `fail` are row words of the second form.
+#[inline(always)]
 fn may_follow(form: Form, word: RowWord) -> bool
     ensures { result ≡ may_follow form word }
 {
@@ -114,6 +149,7 @@ pub(crate) fn first_by(found: Option<(RowWord, usize)>, len: usize) -> Result<Ro
 }
 
 // What a later record of a script of this form is.
+#[inline(always)]
 pub(crate) fn later_by(
     form: Form,
     found: Option<(RowWord, usize)>,
@@ -137,25 +173,24 @@ pub(crate) fn later_by(
 pub(crate) fn kind_of(word: &[u8]) -> Option<Kind>
     ensures { result ≡ kind_of word.now }
 {
-    match str::from_utf8(word) {
-        Ok(word) => kind_named(word),
-        Err(_) => None,
-    }
-}
-
-fn kind_named(word: &str) -> Option<Kind>
-    ensures { result ≡ kind_of word.now }
-{
     match word {
-        "sum" => Some(Kind::Sum),
-        "top" => Some(Kind::Top),
-        "bag" => Some(Kind::Bag),
+        b"sum" => Some(Kind::Sum),
+        b"top" => Some(Kind::Top),
+        b"bag" => Some(Kind::Bag),
         _ => None,
     }
 }
 
-// The name that an item or a tree may be given.
+// The name of these bytes, of which some may be no name's. None only if they can't be the name of an item or a tree.
+#[inline(always)]
 pub(crate) fn name_of(bytes: &[u8]) -> Option<Name>
+    ensures { MatchOption result (is_name bytes.now ≡ false) (λ n. n ≡ bytes.now) }
+{
+    Name::new(bytes)
+}
+
+// The name that an item or a tree may be given.
+pub(crate) fn plain_name_of(bytes: &[u8]) -> Option<Name>
     ensures { MatchOption result (is_name bytes.now ≡ false) (λ n. (is_name bytes.now ≡ true) × (n ≡ bytes.now)) }
 {
     let name = Name::new(bytes)?;

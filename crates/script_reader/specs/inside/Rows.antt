@@ -1,9 +1,12 @@
 -- What each row does to a script, with its conditions in the order of their numbers. These are the definitions that
 -- private code alone cites.
-use Rattle.std.specs.Prelude.{◌≡◌, ◌==◌, ℕ, Bool, not, [], ◌∷◌, Option, Result, Ok, Err, ⊤}
+use Rattle.std.specs.Prelude.{◌≡◌, ◌==◌, ℕ, Bool, not, [], ◌∷◌, Option, Result, Ok, Err, ⊤, if◌then◌else◌}
 use Rattle.std.specs.Option.{option_map_or}
 use Rattle.tx_trees.specs.Adding.{taken_unless}
+use Rattle.tx_trees.specs.Ranges.{is_in_range}
 use Rattle.tx_trees.specs.ScriptData.{ScriptData}
+use Rattle.tx_trees.specs.declared.parts.Deed.{Deed}
+use Rattle.tx_trees.specs.declared.parts.Form.{Form}
 use Rattle.tx_trees.specs.declared.why.Why.{Why}
 use Rattle.tx_trees.specs.declared.why.Why.TheVariants as why
 use Rattle.tx_trees.specs.declared.why.Refusal.{Refusal}
@@ -16,6 +19,10 @@ abbrev pub Makes : Result ScriptData Why → Result ScriptData Refusal → Type 
 Makes made (Ok s) = made ≡ Ok s
 Makes made (Err (refusals.Why w)) = made ≡ Err w
 Makes made (Err refusals.NoMemory) = ⊤
+
+-- why an operation is refused whose item has no name
+abbrev pub unnamed : Form → Deed → Why
+unnamed form deed = if is_in_range form deed then why.UnknownItem else why.OutOfRange
 
 -- what the first record made: a script, or, if it names the second form, none yet
 abbrev pub HasBegunWith : Result (Option ScriptData) Why → Result (Option ScriptData) Refusal → Type 0
