@@ -27,11 +27,11 @@ impl<'a> Model for EntryRef<'a> {
     ghost Value = { Entry };
 
     ghost view = { λ e. record {
-        stamp = e.stamp;
-        actor = e.actor;
-        took = e.took.now;
-        sent = map outgoing_of e.sent.now;
-        acts = e.acts.now;
+      stamp = e.stamp;
+      actor = e.actor;
+      took = e.took.now;
+      sent = map outgoing_of e.sent.now;
+      acts = e.acts.now;
     } };
 }
 

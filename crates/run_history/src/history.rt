@@ -3,7 +3,8 @@ ghost use Rattle.std.specs.Prelude.{◌≡◌, ◌+◌, ◌<◌, ◌≤◌, [], 
 ghost use Rattle.letter_types.specs.declared.entries.Entry.{Entry};
 ghost use Rattle.tv_base.specs.declared.numbers.TheConstants.{MOST_ENTRIES};
 ghost use Rattle.run_history.specs.Messages.{acts_of, entry_by, messages_of};
-ghost use Rattle.run_history.specs.inside.Slots.{acts_begin, sent_begins};
+ghost use Rattle.run_history.specs.inside.Slots.{acts_begin, IsTaken, sent_begins, taken_by};
+ghost use Rattle.std.specs.List.{slice_range};
 
 use crate::entry::{Entries, EntryRef};
 use crate::pushing::{push_act_copies, push_done, push_sent, push_sent_copies};
@@ -56,6 +57,28 @@ fn acts_begin(slots: &Vec<Slot>, place: usize) -> usize
     if place == 0 { 0 } else { slots[place - 1].acts }
 }
 
+// The message that an entry took, among those that were sent and those that came whole.
+#[inline(always)]
+fn taken<'a>(letters: &'a [Letter], came: &'a [Letter], slot: Slot) -> &'a Letter
+    requires { IsTaken (length letters.now) (length came.now) slot }
+    ensures { result.now ≡ taken_by letters.now came.now slot }
+{
+    if slot.came {
+        &came[slot.took]
+    } else {
+        &letters[slot.took]
+    }
+}
+
+// The items from one place to another.
+#[inline(always)]
+fn part<T>(items: &[T], from: usize, to: usize) -> &[T]
+    requires { (from ≤ to) × (to ≤ length items.now) }
+    ensures { result.now ≡ slice_range items.now from to }
+{
+    &items[from..to]
+}
+
 impl Model for History {
     ghost use Rattle.std.specs.Prelude.{List};
     ghost use Rattle.letter_types.specs.declared.entries.Entry.{Entry};
@@ -63,9 +86,9 @@ impl Model for History {
 
     ghost Value = { List Entry };
 
-    ghost view = { λ h. entries_in (lists_of h) h.slots.items };
+    ghost view = { λ h. entries_in (lists_of h.letters.items h.came.items h.acts.items) h.slots.items };
 
-    ghost invariant = { λ h. AreKept (lists_of h) h.slots.items };
+    ghost invariant = { λ h. AreKept (lists_of h.letters.items h.came.items h.acts.items) h.slots.items };
 }
 
 impl History {
@@ -99,13 +122,12 @@ impl History {
         let slot = self.slots[place];
         let sent = sent_begins(&self.slots, place);
         let acts = acts_begin(&self.slots, place);
-        let took = if slot.came { &self.came[slot.took] } else { &self.letters[slot.took] };
         EntryRef {
             stamp: Stamp(place as u64 + 1),
             actor: slot.actor,
-            took,
-            sent: &self.letters[sent..slot.sent],
-            acts: &self.acts[acts..slot.acts],
+            took: taken(&self.letters, &self.came, slot),
+            sent: part(&self.letters, sent, slot.sent),
+            acts: part(&self.acts, acts, slot.acts),
         }
     }
 

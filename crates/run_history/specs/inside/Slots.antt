@@ -1,12 +1,11 @@
 -- Which entries the lists of a history mean, and what is always true of where their parts lie.
-use Rattle.std.specs.Prelude.{ℕ, zero, suc, Bool, true, false, if◌then◌else◌, ◌≡◌, ◌+◌, ◌<◌, ◌≤◌, List, [], ◌∷◌, length, map, get_or}
+use Rattle.std.specs.Prelude.{ℕ, zero, suc, true, false, if◌then◌else◌, ◌≡◌, ◌+◌, ◌<◌, ◌≤◌, List, [], ◌∷◌, length, map, get_or}
 use Rattle.std.specs.List.{slice_range}
 use Rattle.tv_base.specs.declared.numbers.TheConstants.{MOST_ENTRIES}
 use Rattle.letter_types.specs.declared.acts.Act.{Act}
 use Rattle.letter_types.specs.declared.entries.Entry.{Entry}
 use Rattle.letter_types.specs.declared.entries.Letter.{Letter}
 use Rattle.letter_types.specs.Letters.{go, letters_of}
-use Rattle.run_history.specs.declared.history.History.{History}
 use Rattle.run_history.specs.declared.history.Slot.{Slot}
 use Rattle.run_history.specs.Messages.{entry_by, outgoing_of}
 
@@ -16,17 +15,17 @@ pub record Lists : Type 0 where
   pub came : List Letter
   pub acts : List Act
 
-abbrev pub lists_of : History → Lists
-lists_of h = record { letters = h.letters.items; came = h.came.items; acts = h.acts.items }
+abbrev pub lists_of : List Letter → List Letter → List Act → Lists
+lists_of letters came acts = record { letters = letters; came = came; acts = acts }
 
 -- the message that an entry took
-abbrev pub taken_by : Lists → Slot → Letter
-taken_by ls p = if p.came then get_or ls.came p.took (go 0) else get_or ls.letters p.took (go 0)
+abbrev pub taken_by : List Letter → List Letter → Slot → Letter
+taken_by letters came p = if p.came then get_or came p.took (go 0) else get_or letters p.took (go 0)
 
 -- the entry behind n others, whose messages begin at place i, and its acts at place j
 abbrev pub entry_in : ℕ → ℕ → ℕ → Lists → Slot → Entry
 entry_in n i j ls p =
-    entry_by n p.actor (taken_by ls p) (map outgoing_of (slice_range ls.letters i p.sent)) (slice_range ls.acts j p.acts)
+    entry_by n p.actor (taken_by ls.letters ls.came p) (map outgoing_of (slice_range ls.letters i p.sent)) (slice_range ls.acts j p.acts)
 
 -- these entries, behind n others
 abbrev pub entries_from : ℕ → ℕ → ℕ → Lists → List Slot → List Entry
@@ -36,9 +35,9 @@ entries_from n i j ls (p ∷ ps) = entry_in n i j ls p ∷ entries_from (n + 1) 
 abbrev pub entries_in : Lists → List Slot → List Entry
 entries_in ls ps = entries_from 0 0 0 ls ps
 
--- the message that an entry took is one that came whole, or among the first i that were sent
-abbrev pub IsTaken : ℕ → Lists → Slot → Type 0
-IsTaken i ls p = (p.came ≡ true → p.took < length ls.came) × (p.came ≡ false → p.took < i)
+-- the message that an entry took is among the first i that were sent, or among m that came whole
+abbrev pub IsTaken : ℕ → ℕ → Slot → Type 0
+IsTaken i m p = (p.came ≡ true → p.took < m) × (p.came ≡ false → p.took < i)
 
 -- an entry's parts lie in the lists: its messages have their ids, and what it took was sent before
 pub record IsKept (n i j : ℕ) (ls : Lists) (p : Slot) : Type 0 where
@@ -46,7 +45,7 @@ pub record IsKept (n i j : ℕ) (ls : Lists) (p : Slot) : Type 0 where
   pub acts : j ≤ p.acts
   pub sent_in : p.sent ≤ length ls.letters
   pub acts_in : p.acts ≤ length ls.acts
-  pub took : IsTaken i ls p
+  pub took : IsTaken i (length ls.came) p
   pub ids : slice_range ls.letters i p.sent ≡ letters_of (entry_in n i j ls p)
 
 -- all parts lie there one behind the other, up to the lists' ends

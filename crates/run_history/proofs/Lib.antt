@@ -1,0 +1,5 @@
+pub mod Sealed
+pub mod Kept
+pub mod Begins
+pub mod Pushed
+pub mod Cut

@@ -1,0 +1,16 @@
+-- Messages get their ids one after the other.
+use Rattle.std.proofs.Common.{◌≡◌, ℕ, ◌+◌, List, [], ◌∷◌, ◌++◌, length, ap, sym, arith}
+use Rattle.letter_types.specs.declared.entries.Letter.{Letter}
+use Rattle.letter_types.specs.declared.entries.Outgoing.{Outgoing}
+use Rattle.letter_types.specs.Letters.{sealed}
+
+abbrev pub letter_at : ℕ → ℕ → ℕ → Outgoing → Letter
+letter_at stamp actor place o = record { id = record { stamp = record { 0 = stamp }; place = place }; from = record { 0 = actor }; to = o.to; body = o.body }
+
+pub sealed_more : (stamp actor place n : ℕ) (os : List Outgoing) (o : Outgoing) → n ≡ place + length os
+    → sealed stamp actor place (os ++ o ∷ []) ≡ sealed stamp actor place os ++ letter_at stamp actor n o ∷ []
+sealed_more stamp actor place n [] o is =
+    let eq : n ≡ place = omega arith in
+    ap (λ (k : ℕ). letter_at stamp actor k o ∷ []) (sym eq)
+sealed_more stamp actor place n (x ∷ os) o is =
+    ap (λ (ls : List Letter). letter_at stamp actor place x ∷ ls) (sealed_more stamp actor (place + 1) n os o (omega arith))
