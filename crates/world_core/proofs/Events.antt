@@ -3,7 +3,6 @@ use Rattle.std.proofs.Common.{◌≡◌, ℕ, ◌+◌, ◌*◌, ◌-◌, ◌<◌
 use Rattle.std.specs.Prelude.{slice_get, slice_set, IfSome}
 use Rattle.std.specs.List.{remove}
 use Rattle.std.proofs.lemmas.List.{length-append, length-reverse}
-use Rattle.tv_base.specs.declared.numbers.Stamp.{Stamp}
 use Rattle.tv_base.proofs.ByPlace.{get_some}
 use Rattle.letter_types.specs.declared.entries.Letter.{Letter}
 use Rattle.letter_types.specs.declared.entries.StepOut.{StepOut}
@@ -20,7 +19,7 @@ use Rattle.world_model.specs.Tables.{ActorData}
 use Rattle.world_model.specs.Taking.{CountsBelow, IsAddressed, MOST_COUNTED}
 use Rattle.world_core.specs.Actors.{IsWorldOf, TookLetter, WorldData}
 use Rattle.world_core.specs.Steps.{IsActorStepOf, ActorMayDo, MayTake, out_of}
-use Rattle.world_core.specs.inside.Actors.{Acted, entry_made, letters_made, with_last_entry}
+use Rattle.world_core.specs.inside.Actors.{Acted, entry_made}
 use Rattle.world_core.proofs.Doing.{is_row, may_do, out_is}
 use Rattle.world_core.proofs.Worlds.{Took, below, entry_of, next_world}
 
@@ -67,26 +66,18 @@ pub may_act : (s : ScriptData) (l : Letter) (p : ActorPlan) (z : Scratch) (actor
     → IfSome (slice_get actors l.to.0) (λ st. IsActorStepOf s l st p z) → IfSome (slice_get actors l.to.0) (ActorMayDo p z)
 may_act s l p z actors is = may_of s l p z (slice_get actors l.to.0) is
 
-set_last : (h : List Entry) (x e : Entry) → slice_set (h ++ x ∷ []) (length h) e ≡ h ++ e ∷ []
-set_last [] x e = refl
-set_last (y ∷ h) x e = ap (λ (ys : List Entry). y ∷ ys) (set_last h x e)
-
-last_place : (h : List Entry) (x : Entry) → length (h ++ x ∷ []) - 1 ≡ length h
-last_place h x = omega (arith, length-append h (x ∷ []))
-
 -- what the calls of an event say
-pub record Event (s : ScriptData) (w : WorldData) (k : ℕ) (l : Letter) (p : ActorPlan) (z : Scratch) (out : StepOut) (stamp : Stamp) (x : Entry) (next : WorldData) : Type 0 where
+pub record Event (s : ScriptData) (w : WorldData) (k : ℕ) (l : Letter) (p : ActorPlan) (z : Scratch) (out : StepOut) (next : WorldData) : Type 0 where
   pub letter : slice_get w.bag k ≡ Some l
   pub step : IfSome (slice_get w.actors l.to.0) (λ st. IsActorStepOf s l st p z)
   pub acted : Acted l.to.0 p z w.actors next.actors out
-  pub stamp_is : stamp.0 ≡ length w.history + 1
-  pub bag : next.bag ≡ remove w.bag k ++ letters_made stamp l.to p z
-  pub history : next.history ≡ with_last_entry (w.history ++ x ∷ []) l out stamp
+  pub bag : next.bag ≡ remove w.bag k ++ sealed (length w.history + 1) l.to.0 0 (out_of p z).sent
+  pub history : next.history ≡ w.history ++ entry_made (length w.history) l (out_of p z).sent (out_of p z).acts ∷ []
 
 -- the actor made its row
-took_by : (s : ScriptData) (w : WorldData) (k : ℕ) (l : Letter) (p : ActorPlan) (z : Scratch) (out : StepOut) (stamp : Stamp) (x : Entry) (next : WorldData)
-    → IsWorldOf s w → Event s w k l p z out stamp x next → Took s l w.actors next.actors out
-took_by s w k l p z out stamp x next world e =
+took_by : (s : ScriptData) (w : WorldData) (k : ℕ) (l : Letter) (p : ActorPlan) (z : Scratch) (out : StepOut) (next : WorldData)
+    → IsWorldOf s w → Event s w k l p z out next → Took s l w.actors next.actors out
+took_by s w k l p z out next world e =
     let a = e.acted in
     record {
       before = a.before;
@@ -97,32 +88,35 @@ took_by s w k l p z out stamp x next world e =
           (if_some (λ st. IsActorStepOf s l st p z) (slice_get w.actors l.to.0) a.before a.there e.step) a.done;
     }
 
-pub history_is : (s : ScriptData) (w : WorldData) (k : ℕ) (l : Letter) (p : ActorPlan) (z : Scratch) (out : StepOut) (stamp : Stamp) (x : Entry) (next : WorldData) → Event s w k l p z out stamp x next
-    → next.history ≡ w.history ++ entry_of (length w.history + 1) l out.sent out.acts ∷ []
-history_is s w k l p z out stamp x next e =
-    e.history
-    ∙ ap (λ (n : ℕ). slice_set (w.history ++ x ∷ []) n (entry_made l out stamp)) (last_place w.history x)
-    ∙ set_last w.history x (entry_made l out stamp)
-    ∙ ap (λ (n : ℕ). w.history ++ entry_of n l out.sent out.acts ∷ []) e.stamp_is
+-- what goes out is what was planned
+is_out : (s : ScriptData) (w : WorldData) (k : ℕ) (l : Letter) (p : ActorPlan) (z : Scratch) (out : StepOut) (next : WorldData)
+    → Event s w k l p z out next → out_of p z ≡ out
+is_out s w k l p z out next e = sym (out_is p z e.acted.before e.acted.after out e.acted.done)
 
-pub event_world : (s : ScriptData) (w : WorldData) (k : ℕ) (l : Letter) (p : ActorPlan) (z : Scratch) (out : StepOut) (stamp : Stamp) (x : Entry) (next : WorldData)
-    → IsWorldOf s w → IsValid s → Event s w k l p z out stamp x next → IsWorldOf s next
-event_world s w k l p z out stamp x next world valid e =
-    let sent : (out_of p z).sent ≡ out.sent = ap (λ (o : StepOut). o.sent) (sym (out_is p z e.acted.before e.acted.after out e.acted.done)) in
+pub history_is : (s : ScriptData) (w : WorldData) (k : ℕ) (l : Letter) (p : ActorPlan) (z : Scratch) (out : StepOut) (next : WorldData)
+    → Event s w k l p z out next → next.history ≡ w.history ++ entry_of (length w.history + 1) l out.sent out.acts ∷ []
+history_is s w k l p z out next e =
+    let is = is_out s w k l p z out next e in
+    e.history ∙ (λ i. w.history ++ entry_of (length w.history + 1) l (is i).sent (is i).acts ∷ [])
+
+pub event_world : (s : ScriptData) (w : WorldData) (k : ℕ) (l : Letter) (p : ActorPlan) (z : Scratch) (out : StepOut) (next : WorldData)
+    → IsWorldOf s w → IsValid s → Event s w k l p z out next → IsWorldOf s next
+event_world s w k l p z out next world valid e =
+    let is = is_out s w k l p z out next e in
     let made : IsWorldOf s (record { actors = next.actors; bag = next.bag; history = w.history ++ entry_of (length w.history + 1) l out.sent out.acts ∷ [] }) =
     next_world s w k l out next.actors next.bag world valid (record {
       letter = e.letter;
-      took = took_by s w k l p z out stamp x next world e;
-      bag = e.bag ∙ (λ i. remove w.bag k ++ sealed (e.stamp_is i) l.to.0 0 (sent i));
+      took = took_by s w k l p z out next world e;
+      bag = e.bag ∙ (λ i. remove w.bag k ++ sealed (length w.history + 1) l.to.0 0 (is i).sent);
     }) in
-    subst (λ (h : List Entry). IsWorldOf s (record { actors = next.actors; bag = next.bag; history = h })) (sym (history_is s w k l p z out stamp x next e)) made
+    subst (λ (h : List Entry). IsWorldOf s (record { actors = next.actors; bag = next.bag; history = h })) (sym (history_is s w k l p z out next e)) made
 
-pub event_took : (s : ScriptData) (w : WorldData) (k : ℕ) (l : Letter) (p : ActorPlan) (z : Scratch) (out : StepOut) (stamp : Stamp) (x : Entry) (next : WorldData)
-    → Event s w k l p z out stamp x next → TookLetter k w next
-event_took s w k l p z out stamp x next e = (entry_of (length w.history + 1) l out.sent out.acts, history_is s w k l p z out stamp x next e, e.letter)
+pub event_took : (s : ScriptData) (w : WorldData) (k : ℕ) (l : Letter) (p : ActorPlan) (z : Scratch) (out : StepOut) (next : WorldData)
+    → Event s w k l p z out next → TookLetter k w next
+event_took s w k l p z out next e = (entry_of (length w.history + 1) l out.sent out.acts, history_is s w k l p z out next e, e.letter)
 
-pub event_count : (s : ScriptData) (w : WorldData) (k : ℕ) (l : Letter) (p : ActorPlan) (z : Scratch) (out : StepOut) (stamp : Stamp) (x : Entry) (next : WorldData)
-    → Event s w k l p z out stamp x next → length next.history ≡ length w.history + 1
-event_count s w k l p z out stamp x next e =
-    ap (length {A = Entry}) (history_is s w k l p z out stamp x next e)
+pub event_count : (s : ScriptData) (w : WorldData) (k : ℕ) (l : Letter) (p : ActorPlan) (z : Scratch) (out : StepOut) (next : WorldData)
+    → Event s w k l p z out next → length next.history ≡ length w.history + 1
+event_count s w k l p z out next e =
+    ap (length {A = Entry}) (history_is s w k l p z out next e)
     ∙ omega (arith, length-append w.history (entry_of (length w.history + 1) l out.sent out.acts ∷ []))

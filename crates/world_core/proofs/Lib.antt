@@ -1,9 +1,8 @@
 pub mod Items
-pub mod Sealed
 pub mod Bag
 pub mod Doing
 pub mod First
 pub mod Worlds
 pub mod Leads
 pub mod Events
-pub mod TakenBack
+pub mod Places

@@ -14,7 +14,7 @@ use crate::node::NodeState;
 use advance_coord::{Coordinator, CoordinatorPrepared};
 use client_rows::{Client, ClientPrepared};
 use coord_restart::{RestartPrepared, Restarting};
-use letter_types::{Boxed, Letter, Letters, StepOut};
+use letter_types::{Acts, Boxed, Letter, Letters, StepOut};
 use node_machine::NodePlan;
 use std::alloc::Global;
 use tree_step::{Incoming, Scratch};
@@ -69,6 +69,18 @@ impl ActorPlan {
             ActorPlan::Coordinator(prepared) => &prepared.get().out().sent,
             ActorPlan::Restarting(prepared) => &prepared.get().out().sent,
             ActorPlan::Client(prepared) => &prepared.get().out().sent,
+        }
+    }
+
+    /// What is done, act by act.
+    pub fn acts<'a>(&'a self, scratch: &'a Scratch) -> &'a Acts
+        ensures { result.now ≡ (out_of self.now scratch.now).acts }
+    {
+        match self {
+            ActorPlan::Node(_) => &scratch.acts,
+            ActorPlan::Coordinator(prepared) => &prepared.get().out().acts,
+            ActorPlan::Restarting(prepared) => &prepared.get().out().acts,
+            ActorPlan::Client(prepared) => &prepared.get().out().acts,
         }
     }
 }

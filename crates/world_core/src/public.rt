@@ -3,29 +3,15 @@ ghost use Rattle.std.specs.Prelude.{◌≡◌, IfOk, OnErr, OnOk};
 ghost use Rattle.letter_types.specs.Steps.{made};
 ghost use Rattle.world_model.specs.Taking.{CountsBelow, IsAddressed};
 ghost use Rattle.world_core.specs.Actors.{actor_data, IsFor};
-ghost use Rattle.world_core.specs.Steps.{out_of, row_at};
+ghost use Rattle.world_core.specs.Steps.{row_at};
 ghost use Rattle.pair_counters.specs.Numbers.{MOST_COUNT};
 
-use crate::actor::{ActorPlan, ActorState, actor_done, actor_plan};
-use letter_types::{Acts, Letter, Step, StepOut, copy_acts, copy_letters};
+use crate::actor::{ActorState, actor_done, actor_plan};
+use letter_types::{Letter, Step, StepOut, copy_acts, copy_letters};
 use std::alloc::Global;
 use tree_step::{Incoming, Scratch, new_scratch, take_out};
 use tv_base::NoMemory;
 use tx_trees::Script;
-
-impl ActorPlan {
-    /// What is done, act by act.
-    fn acts<'a>(&'a self, scratch: &'a Scratch) -> &'a Acts
-        ensures { result.now ≡ (out_of self.now scratch.now).acts }
-    {
-        match self {
-            ActorPlan::Node(_) => &scratch.acts,
-            ActorPlan::Coordinator(prepared) => &prepared.get().out().acts,
-            ActorPlan::Restarting(prepared) => &prepared.get().out().acts,
-            ActorPlan::Client(prepared) => &prepared.get().out().acts,
-        }
-    }
-}
 
 /// What an actor does with a message that is addressed to it, planned and done: its row of its table. A message that
 /// isn't enabled changes and sends nothing. What goes out is given, and an equal copy kept. If memory runs out, the

@@ -1,30 +1,32 @@
 // A world: all actors, the messages in flight, and the history so far.
-ghost use Rattle.std.specs.Prelude.{◌≡◌, ◌<◌, ◌≤◌, ◌+◌, ◌++◌, [], length, slice_get, take, IfOk, IfSome, OnOk, OnErr, Some};
-ghost use Rattle.std.specs.List.{remove};
-ghost use Rattle.letter_types.specs.Letters.{sealed};
+ghost use Rattle.std.specs.Prelude.{◌≡◌, ◌<◌, ◌≤◌, ◌+◌, ◌-◌, ◌++◌, ◌∷◌, [], length, slice_get, IfOk, IfSome, OnOk, OnErr, Some};
 ghost use Rattle.tv_base.specs.declared.numbers.TheConstants.{MOST_ENTRIES};
+ghost use Rattle.run_history.specs.Messages.{messages_of};
 ghost use Rattle.tx_trees.specs.ScriptData.{ScriptData};
 ghost use Rattle.world_core.specs.Actors.{AreStatesOf, IsLedTo, IsWorldOf, TookLetter};
 ghost use Rattle.tree_step.specs.Meant.{IsEmpty, out_in};
 ghost use Rattle.world_core.specs.Steps.{ActorMayDo, MayTake, out_of};
-ghost use Rattle.world_core.specs.inside.Actors.{Acted, IsPlanFor, letters_made, with_last_entry, world_in};
+ghost use Rattle.world_core.specs.inside.Actors.{Acted, entry_made, IsPlanFor};
+ghost use Rattle.world_core.specs.inside.Flows.{ArePlaced, message_at, places_from, world_in};
 ghost use Rattle.pair_counters.specs.Numbers.{MOST_COUNT};
 
 use crate::actor::{ActorPlan, ActorState, actor_done, actor_plan};
 use letter_bag::OrderedBag;
-use letter_types::{Acts, Entry, History, Letter, LetterId, Letters, StepOut, go};
+use letter_types::{Acts, Entry, Letter, Letters, copy_acts, copy_letters, go};
+use run_history::History;
 use std::alloc::Global;
 use std::marker::Model;
-use std::mem;
-use tree_step::{Incoming, Scratch, new_scratch, take_out, wipe};
+use tree_step::{Incoming, Scratch, new_scratch, wipe};
 use tv_base::{ActorNo, NoMemory, Stamp};
 use tx_trees::Script;
 
-/// What an event of a world changes: the actors, the messages in flight, and the history.
+/// What an event of a world changes: the actors, the messages in flight, and the history. A message is kept once, in
+/// the history, and the bag has its place: 0 is Go, which no entry sent, and `n` the `n`th of all that were sent.
 #[derive(Drop)]
 struct Flow {
     actors: Vec<ActorState>,
-    bag: OrderedBag<Letter>,
+    bag: OrderedBag<usize>,
+    go: Letter,
     history: History,
 }
 
@@ -40,24 +42,13 @@ pub struct World {
 impl Model for World {
     ghost use Rattle.tree_step.specs.Meant.{IsEmpty};
     ghost use Rattle.world_core.specs.Actors.{WorldData};
-    ghost use Rattle.world_core.specs.inside.Actors.{world_in};
+    ghost use Rattle.world_core.specs.inside.Flows.{ArePlaced, world_in};
 
     ghost Value = { WorldData };
 
     ghost view = { λ w. world_in w.flow };
 
-    ghost invariant = { λ w. IsEmpty w.scratch };
-}
-
-/// An entry that holds a place in a history until the step is made.
-fn placeholder(alloc: Global, stamp: Stamp) -> Entry {
-    Entry {
-        stamp,
-        actor: ActorNo(0),
-        took: go(ActorNo(0)),
-        sent: Letters::new(alloc),
-        acts: Acts::new(alloc),
-    }
+    ghost invariant = { λ w. IsEmpty w.scratch × ArePlaced w.flow.history w.flow.bag.items };
 }
 
 /// The actors of a script as a run begins.
@@ -73,47 +64,28 @@ fn first_actors(alloc: Global, script: &Script) -> Result<Vec<ActorState>, NoMem
     Ok(actors)
 }
 
-/// Takes the last messages out of the bag, so that this many are left.
-fn take_back(bag: &mut OrderedBag<Letter>, left: usize)
-    ensures { bag.new.items ≡ take left bag.old.items }
+/// The message at a place.
+#[inline(always)]
+fn message_at(flow: &Flow, place: usize) -> &Letter
+    requires { place ≤ length (messages_of flow.now.history) }
+    ensures { result.now ≡ message_at flow.now.go flow.now.history place }
 {
-    while left < bag.len() {
-        let last = bag.len() - 1;
-        let _letter = bag.take(last);
+    if place == 0 {
+        &flow.go
+    } else {
+        &flow.history.messages()[place - 1]
     }
 }
 
-/// Equal messages go to the end of the bag, each with its id. If memory runs out, the bag has what it had.
-fn send(
-    alloc: Global,
-    bag: &mut OrderedBag<Letter>,
-    stamp: Stamp,
-    actor: ActorNo,
-    sent: &Letters,
-) -> Result<(), NoMemory>
-    requires { length sent.now ≤ bag.old.room }
-    ensures ok { OnOk result (bag.new.items ≡ bag.old.items ++ sealed stamp.0 actor.0 0 sent.now) }
-    ensures err { OnErr result (bag.new.items ≡ bag.old.items) }
+/// Puts the places of the messages behind the first `from`, up to number `to`, into the bag, which has room for them.
+fn put_places(bag: &mut OrderedBag<usize>, from: usize, to: usize)
+    requires up { from ≤ to }
+    requires room { to ≤ from + bag.old.room }
+    ensures { bag.new.items ≡ bag.old.items ++ places_from from (to - from) }
 {
-    let before = bag.len();
-    let mut place: u32 = 0;
-    let items = sent.items();
-    for outgoing in items {
-        match outgoing.body.copy(alloc) {
-            Ok(body) => bag.put_reserved(Letter {
-                id: LetterId { stamp, place },
-                from: actor,
-                to: outgoing.to,
-                body,
-            }),
-            Err(refused) => {
-                take_back(bag, before);
-                return Err(refused);
-            }
-        }
-        place = place.saturating_add(1);
+    for place in from..to {
+        bag.put_reserved(place + 1);
     }
-    Ok(())
 }
 
 /// The state of an actor.
@@ -160,62 +132,46 @@ fn act(
     actor_done(alloc, state, plan, scratch)
 }
 
-/// Takes message `k` out of the bag, and puts the entry in the last place of the history.
-fn finish(bag: &mut OrderedBag<Letter>, history: &mut History, stamp: Stamp, k: usize, out: StepOut)
-    requires waits { k < length bag.old.items }
-    requires place { 0 < length history.old }
-    ensures bag { bag.new.items ≡ remove bag.old.items k }
-    ensures history { IfSome (slice_get bag.old.items k) (λ l. history.new ≡ with_last_entry history.old l out stamp) }
-{
-    let StepOut { sent, acts } = out;
-    let took = bag.take(k);
-    let last = history.items().len() - 1;
-    let placeholder = history.put(
-        last,
-        Entry {
-            stamp,
-            actor: took.to,
-            took,
-            sent,
-            acts,
-        },
-    );
-    // It holds no memory that could be given back.
-    mem::forget(placeholder);
-}
-
-/// Sends an equal copy of what goes out, and lets the actor do its step; what goes out lies in the scratch then. If
-/// memory runs out, messages and actors are as they were.
-fn pass(
+/// Puts the entry of a step behind the history, with equal copies of what it sends and does. If memory runs out, the
+/// history is as it was.
+fn enter(
     alloc: Global,
     flow: &mut Flow,
-    stamp: Stamp,
-    actor: ActorNo,
-    plan: ActorPlan,
-    scratch: &mut Scratch,
+    place: usize,
+    sent: &Letters,
+    acts: &Acts,
 ) -> Result<(), NoMemory>
-    requires here { actor.0 < length flow.old.actors.items }
-    requires may { IfSome (slice_get flow.old.actors.items actor.0) (ActorMayDo plan scratch.old) }
-    requires room { length (out_of plan scratch.old).sent ≤ flow.old.bag.room }
-    ensures acted { OnOk result
-        (Acted actor.0 plan scratch.old flow.old.actors.items flow.new.actors.items (out_in scratch.new)) }
-    ensures sent { OnOk result (flow.new.bag.items ≡ flow.old.bag.items ++ letters_made stamp actor plan scratch.old) }
-    ensures history { flow.new.history ≡ flow.old.history }
-    ensures err { OnErr result (world_in flow.new ≡ world_in flow.old) }
+    requires { place ≤ length (messages_of flow.old.history) }
+    ensures ok { OnOk result (flow.new.history ≡ flow.old.history
+        ++ entry_made (length flow.old.history) (message_at flow.old.go flow.old.history place) sent.now acts.now ∷ []) }
+    ensures err { OnErr result (flow.new.history ≡ flow.old.history) }
+    ensures rest { flow.new ≡ record flow.old { history = flow.new.history } }
 {
-    let before = flow.bag.len();
-    send(alloc, &mut flow.bag, stamp, actor, plan.sent(scratch))?;
-    match act(alloc, &mut flow.actors, actor, plan, scratch) {
-        Ok(()) => Ok(()),
-        Err(refused) => {
-            take_back(&mut flow.bag, before);
-            Err(refused)
-        }
+    let took = message_at(flow, place);
+    let actor = took.to;
+    if 0 < place {
+        flow.history.enter(alloc, place - 1, actor, sent, acts)?;
+        return Ok(());
     }
+    let took = Letter {
+        id: took.id,
+        from: took.from,
+        to: actor,
+        body: took.body.copy(alloc)?,
+    };
+    let entry = Entry {
+        stamp: Stamp(flow.history.len() as u64 + 1),
+        actor,
+        took,
+        sent: copy_letters(alloc, sent)?,
+        acts: copy_acts(alloc, acts)?,
+    };
+    flow.history.push(entry)?;
+    Ok(())
 }
 
 /// Makes room for the messages of one step, if it sends any.
-fn make_room(bag: &mut OrderedBag<Letter>, room: usize) -> Result<(), NoMemory>
+fn make_room(bag: &mut OrderedBag<usize>, room: usize) -> Result<(), NoMemory>
     ensures items { bag.new.items ≡ bag.old.items }
     ensures ok { OnOk result (room ≤ bag.new.room) }
 {
@@ -237,17 +193,20 @@ fn advance(
     // What the caller knows.
     requires waits { k < length flow.old.bag.items }
     requires world { IsWorldOf script.now (world_in flow.old) }
+    requires placed { ArePlaced flow.old.history flow.old.bag.items }
     requires empty { IsEmpty scratch.old }
     // What came.
     ensures world { OnOk result (IsWorldOf script.now (world_in flow.new)) }
     ensures took { OnOk result (TookLetter k (world_in flow.old) (world_in flow.new)) }
     ensures stamp { IfOk result (λ stamp. stamp.0 ≡ length flow.new.history) }
     ensures empty { OnOk result (IsEmpty scratch.new) }
+    ensures placed { ArePlaced flow.new.history flow.new.bag.items }
     ensures err { OnErr result (world_in flow.new ≡ world_in flow.old) }
 {
     let _valid = script.nodes();
-    let stamp = Stamp(flow.history.items().len() as u64 + 1);
-    let letter = flow.bag.at(k);
+    let stamp = Stamp(flow.history.len() as u64 + 1);
+    let place = *flow.bag.at(k);
+    let letter = message_at(flow, place);
     let actor = letter.to;
     let came = Incoming {
         alloc,
@@ -255,16 +214,19 @@ fn advance(
         script,
     };
     let plan = plan(&flow.actors, &came, scratch)?;
-    make_room(&mut flow.bag, plan.sent(scratch).items().len())?;
-    flow.history.push(placeholder(alloc, stamp))?;
-    match pass(alloc, flow, stamp, actor, plan, scratch) {
+    let sent = plan.sent(scratch);
+    make_room(&mut flow.bag, sent.items().len())?;
+    let before = flow.history.messages().len();
+    enter(alloc, flow, place, sent, plan.acts(scratch))?;
+    match act(alloc, &mut flow.actors, actor, plan, scratch) {
         Ok(()) => {
-            let out = take_out(alloc, scratch);
-            finish(&mut flow.bag, &mut flow.history, stamp, k, out);
+            put_places(&mut flow.bag, before, flow.history.messages().len());
+            flow.bag.take(k);
+            wipe(scratch);
             Ok(stamp)
         }
         Err(refused) => {
-            let _placeholder = flow.history.pop();
+            flow.history.take_back();
             Err(refused)
         }
     }
@@ -278,11 +240,12 @@ impl World {
     {
         let client = ActorNo(script.nodes() + 1);
         let mut bag = OrderedBag::new(alloc);
-        bag.put(go(client))?;
+        bag.put(0)?;
         let actors = first_actors(alloc, script)?;
         let flow = Flow {
             actors,
             bag,
+            go: go(client),
             history: History::new(alloc),
         };
         Ok(World {
@@ -304,7 +267,7 @@ impl World {
         requires { k < length self.now.bag }
         ensures { slice_get self.now.bag k ≡ Some result.now }
     {
-        self.flow.bag.at(k)
+        message_at(&self.flow, *self.flow.bag.at(k))
     }
 
     /// The state of an actor. In a world of a script it is the one to which this actor's own entries lead.
@@ -342,7 +305,7 @@ impl World {
         ensures history { result.now ≡ self.now.history }
         ensures few { length self.now.history ≤ MOST_ENTRIES }
     {
-        let _count = self.flow.history.items();
+        let _count = self.flow.history.len();
         &self.flow.history
     }
 
