@@ -7,7 +7,7 @@ use Rattle.std.proofs.lemmas.Bool.Decides.{nat_tests}
 use Rattle.std.proofs.lemmas.List.{get_or-replicate, length-replicate, length-set, reverse-append}
 use Rattle.std.proofs.lemmas.Bool.{and_left}
 use Rattle.std.proofs.Math.Bool.{and-false, or-false}
-use Rattle.std.proofs.lemmas.Option.{cond_some}
+use Rattle.std.proofs.lemmas.Option.{cond_some, get_or_from_slice_get}
 use Rattle.tv_base.specs.declared.numbers.ItemNo.{ItemNo}
 use Rattle.tv_base.specs.declared.numbers.SubNo.{SubNo}
 use Rattle.tv_base.specs.declared.numbers.TreeNo.{TreeNo}
@@ -47,13 +47,13 @@ closed_back-append s [] b c = refl
 closed_back-append s (x ∷ a) b c = ap (λ (z : Closed). closed_after_act s x.act z) (closed_back-append s a b c)
 
 -- one entry more from the end
-pub entry_back : (es : List Entry) (n k : ℕ) (e : Entry) → n ≡ length es → k < n → e ≡ get_or es (n - 1 - k) e
+pub entry_back : (es : List Entry) (n k : ℕ) (e : Entry) → n ≡ length es → k < n → slice_get es (n - 1 - k) ≡ Some e
     → places_of (drop (n - (k + 1)) es) ≡ places_at e ++ places_of (drop (n - k) es)
 entry_back es n k e len small is =
     let at : n - (k + 1) ≡ n - 1 - k = omega arith in
     let next : n - 1 - k + 1 ≡ n - k = omega arith in
     ap (λ (i : ℕ). places_of (drop i es)) at
-    ∙ opened (λ (z : List Entry). places_of z) es (n - 1 - k) e (omega arith) is
+    ∙ opened (λ (z : List Entry). places_of z) es (n - 1 - k) e (omega arith) (sym (get_or_from_slice_get es (n - 1 - k) e e is))
     ∙ ap (λ (i : ℕ). places_at e ++ places_of (drop i es)) next
 
 -- what a row says of tree t

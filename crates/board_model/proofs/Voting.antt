@@ -9,12 +9,13 @@ use Rattle.letter_types.specs.declared.acts.Act.{Act}
 use Rattle.letter_types.specs.declared.acts.Act.TheVariants.{Born, Did, Turned, Showed, Swept, Finished, Waits, Parked, Voted, Freed, Decided, Applied}
 use Rattle.letter_types.specs.declared.entries.Entry.{Entry}
 use Rattle.letter_types.specs.declared.votes.Vote.{Vote}
+use Rattle.run_history.specs.Messages.{acts_of}
 use Rattle.tx_trees.specs.ScriptData.{ScriptData}
 use Rattle.tx_trees.specs.declared.parts.Tree.{Tree}
 use Rattle.board_rules.specs.Histories.{Place, places_of}
 use Rattle.board_rules.specs.Outcomes.{acts_in, decision_by, decision_in, vote_by, vote_in}
 use Rattle.board_model.specs.Ballots.{ballots_from, ballots_of, tells_of}
-use Rattle.board_model.specs.inside.Ballots.{ballots_after, ballots_over, ballots_with_act, no_ballots, with_act}
+use Rattle.board_model.specs.inside.Ballots.{ballots_after, ballots_with_act, no_ballots, with_act}
 use Rattle.board_model.specs.inside.SerialList.{placed}
 use Rattle.board_model.specs.inside.Tallies.{on_row}
 
@@ -71,33 +72,35 @@ act_more (Freed t) acts rows = untold (Freed t) acts 0 rows (λ (u : ℕ). refl)
 act_more (Decided t commit) acts rows = told (Decided t commit) acts t.0 t.0 0 rows (λ (u : ℕ). refl) (from_zero t.0)
 act_more (Applied t commit) acts rows = untold (Applied t commit) acts 0 rows (λ (u : ℕ). refl)
 
-acts_more : (acts more : List Act) (rows : List (List Act)) → added 0 rows (acts ++ more) ≡ added 0 (ballots_after acts rows) more
-acts_more [] more rows = refl
-acts_more (a ∷ acts) more rows = act_more a (acts ++ more) rows ∙ acts_more acts more (ballots_with_act a rows)
-
 acts_placed : (p : ℕ) (acts : List Act) (xs : List Place) → acts_in (placed p acts ++ xs) ≡ acts ++ acts_in xs
 acts_placed p [] xs = refl
 acts_placed p (a ∷ acts) xs = ap (λ (z : List Act). a ∷ z) (acts_placed p acts xs)
+
+-- the acts of a history, one after the other
+acts_in_places : (es : List Entry) → acts_in (places_of es) ≡ acts_of es
+acts_in_places [] = refl
+acts_in_places (e ∷ es) =
+    acts_placed e.actor.0 e.acts (places_of es) ∙ ap (λ (z : List Act). e.acts ++ z) (acts_in_places es)
 
 none_more : (t : ℕ) (rows : List (List Act)) → added t rows [] ≡ rows
 none_more t [] = refl
 none_more t (row ∷ rows) =
     ap (λ (z : List Act). z ∷ added (t + 1) rows []) (append-nil row) ∙ ap (λ (z : List (List Act)). row ∷ z) (none_more (t + 1) rows)
 
-over_entries : (es : List Entry) (rows : List (List Act)) → added 0 rows (acts_in (places_of es)) ≡ ballots_over es rows
-over_entries [] rows = none_more 0 rows
-over_entries (e ∷ es) rows =
-    ap (λ (z : List Act). added 0 rows z) (acts_placed e.actor.0 e.acts (places_of es))
-    ∙ acts_more e.acts (acts_in (places_of es)) rows
-    ∙ over_entries es (ballots_after e.acts rows)
+all_added : (acts : List Act) (rows : List (List Act)) → added 0 rows acts ≡ ballots_after acts rows
+all_added [] rows = none_more 0 rows
+all_added (a ∷ acts) rows = act_more a acts rows ∙ all_added acts (ballots_with_act a rows)
 
 from_none : (acts : List Act) (t : ℕ) (ts : List Tree) → added t (no_ballots ts) acts ≡ ballots_from acts t ts
 from_none acts t [] = refl
 from_none acts t (tree ∷ ts) = ap (λ (z : List (List Act)). filter (tells_of t) acts ∷ z) (from_none acts (t + 1) ts)
 
--- the rows after all entries are the ballots of the history
-pub ballots_are : (s : ScriptData) (h : List Entry) → ballots_over h (no_ballots s.trees) ≡ ballots_of s h
-ballots_are s h = sym (over_entries h (no_ballots s.trees)) ∙ from_none (acts_in (places_of h)) 0 s.trees
+-- the rows after all acts are the ballots of the history
+pub ballots_are : (s : ScriptData) (h : List Entry) → ballots_after (acts_of h) (no_ballots s.trees) ≡ ballots_of s h
+ballots_are s h =
+    sym (all_added (acts_of h) (no_ballots s.trees))
+    ∙ from_none (acts_of h) 0 s.trees
+    ∙ ap (λ (z : List Act). ballots_from z 0 s.trees) (sym (acts_in_places h))
 
 length-ballots_from : (acts : List Act) (t : ℕ) (ts : List Tree) → length (ballots_from acts t ts) ≡ length ts
 length-ballots_from acts t [] = refl

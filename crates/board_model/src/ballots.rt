@@ -3,10 +3,11 @@ ghost use Rattle.std.specs.Prelude.{◌≡◌, [], IfOk, OnOk};
 ghost use Rattle.std.specs.Option.{option_copied};
 ghost use Rattle.board_rules.specs.Outcomes.{decision_by, decision_in, vote_by, vote_in};
 ghost use Rattle.board_model.specs.Ballots.{ballots_of};
-ghost use Rattle.board_model.specs.inside.Ballots.{ballots_after, ballots_over, ballots_with_act, no_ballots, with_act};
+ghost use Rattle.board_model.specs.inside.Ballots.{ballots_after, ballots_with_act, no_ballots, with_act};
 ghost use Rattle.board_model.specs.inside.Tallies.{on_row};
 
-use letter_types::{Act, Entry, History, Vote};
+use letter_types::{Act, Vote};
+use run_history::History;
 use std::alloc::Global;
 use std::marker::Model;
 use tv_base::{NoMemory, SubNo, TreeNo};
@@ -135,7 +136,8 @@ impl<'a> Ballots<'a> {
 
 /// The votes of all transactions of the script in the history, and the decisions on them.
 ///
-/// It goes over the history once, and keeps a reference to each such act. Running out of memory is the only error.
+/// It goes over all acts of the history once, and keeps a reference to each such one. Running out of memory is the only
+/// error.
 #[tactic(auto, using(crate::proofs::Voting::ballots_are))]
 pub fn ballots_of<'a>(
     alloc: Global,
@@ -145,7 +147,7 @@ pub fn ballots_of<'a>(
     ensures { IfOk result (λ b. b ≡ ballots_of script.now history.now) }
 {
     let mut rows = no_ballots(alloc, script.trees())?;
-    add_entries(&mut rows, history.items())?;
+    add_acts(&mut rows, history.acts())?;
     Ok(Ballots { rows })
 }
 
@@ -158,16 +160,6 @@ fn no_ballots<'a>(alloc: Global, trees: &[Tree]) -> Result<Vec<Ballot<'a>>, NoMe
         rows.push(Ballot::new(alloc))?;
     }
     Ok(rows)
-}
-
-// Adds the acts of these entries.
-fn add_entries<'a>(rows: &mut Vec<Ballot<'a>>, entries: &'a [Entry]) -> Result<(), NoMemory>
-    ensures { OnOk result (rows.new.items ≡ ballots_over entries.now rows.old.items) }
-{
-    for entry in entries {
-        add_acts(rows, entry.acts.items())?;
-    }
-    Ok(())
 }
 
 // Adds these acts.

@@ -6,7 +6,7 @@ ghost use Rattle.board_model.specs.SerialList.{IsSerial};
 
 use crate::balances::{Balances, all_after_tree, first_values};
 use crate::serial::{Members, Run, outcomes_of};
-use letter_types::History;
+use run_history::History;
 use std::alloc::Global;
 use tv_base::{NoMemory, Version};
 use tx_trees::Script;

@@ -10,7 +10,7 @@ ghost use Rattle.board_model.specs.inside.Tallies.{noted_back};
 use crate::closed_trees::Closings;
 use crate::standings::{Standing, Standings};
 use crate::tallies::{Tally, blank_rows, note, stood_by};
-use letter_types::{Entry, History};
+use run_history::{EntryRef, History};
 use std::alloc::Global;
 use tv_base::{NoMemory, Seq, TreeNo, Version};
 use tx_trees::{Script, Tree, TreeKind};
@@ -53,7 +53,7 @@ pub fn outcomes_of(alloc: Global, script: &Script, history: &History) -> Result<
     let trees = script.trees();
     let mut rows = blank_rows(alloc, trees.len())?;
     let mut closings = Closings::new(alloc, trees.len())?;
-    note_entries(script, history.items(), &mut rows, &mut closings)?;
+    note_entries(script, history, &mut rows, &mut closings)?;
     let standings = stood_by(alloc, &rows, trees)?;
     let members = found_back(alloc, trees, standings.items(), closings.order())?;
     let serial = sorted(alloc, members)?;
@@ -63,16 +63,17 @@ pub fn outcomes_of(alloc: Global, script: &Script, history: &History) -> Result<
 // Notes the acts of the entries, from the last one.
 fn note_entries(
     script: &Script,
-    entries: &[Entry],
+    history: &History,
     rows: &mut Vec<Tally>,
     closings: &mut Closings,
 ) -> Result<(), NoMemory>
-    ensures rows { OnOk result (rows.new.items ≡ noted_back (places_of entries.now) rows.old.items) }
-    ensures closings { OnOk result (closings.new ≡ closed_back script.now (places_of entries.now) closings.old) }
+    ensures rows { OnOk result (rows.new.items ≡ noted_back (places_of history.now) rows.old.items) }
+    ensures closings { OnOk result (closings.new ≡ closed_back script.now (places_of history.now) closings.old) }
 {
-    let count = entries.len();
+    let count = history.len();
     for k in 0..count {
-        note_acts(script, &entries[count - 1 - k], rows, closings)?;
+        let entry = history.entry(count - 1 - k);
+        note_acts(script, &entry, rows, closings)?;
     }
     Ok(())
 }
@@ -80,18 +81,19 @@ fn note_entries(
 // Notes the acts of an entry, from the last one.
 fn note_acts(
     script: &Script,
-    entry: &Entry,
+    entry: &EntryRef,
     rows: &mut Vec<Tally>,
     closings: &mut Closings,
 ) -> Result<(), NoMemory>
     ensures rows { OnOk result (rows.new.items ≡ noted_back (places_at entry.now) rows.old.items) }
     ensures closings { OnOk result (closings.new ≡ closed_back script.now (places_at entry.now) closings.old) }
 {
-    let acts = entry.acts.items();
+    let actor = entry.actor();
+    let acts = entry.acts();
     let count = acts.len();
     for k in 0..count {
         let act = &acts[count - 1 - k];
-        note(rows, entry.actor, act);
+        note(rows, actor, act);
         closings.note(script, act)?;
     }
     Ok(())

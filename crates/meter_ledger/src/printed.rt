@@ -5,7 +5,7 @@ use crate::LedgerFault;
 use crate::report::reported;
 use board_model::worths_at;
 use commute_ops::Value;
-use letter_types::History;
+use run_history::History;
 use std::alloc::Global;
 use tv_base::{ItemNo, SubNo, TreeNo, Version};
 use tx_trees::Script;

@@ -9,7 +9,8 @@ ghost use Rattle.letter_types.specs.declared.acts.Act.TheVariants.{Did};
 ghost use Rattle.tx_trees.specs.ScriptData.{ops_of, reads};
 
 use commute_ops::Values;
-use letter_types::{Act, History};
+use letter_types::Act;
+use run_history::History;
 use tv_base::{SubNo, TreeNo};
 use tx_trees::{Script, TreeKind};
 
@@ -76,10 +77,5 @@ pub(crate) fn reported<'a>(
     if !is_read(script, tree) {
         return None;
     }
-    for entry in history.items() {
-        if let Some(values) = got_in(entry.acts.items(), tree, sub) {
-            return Some(values);
-        }
-    }
-    None
+    got_in(history.acts(), tree, sub)
 }

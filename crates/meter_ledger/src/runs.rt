@@ -4,8 +4,8 @@ ghost use Rattle.headline.specs.Headline.{HasHeadline};
 
 use crate::LedgerFault;
 use headline::every_finished_run_has_the_headline;
-use letter_types::History;
 use node_threads::run;
+use run_history::History;
 use sim_runner::{Picker, simulate_by};
 use std::alloc::Global;
 use std::sync::Wait;

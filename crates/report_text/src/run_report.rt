@@ -8,7 +8,7 @@ use crate::items::{AllWorth, push_rows};
 use crate::served::shown_of;
 use crate::trees::{TreesTold, push_nodes, push_trees};
 use board_model::{Run, ballots_of, outcomes_of, written_at};
-use letter_types::History;
+use run_history::History;
 use std::alloc::Global;
 use tv_base::{NoMemory, Text, Version};
 use tx_trees::Script;

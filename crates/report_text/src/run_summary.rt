@@ -12,7 +12,7 @@ use crate::run_report::advances;
 use board_model::worths_at;
 use commute_ops::{Amount, Kind, Value, push_amount};
 use history_text::push_count;
-use letter_types::History;
+use run_history::History;
 use std::alloc::Global;
 use tv_base::{NoMemory, Text, Version};
 use tx_trees::{ItemRow, Script, Tree, TreeKind};

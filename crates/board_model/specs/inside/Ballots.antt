@@ -3,7 +3,6 @@
 use Rattle.std.specs.Prelude.{List, [], ◌∷◌, ◌++◌}
 use Rattle.letter_types.specs.declared.acts.Act.{Act}
 use Rattle.letter_types.specs.declared.acts.Act.TheVariants.{Voted, Decided, Finished}
-use Rattle.letter_types.specs.declared.entries.Entry.{Entry}
 use Rattle.tx_trees.specs.declared.parts.Tree.{Tree}
 use Rattle.board_model.specs.inside.Tallies.{on_row}
 
@@ -27,8 +26,3 @@ ballots_with_act _ rows = rows
 abbrev pub ballots_after : List Act → List (List Act) → List (List Act)
 ballots_after [] rows = rows
 ballots_after (a ∷ acts) rows = ballots_after acts (ballots_with_act a rows)
-
--- the rows after the acts of entries
-abbrev pub ballots_over : List Entry → List (List Act) → List (List Act)
-ballots_over [] rows = rows
-ballots_over (e ∷ es) rows = ballots_over es (ballots_after e.acts rows)

@@ -1,4 +1,4 @@
-use Rattle.std.proofs.Common.{◌-◌, List, length, drop, refl, ap, sym, ◌∙◌, arith}
+use Rattle.std.proofs.Common.{ℕ, ◌-◌, List, drop, ap, sym, ◌∙◌, arith}
 use Rattle.letter_types.specs.declared.entries.Entry.{Entry}
 use Rattle.board_model.specs.inside.Closed.{Closed}
 use Rattle.board_model.specs.inside.Closed.{closed_back}
@@ -10,10 +10,11 @@ use Rattle.board_model.proofs.serial.note_entries.Goals as goal
 
 pub loop-k-preserved : goal.loop-k-preserved
 loop-k-preserved c =
-    let e : Entry = c.index-entries-count.result in
-    let es : List Entry = c.args.entries.now in
-    let rest : List Place = places_of (drop (length es - c.loop-k.k) es) in
-    let here = entry_back es (length es) c.loop-k.k e refl (omega arith) c.index-entries-count.is in
+    let e : Entry = c.entry-entry.result in
+    let es : List Entry = c.args.history.now in
+    let n : ℕ = c.len-count.result in
+    let rest : List Place = places_of (drop (n - c.loop-k.k) es) in
+    let here = entry_back es n c.loop-k.k e c.len-count.ensures.len (omega arith) c.entry-entry.ensures in
     record {
       rows =
           c.in_ok-note_acts.ensures.rows

@@ -6,6 +6,6 @@ use Rattle.board_model.proofs.serial.note_entries.Given as goal
 
 abbrev pub invariant-loop-k : goal.invariant-loop-k
 invariant-loop-k l = record {
-  rows : l.rows.items ≡ noted_back (places_of (drop (l.count - l.k) l.entries)) l.initial.rows.items;
-  closings : l.closings ≡ closed_back l.script (places_of (drop (l.count - l.k) l.entries)) l.initial.closings;
+  rows : l.rows.items ≡ noted_back (places_of (drop (l.count - l.k) l.history)) l.initial.rows.items;
+  closings : l.closings ≡ closed_back l.script (places_of (drop (l.count - l.k) l.history)) l.initial.closings;
 }

@@ -20,42 +20,39 @@ use Rattle.board_model.proofs.serial.outcomes_of.Goals as goal
 
 pub stood_by-requires : goal.stood_by-requires
 stood_by-requires c =
-    let es : List Entry = c.items.result.now in
+    let h : List Entry = c.args.history.now in
     let n : ℕ = length c.trees-trees.result.now in
     ap (λ (z : List Tally). length z)
-    (c.deref.ensures.value ∙ c.in_ok-note_entries.ensures.rows ∙ ap (λ (z : List Tally). noted_back (places_of es) z) c.in_ok-rows.ensures)
-    ∙ length-noted_back (places_of es) n
+    (c.deref.ensures.value ∙ c.in_ok-note_entries.ensures.rows ∙ ap (λ (z : List Tally). noted_back (places_of h) z) c.in_ok-rows.ensures)
+    ∙ length-noted_back (places_of h) n
 
 pub returns-clause-standings : goal.returns-clause-standings
 returns-clause-standings c =
-    let es : List Entry = c.items.result.now in
+    let h : List Entry = c.args.history.now in
     let ts : List Tree = c.trees-trees.result.now in
-    let rows : c.deref.result.now ≡ noted_back (places_of es) (replicate (length ts) blank)
-    = c.deref.ensures.value ∙ c.in_ok-note_entries.ensures.rows ∙ ap (λ (z : List Tally). noted_back (places_of es) z) c.in_ok-rows.ensures in
+    let rows : c.deref.result.now ≡ noted_back (places_of h) (replicate (length ts) blank)
+    = c.deref.ensures.value ∙ c.in_ok-note_entries.ensures.rows ∙ ap (λ (z : List Tally). noted_back (places_of h) z) c.in_ok-rows.ensures in
     c.in_ok-standings.ensures
     ∙ ap (λ (z : List Tally). stood_by z ts) rows
-    ∙ ap (λ (z : List Tree). stood_by (noted_back (places_of es) (replicate (length z) blank)) z) c.trees-trees.ensures.trees
-    ∙ ap (λ (z : List Entry). stood_by (noted_back (places_of z) (replicate (length c.args.script.now.trees) blank)) c.args.script.now.trees) c.items.ensures.items
+    ∙ ap (λ (z : List Tree). stood_by (noted_back (places_of h) (replicate (length z) blank)) z) c.trees-trees.ensures.trees
     ∙ stood_all c.args.script.now c.args.history.now c.trees-trees.ensures.valid
 
 pub returns-clause-serial : goal.returns-clause-serial
 returns-clause-serial c =
     let s : ScriptData = c.args.script.now in
     let h : List Entry = c.args.history.now in
-    let es : List Entry = c.items.result.now in
     let ts : List Tree = c.trees-trees.result.now in
-    let standings : c.items-2.result.now ≡ standings_of s h
-    = c.items-2.ensures.items ∙ returns-clause-standings c in
+    let standings : c.items.result.now ≡ standings_of s h
+    = c.items.ensures.items ∙ returns-clause-standings c in
     let closed : c.note_entries.new.closings ≡ closed_back s (places_of h) (none_closed (length s.trees))
     = c.in_ok-note_entries.ensures.closings
-    ∙ ap (λ (z : Closed). closed_back s (places_of es) z) c.in_ok-closings.ensures
-    ∙ ap (λ (z : List Entry). closed_back s (places_of z) (none_closed (length ts))) c.items.ensures.items
+    ∙ ap (λ (z : Closed). closed_back s (places_of h) z) c.in_ok-closings.ensures
     ∙ ap (λ (z : List Tree). closed_back s (places_of h) (none_closed (length z))) c.trees-trees.ensures.trees in
     let order : c.order.result.now ≡ (closed_back s (places_of h) (none_closed (length s.trees))).order
     = c.order.ensures ∙ ap (λ (z : Closed). z.order) closed in
     let found : c.in_ok-members.members.items ≡ found_back s.trees (standings_of s h) (closed_back s (places_of h) (none_closed (length s.trees))).order
     = c.in_ok-members.ensures
-    ∙ ap (λ (z : List Tree). found_back z c.items-2.result.now c.order.result.now) c.trees-trees.ensures.trees
+    ∙ ap (λ (z : List Tree). found_back z c.items.result.now c.order.result.now) c.trees-trees.ensures.trees
     ∙ ap (λ (z : List Standing). found_back s.trees z c.order.result.now) standings
     ∙ ap (λ (z : List TreeNo). found_back s.trees (standings_of s h) z) order in
     is_serial s h c.in_ok-members.members.items c.in_ok-serial.serial c.in_ok-serial.ensures
