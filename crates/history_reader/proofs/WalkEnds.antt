@@ -25,7 +25,7 @@ module _ (s : ScriptData) (text : List ℕ) (h : List Entry) (w : WalkData) (wal
       let post : IsMessageRun (client_of s) (map delivery_of h ++ delivery_of e ∷ []) = append_postal s h e (walks_on e new is goes).read.postal in
       let last : slice_get (map delivery_of h ++ delivery_of e ∷ []) (length (map delivery_of h)) ≡ Some (delivery_of e) =
       slice_get_last (map delivery_of h) (delivery_of e) in
-      post.stamps (length (map delivery_of h)) (delivery_of e) last ∙ ap (λ (n : ℕ). n + 1) (length-map delivery_of h)
+      post.stamps (length (map delivery_of h)) (delivery_of e) last ∙ ap (λ (n : ℕ). n + 1) (length-map h delivery_of)
 
   pub read_whole : w.rest ≡ [] → Reading s text (Ok h)
   read_whole end = Whole h (subst (IsRead s text h) end walked.read)
