@@ -5,7 +5,7 @@ ghost use Rattle.audit_laws.specs.PrintedRuns.{IsPassed, ReadsBack, OfEachFinish
 
 use crate::printable::runs_are_printable;
 use headline::every_run_is_accepted;
-use letter_types::History;
+use run_history::History;
 use tx_trees::Script;
 
 /// The lines of every run that has finished are accepted, with all its entries, if each of these may be printed.

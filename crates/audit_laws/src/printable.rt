@@ -9,7 +9,7 @@ ghost use Rattle.history_text.specs.Printable.{IsPrintable};
 ghost use Rattle.audit_laws.specs.OfScript.{IsOfScript};
 
 use crate::ranges::numbers_have_their_ranges;
-use letter_types::History;
+use run_history::History;
 use tx_trees::Script;
 
 /// In every run of every valid script, with strict transactions or without, each entry's lines are of the script: it

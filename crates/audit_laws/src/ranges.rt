@@ -1,41 +1,38 @@
 // Numbers have the ranges of their types: a walk over a history says so of each that its lines name.
+ghost use Rattle.std.specs.Prelude.{map};
 ghost use Rattle.std.specs.List.{AllByRecursion};
 ghost use Rattle.history_text.specs.Printable.{IsHalfWord, IsWord};
 ghost use Rattle.audit_laws.specs.Ranges.{AreWords, HasActRanges, HasAnswerRanges, HasBodyRanges, HasCauseRanges, HasNoticeRanges, HasRanges, HasSentRanges, HasVoteRanges};
+ghost use Rattle.run_history.specs.Messages.{outgoing_of};
 
-use letter_types::{Act, Answer, Body, Cause, Entry, History, Notice, Outgoing, Vote};
+use letter_types::{Act, Answer, Body, Cause, Letter, Notice, Vote};
+use run_history::{EntryRef, History};
 
 /// Every number in a history's entries is one of its type: stamps, versions, rounds, epochs and counters have 64 bits,
 /// places and numbers of advances 32. It walks the history and changes nothing.
 pub fn numbers_have_their_ranges(history: &History)
     ensures { AllByRecursion HasRanges history.now }
 {
-    of_entries(history.items())
-}
-
-// Entries.
-fn of_entries(entries: &[Entry])
-    ensures { AllByRecursion HasRanges entries.now }
-{
-    for entry in entries {
-        of_entry(entry);
+    for entry in history.entries() {
+        of_entry(&entry);
     }
 }
 
 // An entry.
-fn of_entry(entry: &Entry)
+fn of_entry(entry: &EntryRef<'_>)
     ensures { HasRanges entry.now }
 {
-    word(entry.stamp.0);
-    word(entry.took.id.stamp.0);
-    half_word(entry.took.id.place);
-    of_letters(entry.sent.items());
-    of_acts(entry.acts.items())
+    let took = entry.took().id;
+    word(entry.stamp().0);
+    word(took.stamp.0);
+    half_word(took.place);
+    of_letters(entry.sent());
+    of_acts(entry.acts())
 }
 
 // Letters that are sent.
-fn of_letters(letters: &[Outgoing])
-    ensures { AllByRecursion HasSentRanges letters.now }
+fn of_letters(letters: &[Letter])
+    ensures { AllByRecursion HasSentRanges (map outgoing_of letters.now) }
 {
     for letter in letters {
         of_body(&letter.body);

@@ -1,10 +1,11 @@
 // The history that a text is of.
-ghost use Rattle.std.specs.Prelude.{◌≡◌, [], ◌∷◌, ◌++◌, OnOk, IfErr};
+ghost use Rattle.std.specs.Prelude.{◌≡◌, ◌+◌, [], ◌∷◌, ◌++◌, length, OnOk, IfErr};
 ghost use Rattle.history_reader.specs.Walks.{IsReadOutcome};
 ghost use Rattle.history_reader.specs.inside.Refusals.{refusal_for};
 
 use crate::walk::{Fault, Walk};
-use letter_types::{Entry, History};
+use letter_types::Entry;
+use run_history::History;
 use std::alloc::Global;
 use tx_trees::Script;
 
@@ -37,8 +38,9 @@ pub fn read_history(alloc: Global, script: &Script, text: &[u8]) -> Result<Histo
     }
 }
 
-// Puts an entry at the history's end.
+// Puts an entry with the next stamp at the history's end.
 fn keep(history: &mut History, entry: Entry) -> Result<(), HistoryRefusal>
+    requires { entry.stamp.0 ≡ length history.old + 1 }
     ensures ok { OnOk result (history.new ≡ history.old ++ entry ∷ []) }
     ensures err { IfErr result (λ e. e ≡ HistoryRefusal.NoMemory) }
 {

@@ -1,12 +1,14 @@
 // The lines of a history.
-ghost use Rattle.std.specs.Prelude.{◌≡◌, ◌++◌, IfOk, OnOk};
+ghost use Rattle.std.specs.Prelude.{◌≡◌, ◌++◌, IfOk, OnOk, map};
 ghost use Rattle.history_text.specs.History.{act_line, act_lines, entry_line, entry_lines, history_lines_of, sent_line, sent_lines, took_text};
+ghost use Rattle.run_history.specs.Messages.{outgoing_of};
 
 use crate::act_lines::push_act;
 use crate::actor_names::push_actor;
 use crate::counts::push_count;
 use crate::letter_lines::push_body;
-use letter_types::{Act, Entry, History, LetterId, Outgoing};
+use letter_types::{Act, Letter, LetterId};
+use run_history::{EntryRef, History};
 use std::alloc::Global;
 use tv_base::{NoMemory, Text};
 use tx_trees::Script;
@@ -30,37 +32,37 @@ pub fn history_lines_behind(
     ensures { IfOk result (λ all. all ≡ text ++ history_lines_of script.now history.now) }
 {
     let mut all = text;
-    push_entries(&mut all, script, history.items())?;
+    push_entries(&mut all, script, history)?;
     Ok(all)
 }
 
-// The lines of entries.
-fn push_entries(text: &mut Text, script: &Script, entries: &[Entry]) -> Result<(), NoMemory>
-    ensures { OnOk result (text.new ≡ text.old ++ history_lines_of script.now entries.now) }
+// The lines of all entries.
+fn push_entries(text: &mut Text, script: &Script, history: &History) -> Result<(), NoMemory>
+    ensures { OnOk result (text.new ≡ text.old ++ history_lines_of script.now history.now) }
 {
-    for entry in entries {
-        push_entry(text, script, entry)?;
+    for entry in history.entries() {
+        push_entry(text, script, &entry)?;
     }
     Ok(())
 }
 
 // The lines of an entry.
-fn push_entry(text: &mut Text, script: &Script, entry: &Entry) -> Result<(), NoMemory>
+fn push_entry(text: &mut Text, script: &Script, entry: &EntryRef<'_>) -> Result<(), NoMemory>
     ensures { OnOk result (text.new ≡ text.old ++ entry_lines script.now entry.now) }
 {
     push_head(text, script, entry)?;
-    push_sent(text, script, entry.sent.items())?;
-    push_acts(text, script, entry.acts.items())
+    push_sent(text, script, entry.sent())?;
+    push_acts(text, script, entry.acts())
 }
 
 // The line that says what an entry took.
-fn push_head(text: &mut Text, script: &Script, entry: &Entry) -> Result<(), NoMemory>
+fn push_head(text: &mut Text, script: &Script, entry: &EntryRef<'_>) -> Result<(), NoMemory>
     ensures { OnOk result (text.new ≡ text.old ++ entry_line script.now entry.now) }
 {
-    push_count(text, b"entry ", entry.stamp.0)?;
+    push_count(text, b"entry ", entry.stamp().0)?;
     text.push_all(b" ")?;
-    push_actor(text, script, entry.actor)?;
-    push_took(text, entry.took.id)?;
+    push_actor(text, script, entry.actor())?;
+    push_took(text, entry.took().id)?;
     text.push_all(b"\n")
 }
 
@@ -73,8 +75,8 @@ fn push_took(text: &mut Text, id: LetterId) -> Result<(), NoMemory>
 }
 
 // The lines of letters that were sent.
-fn push_sent(text: &mut Text, script: &Script, sent: &[Outgoing]) -> Result<(), NoMemory>
-    ensures { OnOk result (text.new ≡ text.old ++ sent_lines script.now sent.now) }
+fn push_sent(text: &mut Text, script: &Script, sent: &[Letter]) -> Result<(), NoMemory>
+    ensures { OnOk result (text.new ≡ text.old ++ sent_lines script.now (map outgoing_of sent.now)) }
 {
     for letter in sent {
         push_letter(text, script, letter)?;
@@ -83,8 +85,8 @@ fn push_sent(text: &mut Text, script: &Script, sent: &[Outgoing]) -> Result<(), 
 }
 
 // The line of a letter that was sent.
-fn push_letter(text: &mut Text, script: &Script, letter: &Outgoing) -> Result<(), NoMemory>
-    ensures { OnOk result (text.new ≡ text.old ++ sent_line script.now letter.now) }
+fn push_letter(text: &mut Text, script: &Script, letter: &Letter) -> Result<(), NoMemory>
+    ensures { OnOk result (text.new ≡ text.old ++ sent_line script.now (outgoing_of letter.now)) }
 {
     text.push_all(b"sent ")?;
     push_actor(text, script, letter.to)?;

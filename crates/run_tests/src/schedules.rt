@@ -13,7 +13,7 @@ const TWO_TREES: &[u8] = b"nodes,1\nupdate,t,0\nupdate,u,0\n";
 fn takes<P: Picker>(alloc: Global, picker: &mut P, wanted: &[(u64, u32)]) -> Result<bool, Fail> {
     let script = script_of(alloc, TWO_TREES)?;
     let history = simulate_by(alloc, &script, picker)?;
-    let entries = history.items();
+    let entries = history.items(alloc)?;
     Ok(
         entries.len() == wanted.len()
             && entries.iter().zip(wanted).all(|(e, w)| e.took.id.stamp.0 == w.0

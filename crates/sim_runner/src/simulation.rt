@@ -6,7 +6,7 @@ ghost use Rattle.world_model.specs.Scheduled.{IsScheduled};
 
 use crate::pickers::Picker;
 use crate::picks::Picks;
-use letter_types::History;
+use run_history::History;
 use std::alloc::Global;
 use tv_base::NoMemory;
 use tx_trees::Script;

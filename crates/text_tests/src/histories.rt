@@ -33,7 +33,7 @@ const CUT: &[u8] = b"entry 1 client took 0.0\nsent n0 root t\n\
 /// whose message is.
 fn outcome(alloc: Global, script: &Script, text: &[u8]) -> Result<[u64; 3], NoMemory> {
     match read_history(alloc, script, text) {
-        Ok(history) => Ok([history.items().len() as u64, 0, 0]),
+        Ok(history) => Ok([history.len() as u64, 0, 0]),
         Err(HistoryRefusal::Text(number)) => Ok([0, number, 0]),
         Err(HistoryRefusal::Postal(number)) => Ok([0, 0, number]),
         Err(HistoryRefusal::NoMemory) => Err(NoMemory),
@@ -65,7 +65,8 @@ fn judged(alloc: Global) -> Result<(Amount, bool), Fail> {
         return Err("the script has no item".into());
     }
     let history = read_history(alloc, &script, THREE).map_err(|_| "no history")?;
-    let [one, two, three] = history.items() else {
+    let entries = history.items(alloc)?;
+    let [one, two, three] = entries.as_slice() else {
         return Err("another history".into());
     };
     let mut judge = Judge::new(alloc, &script)?;

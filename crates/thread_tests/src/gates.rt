@@ -3,7 +3,7 @@ ghost use Rattle.std.specs.Prelude.{◌<◌, ◌≤◌};
 
 use crate::words::words_of;
 use board_judge::Judge;
-use letter_types::History;
+use run_history::History;
 use script_reader::read_script;
 use std::alloc::Global;
 use std::sync::Wait;
@@ -132,8 +132,8 @@ fn history_of<R: Threads + Wait + Sync, G: Gate + Sync>(
 
 fn entries_of(history: &History, actor: u8) -> u64 {
     let mut count = 0u64;
-    for entry in history.items() {
-        if entry.actor.0 == actor {
+    for entry in history.entries() {
+        if entry.actor().0 == actor {
             count = count.saturating_add(1);
         }
     }
@@ -190,7 +190,8 @@ fn a_generated_run_steps_side_by_side(rt: HostRuntime) -> Result<(), Fail> {
 fn is_right(alloc: Global, script: &[u8], history: &History) -> Result<bool, Fail> {
     let script = read_script(alloc, script)?;
     let mut judge = Judge::new(alloc, &script)?;
-    for entry in history.items() {
+    let entries = history.items(alloc)?;
+    for entry in &entries {
         if judge.take(entry).is_err() {
             return Ok(false);
         }

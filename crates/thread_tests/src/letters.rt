@@ -2,9 +2,10 @@
 ghost use Rattle.std.specs.Prelude.{◌≡◌, ◌+◌, All, [], IfSome};
 ghost use Rattle.stamp_post.specs.Shown.{gatherer_data, new_seats};
 
-use letter_types::{Act, Acts, Entry, History};
+use letter_types::Act;
 use message_bag::Bag;
 use node_threads::{Cluster, ClusterName, Made};
+use run_history::{EntryRef, History};
 use script_reader::read_script;
 use stamp_post::{Envelope, Post, PostParts, Receipt, Receipts};
 use std::alloc::{AllocError, Global};
@@ -75,7 +76,7 @@ fn hand_over<K: ClusterName, R: Wait>(
     requires { envelope.post ≡ K.post }
 {
     let mut out = cluster.deliver(rt, envelope, made).ok()?;
-    let acts = acts_text(alloc, &made.back()?.entry().acts).ok()?;
+    let acts = acts_text(alloc, made.back()?.entry().acts.items()).ok()?;
     while let Some(envelope) = out.next(cluster.post()) {
         other.lock(rt).put(envelope).ok()?;
     }
@@ -239,23 +240,23 @@ fn act_text(alloc: Global, act: &Act) -> Result<String, AllocError> {
     }
 }
 
-fn acts_text(alloc: Global, acts: &Acts) -> Result<String, AllocError> {
+fn acts_text(alloc: Global, acts: &[Act]) -> Result<String, AllocError> {
     let mut text = String::new(alloc);
-    for act in acts.items() {
+    for act in acts {
         text.push_str(&act_text(alloc, act)?)?;
     }
     Ok(text)
 }
 
-fn entry_text(alloc: Global, entry: &Entry) -> Result<String, AllocError> {
-    let acts = acts_text(alloc, &entry.acts)?;
-    format!(in alloc; "{}{}\n", entry.actor.0, acts)
+fn entry_text(alloc: Global, entry: &EntryRef<'_>) -> Result<String, AllocError> {
+    let acts = acts_text(alloc, entry.acts())?;
+    format!(in alloc; "{}{}\n", entry.actor().0, acts)
 }
 
 fn history_text(alloc: Global, history: &History) -> Result<String, AllocError> {
     let mut text = String::new(alloc);
-    for entry in history.items() {
-        text.push_str(&entry_text(alloc, entry)?)?;
+    for entry in history.entries() {
+        text.push_str(&entry_text(alloc, &entry)?)?;
     }
     Ok(text)
 }
@@ -264,10 +265,10 @@ fn history_text(alloc: Global, history: &History) -> Result<String, AllocError> 
 fn is_told(alloc: Global, history: &History, told: &Told) -> Result<bool, AllocError> {
     let mut count: u32 = 0;
     let mut alike = false;
-    for entry in history.items() {
-        if entry.stamp == told.stamp {
+    for entry in history.entries() {
+        if entry.stamp() == told.stamp {
             count = count.wrapping_add(1);
-            alike = acts_text(alloc, &entry.acts)? == told.acts;
+            alike = acts_text(alloc, entry.acts())? == told.acts;
         }
     }
     Ok(count == 1 && alike)

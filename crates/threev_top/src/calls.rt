@@ -16,7 +16,7 @@ use crate::stops::Stop;
 use crate::texts::{entry_line, fault_line};
 use command_words::WordsError;
 use history_audit::HistoryFault;
-use letter_types::History;
+use run_history::History;
 use script_reader::ScriptFault;
 use std::alloc::Global;
 use std::mem;
@@ -51,7 +51,7 @@ impl Ended {
             history,
             script,
         } = self;
-        if history.items().len() >= LONG {
+        if history.len() >= LONG {
             mem::forget(history);
             mem::forget(script);
         }

@@ -3,7 +3,7 @@ use Rattle.std.specs.Prelude.{Err}
 use Rattle.letter_types.specs.declared.entries.Entry.{Entry}
 use Rattle.history_reader.specs.declared.reading.HistoryRefusal.{HistoryRefusal}
 use Rattle.history_reader.specs.Walks.{IsReadOutcome, IsWalked}
-use Rattle.history_reader.proofs.WalkEnds.{fails, read_whole, walks_on}
+use Rattle.history_reader.proofs.WalkEnds.{fails, next_stamp, read_whole, walks_on}
 use Rattle.history_reader.proofs.reading.read_history.Goals as goal
 
 pub returns-in-Err : goal.returns-in-Err
@@ -14,6 +14,12 @@ returns-in-Err c =
     (fails s text c.entries.history c.entries.walk c.entries.invariant.walked c.in-Err.fault (c.count-number.result + 1) c.entries.invariant.script
     (ap (λ (n : ℕ). n + 1) c.count-number.ensures.count)
     (λ is. c.in-Err.ensures.text (ap Err is)) (λ is. c.in-Err.ensures.postal (ap Err is)))
+
+pub keep-requires : goal.keep-requires
+keep-requires c =
+    let goes = rw c.in-Ok-Some.field-0-is at c.in-Ok-Some.ensures.some in
+    next_stamp c.args.script.now c.args.text.now c.entries.history c.entries.walk c.entries.invariant.walked c.in-Ok-Some.entry c.next.new.self
+    c.entries.invariant.script goes
 
 pub returns-in-Ok-None : goal.returns-in-Ok-None
 returns-in-Ok-None c =
