@@ -7,7 +7,7 @@ use Rattle.tv_base.proofs.ByPlace.{slice_get_last, slice_get_left, slice_get_spl
 use Rattle.letter_types.specs.declared.entries.Entry.{Entry}
 use Rattle.stamp_post.specs.declared.rule.JoinedReceipt.{JoinedReceipt}
 use Rattle.tx_trees.specs.ScriptData.{ScriptData}
-use Rattle.history_merge.specs.Recording.{AreRecorded, RecordsNext, RecorderData, Records, Vouches, handed_in, lists_left, recorder_data}
+use Rattle.history_merge.specs.Recording.{AreRecorded, RecordsNext, RecorderData, Records, Vouches, handed_in, lists_left, recorder_data, without_empty}
 
 pub recorded_more : (s : ScriptData) (known : List JoinedReceipt) (told : JoinedReceipt) (es : List Entry) (e : Entry) → AreRecorded s known es
     → e.stamp.0 ≡ length es + 1 → Vouches s told e → AreRecorded s (known ++ told ∷ []) (es ++ e ∷ [])
@@ -62,21 +62,39 @@ map_removed f [] (suc place) = refl
 map_removed f (x ∷ xs) zero = refl
 map_removed f (x ∷ xs) (suc place) = ap (λ (ys : List _). f x ∷ ys) (map_removed f xs place)
 
--- where one is removed, it doesn't matter what it was
-pub set_removed : {X : Type 0} (xs : List X) (place : ℕ) (x : X) → remove (slice_set xs place x) place ≡ remove xs place
-set_removed [] zero x = refl
-set_removed [] (suc place) x = refl
-set_removed (y ∷ xs) zero x = refl
-set_removed (y ∷ xs) (suc place) x = ap (λ (ys : List _). y ∷ ys) (set_removed xs place x)
+-- an empty list goes, and any other stays
+pub empty_goes : (lists : List (List Entry)) (place : ℕ) → slice_get lists place ≡ Some [] → without_empty lists place ≡ remove lists place
+empty_goes [] zero at = refl
+empty_goes [] (suc place) at = refl
+empty_goes ([] ∷ lists) zero at = refl
+empty_goes ((e ∷ es) ∷ lists) zero at = absurd (cc at)
+empty_goes (es ∷ lists) (suc place) at = ap (λ (ls : List (List Entry)). es ∷ ls) (empty_goes lists place at)
+
+pub some_stays : (lists : List (List Entry)) (place : ℕ) (es : List Entry) → slice_get lists place ≡ Some es → length es ≢ 0
+    → without_empty lists place ≡ lists
+some_stays [] place es at some = refl
+some_stays ([] ∷ lists) zero es at some = let none : [] ≡ es = cc at in absurd (some (ap (length {A = Entry}) (sym none)))
+some_stays ((e ∷ xs) ∷ lists) zero es at some = refl
+some_stays (xs ∷ lists) (suc place) es at some = ap (λ (ls : List (List Entry)). xs ∷ ls) (some_stays lists place es at some)
+
+-- where what is there is put back, nothing has changed
+pub same_there : {X : Type 0} (xs : List X) (place : ℕ) (x : X) → slice_get xs place ≡ Some x → slice_set xs place x ≡ xs
+same_there [] zero x at = refl
+same_there [] (suc place) x at = refl
+same_there (y ∷ xs) zero x at = let same : y ≡ x = cc at in ap (λ (z : _). z ∷ xs) (sym same)
+same_there (y ∷ xs) (suc place) x at = ap (λ (ys : List _). y ∷ ys) (same_there xs place x at)
 
 -- what is left of the lists where this is left of one
-pub none_left : (lists : List (List Entry)) (place : ℕ) (left : List Entry) → left ≡ [] → lists_left lists place left ≡ remove lists place
-none_left lists place [] none = refl
-none_left lists place (e ∷ es) none = absurd (cc none)
-
-pub some_left : (lists : List (List Entry)) (place : ℕ) (left : List Entry) → length left ≢ 0 → lists_left lists place left ≡ slice_set lists place left
-some_left lists place [] some = absurd (some refl)
-some_left lists place (e ∷ es) some = refl
+pub left_there : (lists : List (List Entry)) (place : ℕ) (left : List Entry)
+    → without_empty (slice_set lists place left) place ≡ lists_left lists place left
+left_there [] zero [] = refl
+left_there [] zero (e ∷ es) = refl
+left_there [] (suc place) [] = refl
+left_there [] (suc place) (e ∷ es) = refl
+left_there (xs ∷ lists) zero [] = refl
+left_there (xs ∷ lists) zero (e ∷ es) = refl
+left_there (xs ∷ lists) (suc place) [] = ap (λ (ls : List (List Entry)). xs ∷ ls) (left_there lists place [])
+left_there (xs ∷ lists) (suc place) (e ∷ es) = ap (λ (ls : List (List Entry)). xs ∷ ls) (left_there lists place (e ∷ es))
 
 -- entries that are handed in, of which there is one at least
 pub handed_some : (made : List Entry) (d : RecorderData) → (length made == 0) ≡ false

@@ -1,5 +1,5 @@
 -- How the entries of all actors are recorded in one history, by stamp.
-use Rattle.std.specs.Prelude.{◌≡◌, ◌+◌, ℕ, List, [], ◌∷◌, ◌++◌, length, slice_get, slice_set, Some, ◌⊎◌}
+use Rattle.std.specs.Prelude.{◌≡◌, ◌+◌, ℕ, zero, suc, List, [], ◌∷◌, ◌++◌, length, slice_get, slice_set, Some, ◌⊎◌}
 use Rattle.std.specs.List.{remove}
 use Rattle.letter_types.specs.declared.entries.Entry.{Entry}
 use Rattle.stamp_post.specs.declared.rule.JoinedReceipt.{JoinedReceipt}
@@ -34,6 +34,17 @@ abbrev pub lists_left : List (List Entry) → ℕ → List Entry → List (List 
 lists_left lists place [] = remove lists place
 lists_left lists place (e ∷ es) = slice_set lists place (e ∷ es)
 
+-- a list before others, unless it is empty
+abbrev pub before_if_any : List Entry → List (List Entry) → List (List Entry)
+before_if_any [] lists = lists
+before_if_any (e ∷ es) lists = (e ∷ es) ∷ lists
+
+-- the lists without the one at a place, if it is empty
+abbrev pub without_empty : List (List Entry) → ℕ → List (List Entry)
+without_empty [] place = []
+without_empty (es ∷ lists) zero = before_if_any es lists
+without_empty (es ∷ lists) (suc place) = es ∷ without_empty lists place
+
 -- an entry was taken out of the lists: it was the first of one, and has this stamp
 pub record Taken (stamp : ℕ) (old new : List (List Entry)) (e : Entry) : Type 0 where
   pub place : ℕ
@@ -47,6 +58,17 @@ abbrev pub FirstHas : ℕ → List Entry → Type 0
 FirstHas stamp [] = ⊥
 FirstHas stamp (e ∷ es) = e.stamp.0 ≡ stamp
 
+-- the list at this place has an entry with this stamp first
+abbrev pub IsFirstAt : ℕ → List (List Entry) → ℕ → Type 0
+IsFirstAt stamp lists place = (es : List Entry) × (slice_get lists place ≡ Some es) × FirstHas stamp es
+
+-- the first entry of a list, for which this vouches, left it and went to the end of a history
+pub record IsMoved (s : ScriptData) (r : JoinedReceipt) (list left old new : List Entry) : Type 0 where
+  pub entry : Entry
+  pub was : list ≡ entry ∷ left
+  pub vouches : Vouches s r entry
+  pub done : new ≡ old ++ entry ∷ []
+
 -- no list has an entry with this stamp first
 abbrev pub NoneHas : ℕ → List (List Entry) → Type 0
 NoneHas stamp lists = (a : ℕ) (es : List Entry) → slice_get lists a ≡ Some es → ¬ FirstHas stamp es
@@ -58,6 +80,10 @@ LacksNext r = NoneHas (length r.done + 1) r.waiting
 -- the next entry was recorded
 abbrev pub RecordsNext : RecorderData → RecorderData → Entry → Type 0
 RecordsNext old new e = Taken (length old.done + 1) old.waiting new.waiting e × (new.done ≡ old.done ++ e ∷ [])
+
+-- so one was, for which this vouches
+abbrev pub IsRecorded : ScriptData → JoinedReceipt → RecorderData → RecorderData → Type 0
+IsRecorded s r old new = (e : Entry) × RecordsNext old new e × Vouches s r e
 
 -- these entries were recorded, one after the other
 abbrev pub Records : List Entry → RecorderData → RecorderData → Type 0

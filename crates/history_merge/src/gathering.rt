@@ -1,6 +1,5 @@
 // The logs of all actors, and the one history that was recorded of them.
 ghost use Rattle.std.specs.Prelude.{◌≡◌, ◌+◌, ◌≤◌, All, length, map, sum_by};
-ghost use Rattle.tv_base.specs.declared.numbers.TheConstants.{MOST_ENTRIES};
 ghost use Rattle.stamp_post.specs.Shown.{seat_joined};
 ghost use Rattle.world_model.specs.Runs.{IsWorldRun};
 ghost use Rattle.history_merge.specs.Histories.{HasReceiptEntries};
@@ -9,7 +8,7 @@ ghost use Rattle.history_merge.specs.Merging.{AllRun, HasRoom, NumberedBy, joine
 use crate::name::ClusterName;
 use crate::own_log::OwnLog;
 use crate::recorder::Recorder;
-use letter_types::History;
+use run_history::History;
 use stamp_post::{ActorSeat, Post, Receipts, Seats};
 
 // The actors' seats, out of their logs, in the room for them.
@@ -43,13 +42,12 @@ pub fn gathered<K: ClusterName>(
     requires order { NumberedBy (λ l. l.number) 0 logs.items }
     requires room { HasRoom (length logs.items) room }
     requires whole { length recorder.done ≡ sum_by (λ l. length l.entries) logs.items }
-    requires few { sum_by (λ l. length l.entries) logs.items ≤ MOST_ENTRIES }
     requires receipts { All (λ r. r.post ≡ K.post) receipts }
     ensures run { IsWorldRun K.script result }
     ensures told { HasReceiptEntries K.script receipts result }
 {
     let seats = seats_of(logs, room);
-    let (gatherer, entries) = recorder.into_parts();
+    let (gatherer, history) = recorder.into_parts();
     let _found = post.gather(gatherer, seats, receipts);
-    History::from_vec(entries)
+    history
 }

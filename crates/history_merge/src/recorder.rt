@@ -1,13 +1,13 @@
 // The history as it is recorded while actors are at work.
-ghost use Rattle.std.specs.Prelude.{◌≡◌, ◌↔◌, List, [], length, map, true, false, IfSome, IsNone, IfOk, OnErr, OnOk};
+ghost use Rattle.std.specs.Prelude.{◌≡◌, ◌+◌, ◌<◌, ◌↔◌, List, [], length, map, true, false, IfSome, IsNone, IfOk, OnErr, OnOk};
 ghost use Rattle.letter_types.specs.declared.entries.Entry.{Entry};
-ghost use Rattle.stamp_post.specs.Shown.{gatherer_data};
-ghost use Rattle.history_merge.specs.Recording.{AreRecorded, FirstHas, RecordsNext, NoneHas, Records, Taken, handed_in, recorder_data, AreHandedIn, AreLeft, AreLeftOrIn, LacksNext};
+ghost use Rattle.stamp_post.specs.Shown.{gatherer_data, receipt_joined};
+ghost use Rattle.history_merge.specs.Recording.{AreRecorded, FirstHas, IsFirstAt, IsMoved, IsRecorded, RecordsNext, NoneHas, Records, handed_in, recorder_data, without_empty, AreHandedIn, AreLeft, AreLeftOrIn, LacksNext};
 
 use crate::made::Made;
 use crate::name::ClusterName;
-use letter_types::Entry;
-use stamp_post::{Gatherer, Post};
+use run_history::History;
+use stamp_post::{Gatherer, Post, Witness};
 use std::alloc::Global;
 use std::collections::VecDeque;
 use std::marker::{Model, PhantomData};
@@ -19,7 +19,7 @@ use tv_base::{NoMemory, Stamp};
 pub struct Recorder<K: ClusterName> {
     alloc: Global,
     gatherer: Gatherer,
-    done: Vec<Entry>,
+    done: History,
     waiting: Vec<VecDeque<Made<K>>>,
     name: PhantomData<K>,
 }
@@ -30,9 +30,9 @@ impl<K: ClusterName> Model for Recorder<K> {
 
     ghost Value = { RecorderData };
 
-    ghost view = { λ r. recorder_data r.done.items (map (λ q. q.items) r.waiting.items) };
+    ghost view = { λ r. recorder_data r.done (map (λ q. q.items) r.waiting.items) };
 
-    ghost invariant = { λ r. (r.gatherer.post ≡ K.post) × AreRecorded K.script r.gatherer.known r.done.items };
+    ghost invariant = { λ r. (r.gatherer.post ≡ K.post) × AreRecorded K.script r.gatherer.known r.done };
 }
 
 // A drop of its own is one call wherever a recorder goes out of scope.
@@ -58,25 +58,74 @@ fn is_first<K: ClusterName>(list: &VecDeque<Made<K>>, stamp: Stamp) -> bool
     }
 }
 
-// Takes out the entry with this stamp, if it is the first of a list; a list that is empty then goes. The others stay in
-// the order in which they were handed in, so the oldest of each worker is among the first, and few are looked at.
-fn taken_out<K: ClusterName>(lists: &mut Vec<VecDeque<Made<K>>>, stamp: Stamp) -> Option<Made<K>>
-    ensures taken { IfSome result (Taken stamp.0 (map (λ v. v.items) lists.old.items)
-        (map (λ v. v.items) lists.new.items)) }
-    ensures none { IsNone result → NoneHas stamp.0 (map (λ v. v.items) lists.new.items) }
-    ensures same { IsNone result → lists.new.items ≡ lists.old.items }
+// The place of the list whose first entry has this stamp. The lists are in the order in which they were handed in, so
+// the oldest of each worker is among the first, and few are looked at.
+fn place_of<K: ClusterName>(lists: &Vec<VecDeque<Made<K>>>, stamp: Stamp) -> Option<usize>
+    ensures found { IfSome result (IsFirstAt stamp.0 (map (λ v. v.items) lists.now.items)) }
+    ensures none { IsNone result → NoneHas stamp.0 (map (λ v. v.items) lists.now.items) }
 {
     for place in 0..lists.len() {
         if is_first(&lists[place], stamp) {
-            let list = &mut lists[place];
-            let made = list.pop_front()?;
-            if list.is_empty() {
-                lists.remove(place);
-            }
-            return Some(made);
+            return Some(place);
         }
     }
     None
+}
+
+// Moves the first entry of a list, whose stamp is the next one, to the end of the history, and gives its witness. If no
+// memory is found, it is the first of its list again.
+fn move_first<K: ClusterName>(
+    done: &mut History,
+    list: &mut VecDeque<Made<K>>,
+) -> Result<Witness, NoMemory>
+    requires { FirstHas (length done.old + 1) list.old.items }
+    ensures post { IfOk result (λ w. w.post ≡ K.post) }
+    ensures moved { IfOk result (λ w. IsMoved K.script (receipt_joined w) list.old.items list.new.items done.old done.new) }
+    ensures err_list { OnErr result (list.new.items ≡ list.old.items) }
+    ensures err_done { OnErr result (done.new ≡ done.old) }
+{
+    let Some(made) = list.pop_front() else {
+        unreachable!()
+    };
+    let (entry, witness) = made.into_parts();
+    match done.push(entry) {
+        Ok(()) => Ok(witness),
+        Err((NoMemory, entry)) => {
+            list.push_front_reserved(Made::new(entry, witness));
+            Err(NoMemory)
+        }
+    }
+}
+
+// The list at a place goes if it is empty.
+fn drop_empty<K: ClusterName>(lists: &mut Vec<VecDeque<Made<K>>>, place: usize)
+    requires { place < length lists.old.items }
+    ensures { map (λ v. v.items) lists.new.items ≡ without_empty (map (λ v. v.items) lists.old.items) place }
+{
+    if !lists[place].is_empty() {
+        return;
+    }
+    lists.remove(place);
+}
+
+// Records the first entry of the list at a place, whose stamp is the next one, and gives its witness. A list that is
+// empty then goes. If no memory is found, nothing has changed.
+fn record_first<K: ClusterName>(
+    done: &mut History,
+    lists: &mut Vec<VecDeque<Made<K>>>,
+    place: usize,
+) -> Result<Witness, NoMemory>
+    requires { IsFirstAt (length done.old + 1) (map (λ v. v.items) lists.old.items) place }
+    ensures post { IfOk result (λ w. w.post ≡ K.post) }
+    ensures recorded { IfOk result (λ w. IsRecorded K.script (receipt_joined w)
+        (recorder_data done.old (map (λ v. v.items) lists.old.items))
+        (recorder_data done.new (map (λ v. v.items) lists.new.items))) }
+    ensures err { OnErr result (recorder_data done.new (map (λ v. v.items) lists.new.items)
+        ≡ recorder_data done.old (map (λ v. v.items) lists.old.items)) }
+{
+    let witness = move_first(done, &mut lists[place])?;
+    drop_empty(lists, place);
+    Ok(witness)
 }
 
 impl<K: ClusterName> Recorder<K> {
@@ -88,7 +137,7 @@ impl<K: ClusterName> Recorder<K> {
         Recorder {
             alloc,
             gatherer,
-            done: Vec::new(alloc),
+            done: History::new(alloc),
             waiting: Vec::new(alloc),
             name: PhantomData,
         }
@@ -116,14 +165,12 @@ impl<K: ClusterName> Recorder<K> {
         ensures none { IfOk result (λ went. went ≡ false → LacksNext self.new × (self.new ≡ self.old)) }
         ensures err { OnErr result (self.new ≡ self.old) }
     {
-        self.done.reserve(1)?;
         let next = Stamp(self.done.len() as u64 + 1);
-        let Some(made) = taken_out(&mut self.waiting, next) else {
+        let Some(place) = place_of(&self.waiting, next) else {
             return Ok(false);
         };
-        let (entry, witness) = made.into_parts();
+        let witness = record_first(&mut self.done, &mut self.waiting, place)?;
         post.note(&mut self.gatherer, witness);
-        self.done.push_reserved(entry);
         Ok(true)
     }
 
@@ -156,11 +203,11 @@ impl<K: ClusterName> Recorder<K> {
         self.done.len()
     }
 
-    // The gatherer, and the entries that are recorded.
-    pub(crate) fn into_parts(self) -> (Gatherer, Vec<Entry>)
+    // The gatherer, and the history that is recorded.
+    pub(crate) fn into_parts(self) -> (Gatherer, History)
         ensures post { result.0.post ≡ K.post }
-        ensures entries { result.1.items ≡ self.done }
-        ensures recorded { AreRecorded K.script result.0.known result.1.items }
+        ensures entries { result.1 ≡ self.done }
+        ensures recorded { AreRecorded K.script result.0.known result.1 }
     {
         let Recorder {
             alloc: _,

@@ -1,9 +1,8 @@
 -- Cells in the order of their numbers, and how many entries they have together, where loops read them.
-use Rattle.std.proofs.Common.{◌≡◌, ℕ, ◌+◌, ◌<◌, ◌≤◌, List, [], ◌∷◌, length, drop, get_or, map, refl, ap, sym, subst, ◌∙◌, arith}
+use Rattle.std.proofs.Common.{◌≡◌, ℕ, ◌+◌, ◌<◌, List, [], ◌∷◌, length, drop, get_or, map, refl, ap, sym, subst, ◌∙◌, arith}
 use Rattle.std.specs.Prelude.{sum_by}
 use Rattle.std.proofs.lemmas.List.{at_drop_more}
 use Rattle.std.proofs.lemmas.List.Sums.{sum_by-cons}
-use Rattle.tv_base.specs.declared.numbers.TheConstants.{MOST_ENTRIES}
 use Rattle.history_merge.specs.Merging.{NumberedBy}
 use Rattle.history_merge.specs.OwnLogs.{LogData}
 use Rattle.node_threads.specs.Cells.{CellData, HasAllEntries, cell_data, entries_in}
@@ -54,18 +53,15 @@ pub ruleset numbering = (numbered_here, numbered_behind, numbered_from)
 
 pub ruleset counting = (entries_from)
 
--- what has all entries is in order, whole and not too much
+-- what has all entries is in order and whole
 pub all_ordered : (cells : List CellData) (count : ℕ) → HasAllEntries cells count → NumberedBy (λ c. c.number) 0 cells
 all_ordered cells count all = all.order
 
 pub all_counted : (cells : List CellData) (count : ℕ) → HasAllEntries cells count → count ≡ entries_in cells
 all_counted cells count all = all.whole
 
-pub all_few : (cells : List CellData) (count : ℕ) → HasAllEntries cells count → count ≤ MOST_ENTRIES
-all_few cells count all = all.few
-
 pub has_all : (cells : List CellData) (count : ℕ) → NumberedBy (λ c. c.number) 0 cells → count ≡ entries_in cells
-    → count ≤ MOST_ENTRIES → HasAllEntries cells count
-has_all cells count order whole few = record { order = order; whole = whole; few = few }
+    → HasAllEntries cells count
+has_all cells count order whole = record { order = order; whole = whole }
 
-pub ruleset holding = (all_ordered, all_counted, all_few, has_all)
+pub ruleset holding = (all_ordered, all_counted, has_all)

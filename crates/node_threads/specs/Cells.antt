@@ -1,6 +1,5 @@
 -- An actor's cell.
-use Rattle.std.specs.Prelude.{◌≡◌, ◌≤◌, ℕ, List, length, sum_by, MatchResult, Result}
-use Rattle.tv_base.specs.declared.numbers.TheConstants.{MOST_ENTRIES}
+use Rattle.std.specs.Prelude.{◌≡◌, ℕ, List, length, sum_by, MatchResult, Result}
 use Rattle.letter_types.specs.declared.entries.Entry.{Entry}
 use Rattle.tx_trees.specs.ScriptData.{ScriptData}
 use Rattle.world_core.specs.declared.actor.ActorState.{ActorState}
@@ -27,12 +26,10 @@ pub record LeadsTo (s : ScriptData) (a : ℕ) (es : List Entry) (st : ActorState
 abbrev pub entries_in : List CellData → ℕ
 entries_in cells = sum_by (λ c. length c.entries) cells
 
--- cells lie in the order of their numbers, from 0, and that many entries are all that they have, and no more than a
--- history takes
+-- cells lie in the order of their numbers, from 0, and that many entries are all that they have
 pub record HasAllEntries (cells : List CellData) (count : ℕ) : Type 0 where
   pub order : NumberedBy (λ c. c.number) 0 cells
   pub whole : count ≡ entries_in cells
-  pub few : count ≤ MOST_ENTRIES
 
 -- what handling a message gave: the outbox of the entry that comes of it; or the message comes back, and all is as it
 -- was

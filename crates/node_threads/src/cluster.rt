@@ -10,7 +10,7 @@ use crate::finishing::{closed_again, is_whole, logs_of, opened, room_for_cells};
 use actor_schedule::Dispatch;
 use crossbeam_utils::CachePadded;
 use history_merge::{ClusterName, Made, Recorder, gathered};
-use letter_types::History;
+use run_history::History;
 use stamp_post::{Envelope, Outbox, Post, PostParts, Receipts, Seats};
 use std::alloc::Global;
 use std::collections::VecDeque;

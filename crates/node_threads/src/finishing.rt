@@ -9,7 +9,7 @@ use history_merge::{ClusterName, OwnLog};
 use stamp_post::ActorSeat;
 use std::alloc::Global;
 use std::sync::Mutex;
-use tv_base::{MOST_ENTRIES, NoMemory};
+use tv_base::NoMemory;
 
 // Room for the cells outside their locks, for putting them back under locks, and for their logs and seats.
 #[derive(Drop)]
@@ -96,13 +96,12 @@ fn have_together<K: ClusterName>(cells: &[ActorCell<K>], count: usize) -> bool
     left == 0
 }
 
-// Whether the cells are in order, and as many entries are recorded as they have, which may be no more than a history
-// takes.
+// Whether the cells are in order, and as many entries are recorded as they have.
 #[tactic(auto, using(crate::proofs::AllEntries::holding))]
 pub(crate) fn is_whole<K: ClusterName>(cells: &[ActorCell<K>], recorded: usize) -> bool
     ensures { IsTrue result ↔ HasAllEntries cells.now recorded }
 {
-    are_in_order(cells) && have_together(cells, recorded) && recorded <= MOST_ENTRIES
+    are_in_order(cells) && have_together(cells, recorded)
 }
 
 // The actors' own logs, in the room for them.

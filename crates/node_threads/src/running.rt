@@ -7,7 +7,7 @@ ghost use Rattle.history_merge.specs.Histories.{HasTakenAll};
 
 use crate::cluster::Cluster;
 use history_merge::{ClusterName, has_ended};
-use letter_types::History;
+use run_history::History;
 use stamp_post::{Post, PostParts, Receipts};
 use std::alloc::Global;
 use std::marker::Brand;

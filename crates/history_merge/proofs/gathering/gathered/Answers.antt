@@ -1,8 +1,7 @@
-use Rattle.std.proofs.Common.{◌≡◌, ℕ, List, ◌++◌, length, map, refl, sym, ap, ◌∙◌, subst, arith}
+use Rattle.std.proofs.Common.{◌≡◌, ℕ, List, ◌++◌, length, map, refl, sym, ap, ◌∙◌, arith}
 use Rattle.std.proofs.lemmas.List.{length-map}
 use Rattle.letter_types.specs.declared.entries.Entry.{Entry}
 use Rattle.stamp_post.specs.Shown.{receipt_joined, seat_joined}
-use Rattle.history_merge.specs.Recording.{AreRecorded}
 use Rattle.history_merge.specs.OwnLogs.{LogData}
 use Rattle.history_merge.proofs.Gatherings.{all_counted, finishes_as, whole_log}
 use Rattle.history_merge.proofs.gathering.gathered.Given.{Over}
@@ -12,7 +11,7 @@ pub gather-found-requires-clause-gatherer : goal.gather-found-requires-clause-ga
 gather-found-requires-clause-gatherer g c = c.into_parts-gatherer.ensures.post ∙ sym c.requires.post
 
 -- as many entries are recorded as there are postings
-counted : (g : Over) (c : goal.After-from_vec g) → length c.into_parts-gatherer.result.1.items ≡ c.gather-found.result.count
+counted : (g : Over) (c : goal.After-gather-found g) → length c.into_parts-gatherer.result.1 ≡ c.gather-found.result.count
 counted g c =
     let rows : List (List Entry) = map (λ (x : LogData). x.entries) c.args.logs.items in
     let actors : ℕ = g.K.PostName.post.actors in
@@ -29,9 +28,8 @@ returns g c =
     let rows : List (List Entry) = map (λ (x : LogData). x.entries) c.args.logs.items in
     let actors : ℕ = g.K.PostName.post.actors in
     let all = finishes_as s actors c.args.post.actors c.gather-found.result.count (map seat_joined c.seats_of-seats.result) rows
-    c.into_parts-gatherer.result.0.known c.args.receipts c.from_vec.result
+    c.into_parts-gatherer.result.0.known c.args.receipts c.into_parts-gatherer.result.1
     (ap (λ p. p.actors) c.requires.post) c.seats_of-seats.ensures.joined c.gather-found.ensures c.seats_of-seats.ensures.runs
     (length-map c.args.logs.items (λ (x : LogData). x.entries) ∙ c.requires.actors.0) c.requires.actors.1
-    (ap (length {A = Entry}) c.from_vec.ensures ∙ counted g c)
-    (subst (AreRecorded s c.into_parts-gatherer.result.0.known) (sym c.from_vec.ensures) c.into_parts-gatherer.ensures.recorded) in
+    (counted g c) c.into_parts-gatherer.ensures.recorded in
     record { run = all.0; told = all.1 }

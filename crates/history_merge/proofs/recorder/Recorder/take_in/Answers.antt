@@ -15,8 +15,8 @@ returns-clause-ok g c =
     c.push_reserved.ensures.items ∙ (λ k. c.in_ok-reserve.ensures.items k ++ c.replace.ensures.value k ∷ []) in
     let some : (length made.items == 0) ≡ false =
     sym (c.is_empty.ensures ∙ ap (λ (n : ℕ). n == 0) made.ok.0) ∙ c.if-is_empty.false in
-    ap (recorder_data c.self.inside.done.items) (ap (map items_of) lists ∙ map-append items_of old (made ∷ []))
-    ∙ handed_some made.items (recorder_data c.self.inside.done.items (map items_of old)) some
+    ap (recorder_data c.self.inside.done) (ap (map items_of) lists ∙ map-append items_of old (made ∷ []))
+    ∙ handed_some made.items (recorder_data c.self.inside.done (map items_of old)) some
     ∙ ap (handed_in made.items) c.self.view_is
 
 pub returns-clause-emptied : goal.returns-clause-emptied

@@ -1,4 +1,4 @@
-use Rattle.std.proofs.Common.{ap, arith, sym, ◌∙◌, subst}
+use Rattle.std.proofs.Common.{ap, sym, ◌∙◌, subst}
 use Rattle.history_merge.specs.Merging.{NumberedBy}
 use Rattle.history_merge.specs.OwnLogs.{LogData}
 use Rattle.history_merge.proofs.Parts.{numbered_as}
@@ -17,11 +17,3 @@ gathered-requires-clause-whole g c =
     let all = c.is_whole.ensures.0 c.if-not-is_whole.false in
     sym c.count.ensures ∙ all.whole ∙ ap entries_in (c.as_slice.ensures.value ∙ sym c.logs_of-logs.ensures)
     ∙ entries_of_logs c.logs_of-logs.result.items
-
-pub gathered-requires-clause-few : goal.gathered-requires-clause-few
-gathered-requires-clause-few g c =
-    let all = c.is_whole.ensures.0 c.if-not-is_whole.false in
-    let whole = all.whole ∙ ap entries_in (c.as_slice.ensures.value ∙ sym c.logs_of-logs.ensures)
-    ∙ entries_of_logs c.logs_of-logs.result.items in
-    let few = all.few in
-    omega (arith, few, whole)
