@@ -149,8 +149,7 @@ fn try_entry(
     requires steps { tallies.old.steps.items ≡ [] }
     requires trail { kept.old.trail.items ≡ [] }
     requires kinds { AreOfKinds basis.now.script.now kept.old.worths.items }
-    ensures tried { IfOk result (IsTriedFrom basis.now tallies.old.board kept.old.worths.items entry.now
-        tallies.new.board kept.new.worths.items) }
+    ensures tried { IfOk result (IsTriedFrom basis.now tallies.old kept.old entry.now tallies.new kept.new) }
     ensures board { board_before tallies.new ≡ tallies.old.board }
     ensures worths { worths_before kept.new ≡ kept.old.worths.items }
     ensures kinds { IfOk result (λ broken. IsNone broken → AreOfKinds basis.now.script.now kept.new.worths.items) }

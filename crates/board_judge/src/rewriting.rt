@@ -1,8 +1,6 @@
 // The worths of the items, act by act: what the deeds of the trees that acts close make of them, compared with what reads show.
-ghost use Rattle.std.specs.Prelude.{◌≡◌, [], ℕ, IfOk, OnErr, OnOk, slice_get};
-ghost use Rattle.script_parts.specs.ScriptData.{subs_at};
-ghost use Rattle.board_judge.specs.Notes.{ops_noted};
-ghost use Rattle.board_judge.specs.inside.Rewriting.{AllSubsSuit, AllSuit, AreOfKinds, HasNoted, SuitsKind, altered_back, kinds_of, worths_before, ComesBack, HasNotedClosed, HasNotedOne, HasNotedSubs, IsRewrittenBy};
+ghost use Rattle.std.specs.Prelude.{◌≡◌, [], IfOk, OnErr, OnOk, slice_get};
+ghost use Rattle.board_judge.specs.inside.Rewriting.{AllSubsSuit, AllSuit, AreOfKinds, SuitsKind, altered_back, kinds_of, worths_before, ComesBack, HasNotedClosed, HasNotedOne, HasNotedOp, HasNotedOps, HasNotedSubs, HasNotedTree, IsRewrittenBy};
 
 use crate::noting::Tallies;
 use crate::standing::version_or_zero;
@@ -81,7 +79,7 @@ fn note_tree(
 ) -> Result<(), NoMemory>
     requires { AreOfKinds script.now kept.old.worths.items }
     ensures noted { OnOk result
-        (HasNotedSubs version.0 (subs_at script.now tree.0) kept.old.worths.items kept.new.worths.items) }
+        (HasNotedTree script.now version.0 tree.0 kept.old.worths.items kept.new.worths.items) }
     ensures back { worths_before kept.new ≡ worths_before kept.old }
 {
     let Some(tree) = script.trees().get(tree.0 as usize) else {
@@ -106,8 +104,7 @@ fn note_subs(kept: &mut ItemWorths, version: Version, subs: &[Sub]) -> Result<()
 // Notes the deeds of operations in this version.
 fn note_ops(kept: &mut ItemWorths, version: Version, ops: &[SubOp]) -> Result<(), NoMemory>
     requires { AllSuit (kinds_of kept.old.worths.items) ops.now }
-    ensures noted { OnOk result (HasNoted (λ (x : ℕ). ops_noted version.0 x ops.now)
-        kept.old.worths.items kept.new.worths.items) }
+    ensures noted { OnOk result (HasNotedOps version.0 ops.now kept.old.worths.items kept.new.worths.items) }
     ensures back { worths_before kept.new ≡ worths_before kept.old }
 {
     for op in ops {
@@ -119,8 +116,7 @@ fn note_ops(kept: &mut ItemWorths, version: Version, ops: &[SubOp]) -> Result<()
 // Notes the deed of an operation in this version, and puts what it changed on the trail.
 fn note_op(kept: &mut ItemWorths, version: Version, op: &SubOp) -> Result<(), NoMemory>
     requires { SuitsKind op.now.deed (slice_get (kinds_of kept.old.worths.items) op.now.item.0) }
-    ensures noted { OnOk result
-        (HasNotedOne op.now.item version.0 op.now.deed kept.old.worths.items kept.new.worths.items) }
+    ensures noted { OnOk result (HasNotedOp version.0 op.now kept.old.worths.items kept.new.worths.items) }
     ensures back { worths_before kept.new ≡ worths_before kept.old }
 {
     kept.trail.reserve(1)?;

@@ -4,8 +4,8 @@ ghost use Rattle.nc_locks.specs.Modes.{modes_conflict};
 ghost use Rattle.script_parts.specs.ScriptData.{ScriptData, updates};
 ghost use Rattle.board_rules.specs.Histories.{Place, version_in, version_or};
 ghost use Rattle.board_tallies.specs.Board.{IsBoardOf, OfBoard};
-ghost use Rattle.board_judge.specs.inside.Users.{changes_in, has_taken, has_written, is_mark, lesser_tree, newest_by, stands_against, newest_with, was_updated};
-ghost use Rattle.board_judge.specs.inside.Standing.{IsNewestWritten, NamesConflict, NamesFirst, NamesHolder, NamesNewer, NamesNewerOf};
+ghost use Rattle.board_judge.specs.inside.Users.{changes_in, has_taken, is_mark, lesser_tree, was_updated};
+ghost use Rattle.board_judge.specs.inside.Standing.{IsNewestBy, IsNewestWith, IsNewestWritten, NamesConflict, NamesFirst, NamesHolder, NamesNewer, NamesNewerOf, TellsStanding, TellsWritten};
 
 use crate::users::{User, Users, lock_mode, on};
 use board_tallies::Board;
@@ -119,8 +119,7 @@ pub(crate) fn version_or_zero(board: &Board, tree: TreeNo) -> u64
 impl<'a> NodeView<'a> {
     // Whether an operation stands there against what is needed.
     fn stands(&self, need: Need, user: User) -> bool
-        ensures { OfBoard self.now.script.now self.now.board.now (λ xs. result
-            ≡ stands_against self.now.script.now xs self.now.node.0 need.tree.0 need.mode user) }
+        ensures { TellsStanding self.now need user result }
     {
         if user.tree.0 == need.tree.0 {
             return false;
@@ -185,8 +184,7 @@ impl<'a> NodeView<'a> {
 
     // Whether an operation has written its item, which is at the node.
     fn has_written(&self, user: User) -> bool
-        ensures { OfBoard self.now.script.now self.now.board.now (λ xs. result
-            ≡ has_written self.now.script.now xs self.now.node.0 user) }
+        ensures { TellsWritten self.now user result }
     {
         if !changes_in(user.mode) {
             return false;
@@ -202,8 +200,7 @@ impl<'a> NodeView<'a> {
 
     // The greatest version of those operations that have written their item, which is at the node.
     fn newest_by(&self, users: &[User]) -> u64
-        ensures { OfBoard self.now.script.now self.now.board.now (λ xs. result
-            ≡ newest_by self.now.script.now xs self.now.node.0 users.now) }
+        ensures { IsNewestBy self.now users.now result }
     {
         let mut newest = 0;
         for user in users {
@@ -214,8 +211,7 @@ impl<'a> NodeView<'a> {
 
     // A version, or that of an operation which has written its item in a greater one.
     fn newer_by(&self, user: User, newest: u64) -> u64
-        ensures { OfBoard self.now.script.now self.now.board.now (λ xs. result
-            ≡ newest_with self.now.script.now xs self.now.node.0 user newest) }
+        ensures { IsNewestWith self.now user newest result }
     {
         if !self.has_written(user) {
             return newest;

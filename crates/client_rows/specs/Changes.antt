@@ -1,8 +1,8 @@
 -- How the client changes in a step that is prepared.
-use Rattle.std.specs.Prelude.{◌≡◌, ◌||◌}
+use Rattle.std.specs.Prelude.{◌≡◌, ◌-◌, ◌||◌, length}
 use Rattle.tx_trees.specs.ScriptData.{ScriptData}
 use Rattle.letter_types.specs.Steps.{Out, made}
-use Rattle.world_model.specs.Client.{Client}
+use Rattle.world_model.specs.Client.{Client, with_places}
 use Rattle.client_rows.specs.Kept.{Kept, IsKeptOf}
 use Rattle.client_rows.specs.News.{answered_after, ended_after}
 use Rattle.client_rows.specs.declared.change.ClientChange.{ClientChange}
@@ -23,6 +23,10 @@ after_client_change (Submit news at finishes) k = record {
   unanswered = at.unanswered;
   asked = at.asked;
 }
+
+-- the client's answers are filled up to the script's number of transactions: those that came aren't answered
+abbrev pub with_all_places : ScriptData → Kept → Kept
+with_all_places s k = record k { client = with_places (length s.trees - length k.client.answered) k.client }
 
 -- a step that is prepared is this row of the client, which stays this script's
 pub record IsClientStepOf (s : ScriptData) (o : Out Client) (k : Kept) (p : ClientPrepared) : Type 0 where

@@ -1,11 +1,10 @@
 // The client: it submits the script's rows.
 ghost use Rattle.std.specs.Prelude.{◌≡◌, ◌==◌, ◌&&◌, ◌≤◌, length, not, IfOk};
-ghost use Rattle.world_model.specs.Client.{client_finishes, client_row, next_after, start_client, wanted};
+ghost use Rattle.world_model.specs.Client.{client_row, start_client, wanted};
 ghost use Rattle.client_rows.specs.Changes.{IsClientStepOf, after_client_change};
 ghost use Rattle.client_rows.specs.Kept.{IsKeptOf, kept_of};
-ghost use Rattle.client_rows.specs.News.{answered_after, client_with_news, ended_after};
-ghost use Rattle.client_rows.specs.inside.Heard.{submit_at};
-ghost use Rattle.client_rows.specs.inside.Places.{furthest_place, is_over};
+ghost use Rattle.client_rows.specs.inside.Heard.{finishes_with_news, submit_at};
+ghost use Rattle.client_rows.specs.inside.Places.{is_over, place_reached};
 
 use crate::change::{ClientChange, ClientPrepared};
 use crate::letters;
@@ -107,8 +106,7 @@ impl Client {
         requires { IsKeptOf script.now self.now }
         ensures forward { self.now.client.next ≤ result.next }
         ensures within { result.next ≤ length script.now.rows }
-        ensures place { result ≡ furthest_place script.now.rows (answered_after news self.now.client.answered)
-            (ended_after news self.now.client.ended) self.now.client.next }
+        ensures place { result ≡ place_reached script.now.rows news self.now.client }
     {
         let _valid = script.nodes();
         let rows = script.rows();
@@ -120,8 +118,7 @@ impl Client {
     /// Whether it would finish at news.
     pub(crate) fn finishes_at(&self, news: News, script: &Script) -> bool
         requires { IsKeptOf script.now self.now }
-        ensures { result ≡ client_finishes script.now (next_after script.now (client_with_news news self.now.client))
-            (client_with_news news self.now.client) }
+        ensures { result ≡ finishes_with_news script.now news self.now.client }
     {
         let at = self.reaches(news, script);
         let ended = ended_after(news, self.ended);

@@ -1,9 +1,10 @@
 // No run makes these calls: a run prepares the client's step and does it apart, ends by its history, and has one
 // script.
-ghost use Rattle.std.specs.Prelude.{if◌then◌else◌, ◌≡◌, ◌≤◌, ◌-◌, ◌++◌, ◌∷◌, [], false, length, replicate, IfOk, OnErr, OnOk};
+ghost use Rattle.std.specs.Prelude.{if◌then◌else◌, ◌≡◌, ◌≤◌, ◌∷◌, [], length, IfOk, OnErr, OnOk};
 ghost use Rattle.letter_types.specs.declared.acts.Act.TheVariants.{Finished};
 ghost use Rattle.letter_types.specs.Steps.{made};
 ghost use Rattle.world_model.specs.Client.{client_row};
+ghost use Rattle.client_rows.specs.Changes.{with_all_places};
 ghost use Rattle.client_rows.specs.Kept.{IsKeptOf};
 
 use crate::client::Client;
@@ -55,12 +56,7 @@ impl Client {
     /// runs out, the client is as it was.
     pub fn make_places(&mut self, script: &Script) -> Result<(), NoMemory>
         requires { length self.old.client.answered ≤ length script.now.trees }
-        ensures ok { OnOk result (self.new ≡ record self.old {
-          client = record self.old.client {
-            answered = self.old.client.answered
-                ++ replicate (length script.now.trees - length self.old.client.answered) false;
-          };
-        }) }
+        ensures ok { OnOk result (self.new ≡ with_all_places script.now self.old) }
         ensures err { OnErr result (self.new ≡ self.old) }
     {
         self.answered.resize(script.trees().len(), false)?;

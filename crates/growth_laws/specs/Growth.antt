@@ -1,12 +1,12 @@
 -- A script that goes on from another one, and what a run, a schedule and its client make of that.
-use Rattle.std.specs.Prelude.{ℕ, false, ◌≡◌, ◌<◌, ◌-◌, List, ◌++◌, length, replicate, Option, Some}
+use Rattle.std.specs.Prelude.{ℕ, false, ◌≡◌, ◌<◌, ◌-◌, List, ◌++◌, length, Option, Some}
 use Rattle.letter_types.specs.declared.entries.Entry.{Entry}
 use Rattle.script_parts.specs.Adding.{last_of}
 use Rattle.script_parts.specs.Counts.{has_strict, is_lossy}
 use Rattle.script_parts.specs.ScriptData.{ScriptData}
 use Rattle.script_parts.specs.Valid.{IsValid}
 use Rattle.script_parts.specs.declared.parts.ScriptRow.TheVariants.{Settle}
-use Rattle.world_model.specs.Client.{Client}
+pub use Rattle.world_model.specs.Client.{with_places}
 use Rattle.world_model.specs.Runs.{IsStepRun, actor_in, client_in, in_flight}
 use Rattle.world_model.specs.Scheduled.{number_for, waiting_at}
 use Rattle.world_model.specs.Tables.{ActorData, ClientData, CoordinatorData, NodeData, RestartingData}
@@ -30,10 +30,6 @@ pub record Extends (s t : ScriptData) : Type 0 where
 -- the client has rows of the script still to submit: it waits at one of its settle rows
 abbrev pub HasRowsLeft : ScriptData → List Entry → Type 0
 HasRowsLeft s past = (client_in s past).next < length s.rows
-
--- a client with places for the answers of that many more transactions
-abbrev pub with_places : ℕ → Client → Client
-with_places k c = record c { answered = c.answered ++ replicate k false }
 
 -- an actor of a script with that many more transactions: a node and a coordinator know nothing of these
 abbrev pub grown_actor : ℕ → ActorData → ActorData

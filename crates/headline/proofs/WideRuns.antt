@@ -1,11 +1,12 @@
 -- A run by the wider condition of being enabled is a run by the window of versions: each message in flight is enabled.
-use Rattle.std.proofs.Common.{if◌then◌else◌, ◌≡◌, ℕ, ◌+◌, ◌<◌, ◌==◌, ◌&&◌, ◌||◌, Bool, true, false, List, [], ◌∷◌, reverse, refl, sym, ap, subst, ◌∙◌, arith, Option, Some, None}
+use Rattle.std.proofs.Common.{if◌then◌else◌, ◌≡◌, ℕ, ◌+◌, ◌<◌, ◌==◌, ◌&&◌, Bool, true, false, List, [], ◌∷◌, reverse, refl, sym, ap, subst, ◌∙◌, arith, Option, Some, None}
 use Rattle.std.specs.Prelude.{length, nat_le, nat_lt}
 use Rattle.std.proofs.lemmas.Bool.{and_parts}
 use Rattle.std.proofs.lemmas.Bool.Decides.{nat_tests}
 use Rattle.std.proofs.lemmas.List.{reverse-reverse}
 use Rattle.tv_base.proofs.Truths.{at_most, same_test}
 use Rattle.item_versions.specs.Window.{IsWindowedTable}
+use Rattle.item_versions.proofs.WhereHeld.{or_more}
 use Rattle.item_versions.proofs.Window.{may_collect_all-windowed}
 use Rattle.letter_types.specs.declared.bodies.Body.{Body}
 use Rattle.letter_types.specs.declared.bodies.Body.TheVariants.{Go, Order, Sweep}
@@ -43,10 +44,6 @@ widely_timely s st Go near timely = refl
 widely_timely s st _ near timely = refl
 
 -- also an order of a coordinator that forgets
-or_more : (a b d : Bool) → (b ≡ true → d ≡ true) → (a || b) ≡ true → (a || d) ≡ true
-or_more true b d more is = refl
-or_more false b d more is = more is
-
 widely_core_timely : (s : ScriptData) (c : Core) (b : Body) → IsWindowedTable c.node.turns.low.0 c.node.items → is_core_timely s c b ≡ true
     → is_widely_core_timely s c b ≡ true
 widely_core_timely s c (Order e what v) near timely =

@@ -79,11 +79,12 @@ takes_may (Bag b) (Put a) m most is = absurd (cc is)
 same_value : (w : Value) (op : Op) → is_bag w ≡ false → may_apply w op ≡ true → value_in_place w op ≡ applied w op
 same_value w op number may = rw (number, may) refl
 
--- Each version of an item takes it, also after others.
-or_more : (a b c : Bool) → (b ≡ true → c ≡ true) → (a || b) ≡ true → (a || c) ≡ true
+-- where one of two tests is true, and the second gives a third, one of the first and the third is
+pub or_more : (a b c : Bool) → (b ≡ true → c ≡ true) → (a || b) ≡ true → (a || c) ≡ true
 or_more true b c f is = refl
 or_more false b c f is = f is
 
+-- Each version of an item takes it, also after others.
 all_more : (v : Version) (op : Op) (m n : ℕ) (xs : Held) → m ≤ n → all_take v op m xs ≡ true → all_take v op n xs ≡ true
 all_more v op m n [] le is = refl
 all_more v op m n (x ∷ xs) le is =

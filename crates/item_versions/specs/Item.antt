@@ -1,5 +1,5 @@
 -- What an item holds: its values by version.
-use Rattle.std.specs.Prelude.{ℕ, Bool, true, false, not, ◌&&◌, ◌||◌, ◌<◌, ◌≤◌, ◌==◌, List, [], ◌∷◌, ◌++◌, length, map, if◌then◌else◌, nat_lt, nat_le, ⊤, Option, Some, None}
+use Rattle.std.specs.Prelude.{ℕ, Bool, true, false, not, ◌&&◌, ◌||◌, ◌<◌, ◌≤◌, ◌==◌, List, [], ◌∷◌, ◌++◌, length, map, if◌then◌else◌, nat_lt, nat_le, IsTrue, ⊤, Option, Some, None}
 use Rattle.std.specs.List.{filter}
 use Rattle.tv_base.specs.declared.numbers.Version.{Version}
 use Rattle.commute_ops.specs.declared.value.Value.{Value}
@@ -67,6 +67,10 @@ holds v (x ∷ xs) = x.0.0 == v.0 || holds v xs
 -- there is room for version v: it is held, or fewer versions are held than may be
 abbrev pub has_room : Version → Held → Bool
 has_room v xs = holds v xs || nat_lt (length xs) MOST_VERSIONS
+
+-- if an update in version v may be made, there is room for the version
+abbrev pub HasRoomIfMade : Version → Op → Held → Type 0
+HasRoomIfMade v op h = IsTrue (may_touch v op h) → IsTrue (has_room v h)
 
 -- some value is a bag
 abbrev pub has_bag : Held → Bool

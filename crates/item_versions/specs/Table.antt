@@ -1,5 +1,5 @@
 -- What a table holds: items by number.
-use Rattle.std.specs.Prelude.{◌<◌, Bool, false, List, [], ◌∷◌, if◌then◌else◌, ◌==◌, Option, Some, None, ℕ, ◌≡◌, IfSome, slice_get, slice_set}
+use Rattle.std.specs.Prelude.{◌<◌, Bool, false, List, [], ◌∷◌, if◌then◌else◌, ◌==◌, Option, Some, None, ℕ, ◌≡◌, IfSome, IsTrue, slice_get, slice_set}
 use Rattle.std.specs.List.{All, AllByRecursion, AllPairs}
 use Rattle.tv_base.specs.declared.numbers.ItemNo.{ItemNo}
 use Rattle.tv_base.specs.declared.numbers.Version.{Version}
@@ -87,6 +87,14 @@ may_touch_in v n op t = elim (item_in n t) [ None ↦ false | Some h ↦ may_tou
 -- the item is there, and has room for version v
 abbrev pub has_room_in : Version → ItemNo → Table → Bool
 has_room_in v n t = elim (item_in n t) [ None ↦ false | Some h ↦ has_room v h ]
+
+-- if an update of the item in version v may be made, there is room for the version
+abbrev pub HasRoomIfMadeIn : Version → ItemNo → Op → Table → Type 0
+HasRoomIfMadeIn v n op t = IsTrue (may_touch_in v n op t) → IsTrue (has_room_in v n t)
+
+-- an update of one item is staged, behind what was staged at this table before
+abbrev pub IsStagedIn : Version → ItemNo → Op → Table → StagedItems → StagedItems → Type 0
+IsStagedIn v n op t old new = pending new t ≡ touched_in v n op (pending old t)
 
 -- what is held of an item is given a value
 abbrev pub valued : Version → Value → Option Held → ItemNo → Table → Table

@@ -2,9 +2,9 @@ ghost use Rattle.std.specs.Prelude.{◌≡◌, ◌+◌, ◌++◌, ◌∷◌, ◌
 ghost use Rattle.std.specs.Bool.{OnFalse, OnTrue};
 ghost use Rattle.std.specs.Option.{option_copied};
 ghost use Rattle.std.specs.List.{All};
-ghost use Rattle.item_versions.specs.Item.{CanCollect, IsHeld, collected, has_room, held_in_place, may_touch, put_value, touched};
-ghost use Rattle.item_versions.specs.Table.{HasAscendingItems, IsAfter, IsHeldTable, IsTable, item_in, replaced, pending, table_in_place, touched_in, may_touch_in, has_room_in, put_value_in, ChangesAt};
-ghost use Rattle.item_versions.specs.inside.StagedOps.{amounts_of, copied_over, has_op, held_after_staged, op_amount, table_after_staged, takes_in_place, with_touched};
+ghost use Rattle.item_versions.specs.Item.{CanCollect, HasRoomIfMade, IsHeld, collected, has_room, held_in_place, may_touch, put_value, touched};
+ghost use Rattle.item_versions.specs.Table.{HasAscendingItems, HasRoomIfMadeIn, IsAfter, IsHeldTable, IsStagedIn, IsTable, item_in, replaced, pending, table_in_place, may_touch_in, has_room_in, put_value_in, ChangesAt};
+ghost use Rattle.item_versions.specs.inside.StagedOps.{amounts_of, copied_over, has_op, held_after_staged, op_amount, table_after_staged, takes_in_place, with_copied, with_staged_op, with_touched};
 ghost use Rattle.item_versions.specs.inside.Places.{item_place};
 
 use crate::item::Item;
@@ -193,11 +193,10 @@ impl ItemTable {
         item: ItemNo,
         op: &Op,
     ) -> Result<bool, NoMemory>
-        requires { IsTrue (may_touch_in v item op.now (pending staged.old self.now))
-            → IsTrue (has_room_in v item (pending staged.old self.now)) }
+        requires { HasRoomIfMadeIn v item op.now (pending staged.old self.now) }
         ensures may { IfOk result (λ made. made ≡ may_touch_in v item op.now (pending staged.old self.now)) }
-        ensures made { IfOk result (λ made. OnTrue made
-            (pending staged.new self.now ≡ touched_in v item op.now (pending staged.old self.now))) }
+        ensures made { IfOk result
+            (λ made. OnTrue made (IsStagedIn v item op.now self.now staged.old staged.new)) }
         ensures not_made { IfOk result (λ made. OnFalse made (staged.new ≡ staged.old)) }
         ensures err { OnErr result (staged.new ≡ staged.old) }
     {
@@ -228,8 +227,7 @@ impl ItemTable {
     ) -> Result<(), NoMemory>
         requires may { IsTrue (may_touch_in v item op.now (pending staged.old self.now)) }
         requires room { IsTrue (has_room_in v item (pending staged.old self.now)) }
-        ensures ok { OnOk result
-            (pending staged.new self.now ≡ touched_in v item op.now (pending staged.old self.now)) }
+        ensures ok { OnOk result (IsStagedIn v item op.now self.now staged.old staged.new) }
         ensures err { OnErr result (staged.new ≡ staged.old) }
     {
         self.stage_if_may(staged, v, item, op)?;
@@ -420,8 +418,7 @@ fn note_op(
     ensures left { left.new + amounts_of ops.new.items ≤ MOST_AMOUNT }
     ensures takes { IfOk result (λ noted. OnTrue noted (IsTrue (takes_in_place v op.now left.new held.now))) }
     ensures held { IfOk result (λ noted. OnTrue noted (IsHeld held.now)) }
-    ensures noted { IfOk result (λ noted. OnTrue noted
-        (ops.new.items ≡ ops.old.items ++ record { item = item; version = v; op = op.now } ∷ [])) }
+    ensures noted { IfOk result (λ noted. OnTrue noted (ops.new.items ≡ with_staged_op ops.old.items item v op.now)) }
     ensures not_noted { IfOk result (λ noted. OnFalse noted (ops.new.items ≡ ops.old.items)) }
     ensures err { OnErr result (ops.new.items ≡ ops.old.items) }
 {
@@ -449,10 +446,10 @@ fn push_if_may(
     item: ItemNo,
     op: &Op,
 ) -> Result<bool, NoMemory>
-    requires { IsTrue (may_touch v op.now now.now) → IsTrue (has_room v now.now) }
+    requires { HasRoomIfMade v op.now now.now }
     ensures may { IfOk result (λ made. made ≡ may_touch v op.now now.now) }
-    ensures made { IfOk result (λ made. OnTrue made
-        (entries.new.items ≡ entries.old.items ++ (item, touched v op.now now.now) ∷ [])) }
+    ensures made { IfOk result
+        (λ made. OnTrue made (entries.new.items ≡ with_touched entries.old.items item v op.now now.now)) }
     ensures not_made { IfOk result (λ made. OnFalse made (entries.new.items ≡ entries.old.items)) }
     ensures err { OnErr result (entries.new.items ≡ entries.old.items) }
 {
@@ -476,11 +473,10 @@ fn push_touched(
     item: ItemNo,
     op: &Op,
 ) -> Result<bool, NoMemory>
-    requires { IsTrue (may_touch v op.now (held_after_staged item ops.now held.now))
-        → IsTrue (has_room v (held_after_staged item ops.now held.now)) }
+    requires { HasRoomIfMade v op.now (held_after_staged item ops.now held.now) }
     ensures may { IfOk result (λ made. made ≡ may_touch v op.now (held_after_staged item ops.now held.now)) }
-    ensures made { IfOk result (λ made. OnTrue made (entries.new.items
-        ≡ with_touched entries.old.items item v op.now (held_after_staged item ops.now held.now))) }
+    ensures made { IfOk result (λ made. OnTrue made
+        (entries.new.items ≡ with_copied entries.old.items ops.now item v op.now held.now)) }
     ensures not_made { IfOk result (λ made. OnFalse made (entries.new.items ≡ entries.old.items)) }
     ensures err { OnErr result (entries.new.items ≡ entries.old.items) }
 {
@@ -553,7 +549,7 @@ fn touch_entry(
 ) -> Result<bool, NoMemory>
     requires within { place < length entries.old.items }
     requires room { IfSome (slice_get entries.old.items place)
-        (λ e. IsTrue (may_touch v op.now e.1) → IsTrue (has_room v e.1)) }
+        (λ e. HasRoomIfMade v op.now e.1) }
     ensures may { IfOk result (λ made. IfSome (slice_get entries.old.items place)
         (λ e. made ≡ may_touch v op.now e.1)) }
     ensures made { IfOk result (λ made. OnTrue made (ChangesAt place (touched v op.now)

@@ -1,8 +1,8 @@
 // The lines of items.
 ghost use Rattle.std.specs.Prelude.{◌≡◌, ◌++◌, OnOk, length};
 ghost use Rattle.std.specs.Str.{IsAscii};
-ghost use Rattle.report_text.specs.Report.{balance, balances, item_line};
-ghost use Rattle.report_text.specs.inside.Lines.{rows_lines};
+ghost use Rattle.report_text.specs.Report.{balance};
+ghost use Rattle.report_text.specs.inside.Lines.{balances_of_worth, line_of_worth, lines_of_worths};
 ghost use Rattle.tx_trees.specs.AsciiNames.{AreAsciiItems};
 
 use commute_ops::{Value, push_number};
@@ -38,8 +38,7 @@ pub(crate) fn push_rows(
     requires shown { length worth.shown.now ≡ length rows.now }
     requires later { length worth.later.now ≡ length rows.now }
     requires written { length worth.written.now ≡ length rows.now }
-    ensures { OnOk result (text.new ≡ text.old
-        ++ rows_lines advances rows.now worth.entry.shown.now worth.entry.later.now worth.entry.written.now) }
+    ensures { OnOk result (text.new ≡ text.old ++ lines_of_worths advances rows.now worth.entry) }
 {
     for (item, row) in rows.iter().enumerate() {
         let one = ItemWorth {
@@ -55,8 +54,7 @@ pub(crate) fn push_rows(
 // The line of an item.
 fn push_row(text: &mut Text, advances: u32, row: &ItemRow, worth: ItemWorth) -> Result<(), NoMemory>
     requires { IsAscii row.now.name }
-    ensures { OnOk result (text.new ≡ text.old
-        ++ item_line advances row.now worth.entry.shown.now worth.entry.later.now worth.entry.written) }
+    ensures { OnOk result (text.new ≡ text.old ++ line_of_worth advances row.now worth.entry) }
 {
     text.push_all(b"item ")?;
     text.push_all(row.name.bytes())?;
@@ -66,8 +64,7 @@ fn push_row(text: &mut Text, advances: u32, row: &ItemRow, worth: ItemWorth) -> 
 
 // What an item is worth at the version that reads are shown, and at the next if that is written.
 fn push_balances(text: &mut Text, advances: u32, worth: ItemWorth) -> Result<(), NoMemory>
-    ensures { OnOk result (text.new ≡ text.old
-        ++ balances advances worth.entry.shown.now worth.entry.later.now worth.entry.written) }
+    ensures { OnOk result (text.new ≡ text.old ++ balances_of_worth advances worth.entry) }
 {
     let version = Version(advances as u64);
     push_balance(text, version, worth.shown)?;

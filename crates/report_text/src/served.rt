@@ -1,9 +1,8 @@
 // What read trees show, each taken when its version is reached in one pass over the serial order.
 ghost use Rattle.std.specs.Prelude.{◌≡◌, ◌++◌, ◌+◌, ◌<◌, ◌≤◌, ◌^◌, IfOk, OnOk, length};
-ghost use Rattle.board_model.specs.Balances.{worths};
 ghost use Rattle.board_model.specs.SerialList.{IsSerial};
 ghost use Rattle.board_model.specs.Standings.{standings_of};
-ghost use Rattle.report_text.specs.inside.Served.{AreAsked, AreRead, AreTold, ask_at, asks_from, read_version, IsAskedFor, IsServedIn};
+ghost use Rattle.report_text.specs.inside.Served.{AreAllTold, AreAsked, AreRead, ask_at, asks_from, read_version, worths_in, IsAskedFor, IsServedIn};
 
 use crate::reads::{Reads, no_texts, values_of};
 use board_model::{Balances, Carried, Member, Members, Run, Standing, by_version, carry, start};
@@ -45,10 +44,8 @@ pub(crate) fn shown_of(
     requires serial { IsSerial run.script.now run.history.now run.serial.now }
     requires stood { standings.now ≡ standings_of run.script.now run.history.now }
     ensures reads { IfOk result (λ shown. AreRead run.entry.script.now run.entry.history.now shown.reads) }
-    ensures balances { IfOk result (λ shown.
-        shown.balances ≡ worths run.entry.script.now run.entry.history.now advances) }
-    ensures later { IfOk result (λ shown.
-        shown.later ≡ worths run.entry.script.now run.entry.history.now (advances + 1)) }
+    ensures balances { IfOk result (λ shown. shown.balances ≡ worths_in run.entry advances) }
+    ensures later { IfOk result (λ shown. shown.later ≡ worths_in run.entry (advances + 1)) }
 {
     let trees = run.script.trees();
     let found = asks_of(alloc, trees, standings)?;
@@ -157,7 +154,7 @@ fn serve_to(
     requires later { served.carried.version.0 ≤ version.0 }
     ensures served { IfOk result (IsServedIn pass.entry.run pass.entry.asks.now reads.new) }
     ensures version { IfOk result (λ r. r.carried.version ≡ version) }
-    ensures worths { IfOk result (λ r. r.carried.values ≡ worths pass.entry.run.script.now pass.entry.run.history.now version.0) }
+    ensures worths { IfOk result (λ r. r.carried.values ≡ worths_in pass.entry.run version.0) }
 {
     let list = pass.asks.items();
     let mut now = served;
@@ -175,9 +172,7 @@ fn serve_rest(pass: Pass, reads: &mut Reads, served: Served) -> Result<(), NoMem
     requires asks { AreAsked pass.run.script.now pass.run.history.now pass.asks.now }
     requires served { IsServedIn pass.run pass.asks.now reads.old served }
     ensures count { OnOk result (length reads.new ≡ length pass.entry.run.script.now.trees) }
-    ensures told { OnOk result
-        (AreTold pass.entry.run.script.now pass.entry.run.history.now pass.entry.asks.now
-        (length pass.entry.asks.now) reads.new) }
+    ensures told { OnOk result (AreAllTold pass.entry.run pass.entry.asks.now reads.new) }
 {
     let list = pass.asks.items();
     let mut now = served;

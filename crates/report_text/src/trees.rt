@@ -1,10 +1,10 @@
 // The lines of trees and of nodes.
 ghost use Rattle.std.specs.Prelude.{◌≡◌, ◌++◌, ◌<◌, ◌^◌, OnOk, length};
 ghost use Rattle.std.specs.Str.{IsAscii};
-ghost use Rattle.report_text.specs.inside.Lines.{trees_lines};
+ghost use Rattle.report_text.specs.inside.Lines.{lines_of_told};
 ghost use Rattle.tx_trees.specs.AsciiNames.{AreAsciiTrees};
 ghost use Rattle.report_text.specs.Report.{node_line, nodes_text, read_line, undone_mark, update_line};
-ghost use Rattle.report_text.specs.inside.Voters.{line_shown};
+ghost use Rattle.report_text.specs.inside.Voters.{line_of_told};
 
 use crate::outcomes::{Voters, push_strict};
 use crate::parts::push_version;
@@ -40,8 +40,7 @@ pub(crate) fn push_trees(
     requires standings { length told.standings.now ≡ length trees.now }
     requires reads { length told.reads.now ≡ length trees.now }
     requires ballots { length told.ballots.now ≡ length trees.now }
-    ensures { OnOk result (text.new ≡ text.old
-        ++ trees_lines script.now 0 trees.now told.entry.standings.now told.entry.reads.now told.entry.ballots.now) }
+    ensures { OnOk result (text.new ≡ text.old ++ lines_of_told script.now trees.now told.entry) }
 {
     for (t, tree) in trees.iter().enumerate() {
         let voters = Voters {
@@ -66,8 +65,7 @@ fn push_tree(
     told: TreeTold,
 ) -> Result<(), NoMemory>
     requires { IsAscii voters.tree.now.name }
-    ensures { OnOk result
-        (text.new ≡ text.old ++ line_shown script.now voters.entry told.entry.born told.entry.values.now) }
+    ensures { OnOk result (text.new ≡ text.old ++ line_of_told script.now voters.entry told.entry) }
 {
     let tree = voters.tree;
     match (tree.kind, told.born) {

@@ -239,13 +239,10 @@ drop-padded (suc k) r (vs ∷ vss) = drop-padded k r vss
 drop-padded (suc k) zero [] = refl
 drop-padded (suc k) (suc r) [] = drop-padded k r [] ∙ ap joined_gets (drop_all k [] (omega arith))
 
-get_or-all : {X : Type 0} (r i : ℕ) (x : X) → get_or (replicate r x) i x ≡ x
-get_or-all zero i x = refl
-get_or-all (suc r) zero x = refl
-get_or-all (suc r) (suc i) x = get_or-all r i x
-
 get_or-padded : (r : ℕ) (vss : List Gets) (i : ℕ) → get_or (padded r vss) i [] ≡ get_or vss i []
-get_or-padded r [] i = get_or-all r i []
+get_or-padded zero [] i = refl
+get_or-padded (suc r) [] zero = refl
+get_or-padded (suc r) [] (suc i) = get_or-padded r [] i
 get_or-padded r (vs ∷ vss) zero = refl
 get_or-padded r (vs ∷ vss) (suc i) = get_or-padded r vss i
 

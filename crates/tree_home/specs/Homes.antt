@@ -108,6 +108,10 @@ misses_of s (Some h) = is_missing (slice_get h.notices s.0)
 abbrev pub misses : TreeNo → SubNo → OpenTrees → Bool
 misses t s hs = misses_of s (home_in t hs)
 
+-- what a tree has gathered with one more notice, where none is missing then
+abbrev pub gathered_with : SubNo → Gets → OpenTree → Option Gets
+gathered_with s vs h = gathered (slice_set h.notices s.0 (Some vs))
+
 -- the answer of a tree with these values
 abbrev pub answer_with : TreeNo → OpenTree → Option Gets → Option Answered
 answer_with t h None = None
@@ -116,16 +120,20 @@ answer_with t h (Some vs) = Some (record { tree = t; version = h.version; values
 -- the answer of a tree that has one more notice, where none is missing then
 abbrev pub answer_of : TreeNo → SubNo → Gets → Option OpenTree → Option Answered
 answer_of t s vs None = None
-answer_of t s vs (Some h) = answer_with t h (gathered (slice_set h.notices s.0 (Some vs)))
+answer_of t s vs (Some h) = answer_with t h (gathered_with s vs h)
 
 -- its answer where it is open
 abbrev pub answer_in : TreeNo → SubNo → Gets → OpenTrees → Option Answered
 answer_in t s vs hs = answer_of t s vs (home_in t hs)
 
--- the trees after one more notice, by the answer that it gives: a tree that is answered is gone
+-- the trees after one more notice, by the answer that it gives: a tree that is answered is gone; and the same with the
+-- answer that it does give
 abbrev pub after_notice : TreeNo → SubNo → Gets → OpenTrees → Option Answered → OpenTrees
 after_notice t s vs hs None = noted t s vs hs
 after_notice t s vs hs (Some a) = forgotten t hs
+
+abbrev pub homes_after_notice : TreeNo → SubNo → Gets → OpenTrees → OpenTrees
+homes_after_notice t s vs hs = after_notice t s vs hs (answer_in t s vs hs)
 
 -- the version of an answer, where there is one
 abbrev pub answered_version : Option Answered → Option Version

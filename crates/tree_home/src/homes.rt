@@ -1,9 +1,9 @@
-ghost use Rattle.std.specs.Prelude.{ℕ, ◌≡◌, ◌≢◌, ◌++◌, ◌+◌, ◌-◌, ◌<◌, ◌≤◌, max, nat_lt, [], length, take, drop, IfOk, IfErr, IsNone, IsSome, IsTrue, OnErr, OnOk, Some, None, slice_set, slice_get, slice_index_or, vec_capacity, ◌↔◌};
+ghost use Rattle.std.specs.Prelude.{ℕ, ◌≡◌, ◌≢◌, ◌++◌, ◌+◌, ◌-◌, ◌<◌, ◌≤◌, max, nat_lt, [], length, take, drop, IfOk, IfErr, IsNone, IsSome, IsTrue, OnErr, OnOk, Some, None, slice_get, slice_index_or, vec_capacity, ◌↔◌};
 ghost use Rattle.std.specs.Option.{option_copied, is_some};
 ghost use Rattle.tree_home.specs.Maps.{AreAscending, by_tree, put_at};
 ghost use Rattle.tree_home.specs.HeldAnswers.{acked, answer_when_acked, held_answers, held_for, held_in, holding, waits_for_more};
 ghost use Rattle.tree_home.specs.Notices.{Gets, joined_gets, joined_with};
-ghost use Rattle.tree_home.specs.Homes.{no_homes, open_trees, home_in, new_tree, begun, with_notice, noted, forgotten, gathered, missing_count, missing_in, misses, is_missing, after_notice, answer_in, answer_of, last_version, outcome, prospect, prospect_of, IsNotedAmong, MissesSome, completed_version};
+ghost use Rattle.tree_home.specs.Homes.{no_homes, open_trees, home_in, new_tree, begun, with_notice, noted, forgotten, gathered_with, homes_after_notice, missing_count, missing_in, misses, is_missing, answer_of, last_version, outcome, prospect, prospect_of, IsNotedAmong, MissesSome, completed_version};
 
 use crate::table::TreeTable;
 use crate::tree_map::{find, insert, remove};
@@ -133,8 +133,8 @@ impl OpenTree {
         values: &[(ItemNo, Value)],
     ) -> Result<Values, NoMemory>
         requires { IsTrue (is_missing (slice_get self.now.notices sub.0)) }
-        ensures { IfOk result (λ all. missing_count self.now.notices ≤ 1
-            → gathered (slice_set self.now.notices sub.0 (Some values.now)) ≡ Some all) }
+        ensures { IfOk result
+            (λ all. missing_count self.now.notices ≤ 1 → gathered_with sub values.now self.now ≡ Some all) }
     {
         gather_lists(alloc, self.values.as_slice(), sub.0 as usize, values)
     }
@@ -264,8 +264,7 @@ impl Homes {
         requires { IsTrue (misses tree sub (open_trees self.old)) }
         ensures noted { IfOk result (λ told. told ≡ outcome tree sub values (open_trees self.old)) }
         ensures missing { IfOk result (λ told. MissesSome told) }
-        ensures homes { OnOk result (open_trees self.new
-            ≡ after_notice tree sub values (open_trees self.old) (answer_in tree sub values (open_trees self.old))) }
+        ensures homes { OnOk result (open_trees self.new ≡ homes_after_notice tree sub values (open_trees self.old)) }
         ensures held { self.new.held ≡ self.old.held }
         ensures refused { IfErr result (λ e. e.1 ≡ values) }
         ensures err { OnErr result (self.new ≡ self.old) }

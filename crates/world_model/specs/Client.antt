@@ -85,6 +85,10 @@ submit s c first = record {
 abbrev pub with_answer : ℕ → Client → Client
 with_answer t c = record c { answered = slice_set c.answered t true }
 
+-- there are places for the answers of that many more transactions, which aren't answered
+abbrev pub with_places : ℕ → Client → Client
+with_places k c = record c { answered = c.answered ++ replicate k false }
+
 -- one more advancement has ended, or that many have, if the coordinator may forget; the number stays at its type's end
 abbrev pub with_end : ScriptData → Version → Client → Client
 with_end s v c = record c { ended = if is_lossy s then max c.ended v.0 else min (c.ended + 1) (2 ^ 64 - 1) }

@@ -4,7 +4,7 @@ use Rattle.std.specs.List.{AllByRecursion}
 use Rattle.tv_base.specs.declared.numbers.TreeNo.{TreeNo}
 use Rattle.commute_ops.specs.declared.kinds.Kind.{Kind}
 use Rattle.letter_types.specs.declared.entries.Entry.{Entry}
-use Rattle.script_parts.specs.ScriptData.{ScriptData}
+use Rattle.script_parts.specs.ScriptData.{ScriptData, subs_at}
 use Rattle.script_parts.specs.declared.parts.ItemRow.{ItemRow}
 use Rattle.script_parts.specs.declared.parts.Deed.{Deed}
 use Rattle.script_parts.specs.declared.parts.Sub.{Sub}
@@ -15,7 +15,7 @@ use Rattle.board_rules.specs.Moves.{OneByOne}
 use Rattle.board_tallies.specs.Board.{BoardData, IsBoardOf, closes_in, OfBoard, tree_number}
 use Rattle.worth_steps.specs.Kept.{WorthsData, worths_back, AreWorthsWith}
 use Rattle.worth_steps.specs.Worth.{Noted, deed_suits}
-use Rattle.board_judge.specs.Notes.{AreKnown, tree_noted, subs_noted}
+use Rattle.board_judge.specs.Notes.{AreKnown, ops_noted, subs_noted, tree_noted}
 use Rattle.board_judge.specs.declared.rewriting.Altered.{Altered}
 use Rattle.board_judge.specs.declared.rewriting.ItemWorths.{ItemWorths}
 use Rattle.board_judge.specs.inside.Votes.{IsRightRead}
@@ -75,12 +75,22 @@ pub record HasNoted (more : ℕ → List Noted) (olds news : List WorthsData) : 
 abbrev pub one_noted : ℕ → Noted → ℕ → List Noted
 one_noted i n x = if i == x then n ∷ [] else []
 
--- one deed on an item; the deeds of a transaction's subtransactions, in version v
+-- one deed on an item, in version v; the deed of an operation, and of several
 abbrev pub HasNotedOne : ItemNo → ℕ → Deed → List WorthsData → List WorthsData → Type 0
 HasNotedOne item v deed olds news = HasNoted (one_noted item.0 (record { version = v; deed = deed })) olds news
 
+abbrev pub HasNotedOp : ℕ → SubOp → List WorthsData → List WorthsData → Type 0
+HasNotedOp v op olds news = HasNotedOne op.item v op.deed olds news
+
+abbrev pub HasNotedOps : ℕ → List SubOp → List WorthsData → List WorthsData → Type 0
+HasNotedOps v ops olds news = HasNoted (λ (x : ℕ). ops_noted v x ops) olds news
+
+-- the deeds of subtransactions, in version v, and of all those of transaction t
 abbrev pub HasNotedSubs : ℕ → List Sub → List WorthsData → List WorthsData → Type 0
 HasNotedSubs v subs olds news = HasNoted (λ (x : ℕ). subs_noted v x subs) olds news
+
+abbrev pub HasNotedTree : ScriptData → ℕ → ℕ → List WorthsData → List WorthsData → Type 0
+HasNotedTree s v t olds news = HasNotedSubs v (subs_at s t) olds news
 
 -- the deeds of a transaction that is closed, if there is one
 abbrev pub closed_noted : ScriptData → List Place → ℕ → Option TreeNo → List Noted

@@ -16,16 +16,25 @@ use Rattle.board_judge.specs.Views.{AreThere, MayLook, MayNeed, OfView}
 use Rattle.board_judge.specs.declared.standing.Need.{Need}
 use Rattle.board_judge.specs.declared.standing.NodeView.{NodeView}
 use Rattle.board_judge.specs.declared.users.User.{User}
-use Rattle.board_judge.specs.inside.Users.{first_tree, newer_item, stands_against}
+use Rattle.board_judge.specs.inside.Users.{first_tree, has_written, newer_item, newest_by, newest_with, stands_against}
 use Rattle.board_judge.specs.declared.at_once.Asked.{Asked}
 
 -- what holds of whatever acts this is the view after
 abbrev pub OfSeen : NodeView → (List Place → Type 0) → Type 0
 OfSeen v P = OfView v.script.now v.board.now v.users.now P
 
--- the transaction of the first of these operations that stands at the node against what is needed
+-- what holds of whatever acts the view's tallies are after
+abbrev pub OfTallies : NodeView → (List Place → Type 0) → Type 0
+OfTallies v P = OfBoard v.script.now v.board.now P
+
+-- the operation stands at the node against what is needed
+abbrev pub TellsStanding : NodeView → Need → User → Bool → Type 0
+TellsStanding v need user stands =
+    OfTallies v (λ xs. stands ≡ stands_against v.script.now xs v.node.0 need.tree.0 need.mode user)
+
+-- the transaction of the first of these operations that stands there against what is needed
 abbrev pub NamesFirst : NodeView → Need → List User → Option TreeNo → Type 0
-NamesFirst v need users found = OfBoard v.script.now v.board.now
+NamesFirst v need users found = OfTallies v
     (λ xs. tree_number found ≡ first_tree (stands_against v.script.now xs v.node.0 need.tree.0 need.mode) users)
 
 -- the transaction of least number that has the item there against what is needed
@@ -41,6 +50,18 @@ NamesConflict v t ops cause = OfSeen v (λ xs. AreThere v.script.now ops → May
 -- what is in the way of the subtransaction there
 abbrev pub NamesInWay : NodeView → Asked → Option Cause → Type 0
 NamesInWay v asked way = OfSeen v (λ xs. way ≡ in_way_of v.script.now xs v.node.0 asked.tree.0 asked.sub.0)
+
+-- the operation has written its item there
+abbrev pub TellsWritten : NodeView → User → Bool → Type 0
+TellsWritten v user written = OfTallies v (λ xs. written ≡ has_written v.script.now xs v.node.0 user)
+
+-- the greatest version of those of these operations that have written their item there; and that, or version m, of one
+-- of them
+abbrev pub IsNewestBy : NodeView → List User → ℕ → Type 0
+IsNewestBy v users newest = OfTallies v (λ xs. newest ≡ newest_by v.script.now xs v.node.0 users)
+
+abbrev pub IsNewestWith : NodeView → User → ℕ → ℕ → Type 0
+IsNewestWith v user m newest = OfTallies v (λ xs. newest ≡ newest_with v.script.now xs v.node.0 user m)
 
 -- the greatest version in which the item was written there
 abbrev pub IsNewestWritten : NodeView → ItemNo → ℕ → Type 0

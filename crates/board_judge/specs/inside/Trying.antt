@@ -10,6 +10,8 @@ use Rattle.worth_steps.specs.Kept.{WorthsData}
 use Rattle.board_judge.specs.Judged.{HasJudged, JudgeData}
 use Rattle.board_judge.specs.declared.judge.Refused.{Refused}
 use Rattle.board_judge.specs.declared.judge.Refused.TheVariants as refused
+use Rattle.board_judge.specs.declared.noting.Tallies.{Tallies}
+use Rattle.board_judge.specs.declared.rewriting.ItemWorths.{ItemWorths}
 use Rattle.board_judge.specs.declared.votes.Basis.{Basis}
 
 -- what was made of a script, with these tallies
@@ -33,6 +35,7 @@ IsTried j h e (Some rule) b ws = Breaks j.script h e rule
 abbrev pub IsTriedBy : JudgeData → Entry → BoardData → List WorthsData → Option Rule → Type 0
 IsTriedBy j e b ws broken = (h : List Entry) → HasJudged j h → IsTried j h e broken b ws
 
--- the same of what was made of a script, with the tallies and worths from which the entry is tried
-abbrev pub IsTriedFrom : Basis → BoardData → List WorthsData → Entry → BoardData → List WorthsData → Option Rule → Type 0
-IsTriedFrom basis b ws e b' ws' broken = IsTriedBy (judge_of basis b ws) e b' ws' broken
+-- the same of what was made of a script, with the tallies and worths from which the entry is tried, and those after it
+abbrev pub IsTriedFrom : Basis → Tallies → ItemWorths → Entry → Tallies → ItemWorths → Option Rule → Type 0
+IsTriedFrom basis tallies kept e tallies' kept' broken =
+    IsTriedBy (judge_of basis tallies.board kept.worths.items) e tallies'.board kept'.worths.items broken

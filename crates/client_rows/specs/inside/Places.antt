@@ -5,6 +5,8 @@ use Rattle.tx_trees.specs.declared.parts.ScriptRow.{ScriptRow}
 use Rattle.tx_trees.specs.declared.parts.ScriptRow.TheVariants.{Tree as TreeRow, Settle as SettleRow}
 use Rattle.world_model.specs.Client.{Client, submitted}
 use Rattle.client_rows.specs.Kept.{trees_in, unanswered_in}
+use Rattle.client_rows.specs.News.{answered_after, ended_after}
+use Rattle.client_rows.specs.declared.news.News.{News}
 use Rattle.client_rows.specs.declared.places.RowPlace.{RowPlace}
 
 -- all that was submitted up to a place has ended
@@ -37,3 +39,8 @@ furthest answered ended rows next = next + submitted (knowing answered ended) (t
 -- the place with as many rows submitted as are in the end, if `next` are by now
 abbrev pub furthest_place : List ScriptRow → List Bool → ℕ → ℕ → RowPlace
 furthest_place rows answered ended next = place_at rows answered (furthest answered ended rows next)
+
+-- the place after the last row that the client may submit once it has the news
+abbrev pub place_reached : List ScriptRow → News → Client → RowPlace
+place_reached rows news c =
+    furthest_place rows (answered_after news c.answered) (ended_after news c.ended) c.next

@@ -45,6 +45,14 @@ held_after_staged n (o ∷ os) h =
 abbrev pub with_touched : Table → ItemNo → Version → Op → Held → Table
 with_touched t item v op h = t ++ (item, touched v op h) ∷ []
 
+-- the same of an item as it is after those of the operations that are on it
+abbrev pub with_copied : Table → List StagedOp → ItemNo → Version → Op → Held → Table
+with_copied t os item v op h = with_touched t item v op (held_after_staged item os h)
+
+-- one operation more, that is to be made where its item is
+abbrev pub with_staged_op : List StagedOp → ItemNo → Version → Op → List StagedOp
+with_staged_op os item v op = os ++ record { item = item; version = v; op = op } ∷ []
+
 -- one of them is on the item
 abbrev pub has_op : ItemNo → List StagedOp → Bool
 has_op n [] = false

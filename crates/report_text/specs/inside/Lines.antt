@@ -13,7 +13,10 @@ use Rattle.tx_trees.specs.declared.parts.Tree.{Tree}
 use Rattle.board_model.specs.declared.standings.Standing.{Standing}
 use Rattle.report_text.specs.Outcomes.{outcome_of}
 use Rattle.history_text.specs.Values.{get_text}
-use Rattle.report_text.specs.Report.{item_line, tree_line}
+use Rattle.report_text.specs.Report.{balances, item_line, tree_line}
+use Rattle.report_text.specs.declared.items.AllWorth.{AllWorth}
+use Rattle.report_text.specs.declared.items.ItemWorth.{ItemWorth}
+use Rattle.report_text.specs.declared.trees.TreesTold.{TreesTold}
 
 -- a value after the name of its item, if both are there
 abbrev pub found_text : Option ItemRow → Option Value → List ℕ
@@ -38,6 +41,10 @@ trees_lines s t (tree ∷ ts) (st ∷ sts) (r ∷ rs) (b ∷ bs) =
 trees_lines s t [] sts rs bs = []
 trees_lines s t _ _ _ _ = []
 
+-- the same of what is told of these transactions, which are all
+abbrev pub lines_of_told : ScriptData → List Tree → TreesTold → List ℕ
+lines_of_told s ts told = trees_lines s 0 ts told.standings.now told.reads.now told.ballots.now
+
 -- the history in which transactions may have voted: only strict ones vote
 abbrev pub history_of_votes : ScriptData → List Entry → List Entry
 history_of_votes s h = if has_strict s then h else []
@@ -46,3 +53,14 @@ history_of_votes s h = if has_strict s then h else []
 abbrev pub rows_lines : ℕ → List ItemRow → List Value → List Value → List Bool → List ℕ
 rows_lines a (row ∷ rows) (w ∷ ws) (n ∷ ns) (b ∷ bs) = item_line a row w n b ++ rows_lines a rows ws ns bs
 rows_lines a _ _ _ _ = []
+
+-- the same of what items are worth
+abbrev pub lines_of_worths : ℕ → List ItemRow → AllWorth → List ℕ
+lines_of_worths a rows w = rows_lines a rows w.shown.now w.later.now w.written.now
+
+-- the line of an item that is worth this, and the values of it that are told there
+abbrev pub line_of_worth : ℕ → ItemRow → ItemWorth → List ℕ
+line_of_worth a row w = item_line a row w.shown.now w.later.now w.written
+
+abbrev pub balances_of_worth : ℕ → ItemWorth → List ℕ
+balances_of_worth a w = balances a w.shown.now w.later.now w.written

@@ -3,12 +3,14 @@ use Rattle.std.specs.Prelude.{◌≡◌, ◌<◌, ◌≤◌, ℕ, ◌+◌, true,
 use Rattle.std.specs.List.{list_any}
 use Rattle.std.specs.List.Sorted.{IsNonDecreasingBy}
 use Rattle.tv_base.specs.declared.numbers.Version.{Version}
+use Rattle.commute_ops.specs.declared.value.Value.{Value}
 use Rattle.letter_types.specs.declared.entries.Entry.{Entry}
 use Rattle.tx_trees.specs.ScriptData.{ScriptData, reads, subs_at}
 use Rattle.tx_trees.specs.declared.parts.Sub.{Sub}
 use Rattle.tx_trees.specs.declared.parts.Tree.{Tree}
 use Rattle.tx_trees.specs.declared.parts.TreeKind.{TreeKind}
 use Rattle.tx_trees.specs.declared.parts.TreeKind.TheVariants.{Update, Read, Strict}
+use Rattle.board_model.specs.Balances.{worths}
 use Rattle.board_model.specs.Carried.{IsCarried}
 use Rattle.board_rules.specs.Histories.{version_of}
 use Rattle.board_model.specs.declared.serial.Member.{Member}
@@ -56,6 +58,14 @@ abbrev pub AreTold : ScriptData → List Entry → List Member → ℕ → List 
 AreTold s h asks n texts =
     (i : ℕ) (d : Member) → i < n
     → slice_get texts (slice_index_or asks i d).tree.0 ≡ Some (values_of_tree s h (slice_index_or asks i d).tree.0)
+
+-- what all that were asked for in a run show is listed
+abbrev pub AreAllTold : Run → List Member → List (List ℕ) → Type 0
+AreAllTold run asks texts = AreTold run.script.now run.history.now asks (length asks) texts
+
+-- what all items are worth in a run at version v
+abbrev pub worths_in : Run → ℕ → List Value
+worths_in run v = worths run.script.now run.history.now v
 
 -- those before the place show their values, and the others are of the version that was reached or of later ones
 pub record IsServed (s : ScriptData) (h : List Entry) (serial asks : List Member) (texts : List (List ℕ))

@@ -9,6 +9,7 @@ use Rattle.history_text.specs.TreeNames.{got_text}
 use Rattle.report_text.specs.Outcomes.{decided_text, outcome_of, strict_line}
 use Rattle.report_text.specs.Report.{tree_line}
 use Rattle.report_text.specs.declared.outcomes.Voters.{Voters}
+use Rattle.report_text.specs.declared.trees.TreeTold.{TreeTold}
 
 -- the values of a vote, if it is there; and of all positive votes
 abbrev pub vote_text : ScriptData → Option Vote → List ℕ
@@ -24,9 +25,12 @@ decision_text s v commit = decided_text s v.ballot.now v.number.0 v.tree.now.sub
 abbrev pub outcome_text : ScriptData → Voters → List ℕ
 outcome_text s v = outcome_of s v.ballot.now v.number.0 v.tree.now.subs
 
--- its line; and the line of any transaction, by the text of what it shows
+-- its line; and the line of any transaction, by the text of what it shows, and by what is told of it
 abbrev pub voters_line : ScriptData → Voters → Version → List ℕ
 voters_line s v version = strict_line v.tree.now.name version.0 (outcome_text s v)
 
 abbrev pub line_shown : ScriptData → Voters → Option Version → List ℕ → List ℕ
 line_shown s v born values = tree_line v.tree.now v.tree.now.kind born (λ _. values) (outcome_text s v)
+
+abbrev pub line_of_told : ScriptData → Voters → TreeTold → List ℕ
+line_of_told s v told = line_shown s v told.born told.values.now

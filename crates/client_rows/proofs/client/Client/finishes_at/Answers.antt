@@ -1,9 +1,8 @@
 use Rattle.std.proofs.Common.{◌≡◌, ◌∙◌, sym, subst}
-use Rattle.world_model.specs.Client.{client_finishes, next_after}
 use Rattle.client_rows.specs.Kept.{Kept}
 use Rattle.client_rows.specs.Held.{kept_here}
-use Rattle.client_rows.specs.News.{answered_after, client_with_news, ended_after}
-use Rattle.client_rows.specs.inside.Places.{furthest_place}
+use Rattle.client_rows.specs.inside.Heard.{finishes_with_news}
+use Rattle.client_rows.specs.inside.Places.{place_reached}
 use Rattle.client_rows.proofs.Submits.{finish_at, same_finish}
 use Rattle.client_rows.proofs.client.Client.finishes_at.Goals as goal
 
@@ -14,10 +13,10 @@ returns c =
     let at = c.reaches-at.result in
     let held : Kept = kept_here c.self.inside in
     let place = subst
-    (λ (k : Kept). at ≡ furthest_place s.rows (answered_after news k.client.answered) (ended_after news k.client.ended) k.client.next)
+    (λ (k : Kept). at ≡ place_reached s.rows news k.client)
     (sym c.self.view_is) c.reaches-at.ensures.place in
     let finish = c.finishes.ensures ∙ same_finish at held.client.finished c.rows.ensures c.ended_after-ended.ensures in
     subst
-    (λ (k : Kept). c.finishes.result ≡ client_finishes s (next_after s (client_with_news news k.client)) (client_with_news news k.client))
+    (λ (k : Kept). c.finishes.result ≡ finishes_with_news s news k.client)
     c.self.view_is
     (finish_at s news held.client at c.finishes.result place finish)

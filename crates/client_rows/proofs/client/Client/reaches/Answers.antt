@@ -3,8 +3,7 @@ use Rattle.tx_trees.specs.Adding.{advances_in}
 use Rattle.tx_trees.specs.declared.parts.ScriptRow.{ScriptRow}
 use Rattle.client_rows.specs.Kept.{Kept}
 use Rattle.client_rows.specs.Held.{kept_here}
-use Rattle.client_rows.specs.News.{answered_after, ended_after}
-use Rattle.client_rows.specs.inside.Places.{furthest_place}
+use Rattle.client_rows.specs.inside.Places.{place_reached}
 use Rattle.client_rows.specs.declared.places.RowPlace.{RowPlace}
 use Rattle.client_rows.proofs.Submits.{same_place}
 use Rattle.client_rows.proofs.client.Client.reaches.Goals as goal
@@ -32,6 +31,6 @@ returns-clause-place c =
     let from : c.with_news-known.result.next ≡ held.client.next = ap (λ (p : RowPlace). p.next) c.with_news-known.ensures in
     subst
     (λ (k : Kept). c.furthest.result
-    ≡ furthest_place s.rows (answered_after news k.client.answered) (ended_after news k.client.ended) k.client.next)
+    ≡ place_reached s.rows news k.client)
     c.self.view_is
     (c.furthest.ensures.place ∙ same_place news c.rows-rows.ensures c.deref-2.ensures.value c.ended_after-ended.ensures from)

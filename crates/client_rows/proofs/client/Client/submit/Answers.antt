@@ -5,9 +5,9 @@ use Rattle.client_rows.specs.Changes.{IsClientStepOf}
 use Rattle.world_model.specs.Client.{Client, advances_sent, rows_letters}
 use Rattle.client_rows.specs.Kept.{Kept, IsKeptOf}
 use Rattle.client_rows.specs.Held.{kept_here}
-use Rattle.client_rows.specs.News.{answered_after, ended_after, sent_first}
+use Rattle.client_rows.specs.News.{sent_first}
 use Rattle.client_rows.specs.inside.Heard.{submit_at}
-use Rattle.client_rows.specs.inside.Places.{furthest_place}
+use Rattle.client_rows.specs.inside.Places.{place_reached}
 use Rattle.client_rows.specs.declared.change.ClientChange.TheVariants.{Submit}
 use Rattle.client_rows.proofs.Bounds.{submission-step}
 use Rattle.client_rows.proofs.Counts.{few_more_asked}
@@ -37,7 +37,7 @@ returns c =
     let asked : held.asked ≡ advances_sent s old = ap (λ (k : Kept). k.asked) kept.numbers in
     let made_here : Submission s news old at c.finishes-finishes.result c.in_ok-out.out = record {
       place = subst
-          (λ (k : Kept). at ≡ furthest_place s.rows (answered_after news k.client.answered) (ended_after news k.client.ended) k.client.next)
+          (λ (k : Kept). at ≡ place_reached s.rows news k.client)
           (sym c.self.view_is) c.reaches-at.ensures.place;
       finish = c.finishes-finishes.ensures ∙ same_finish at old.finished c.rows-rows.ensures c.ended_after.ensures;
       sent = c.in_ok-out.ensures.sent
