@@ -51,7 +51,7 @@ pub fn is_in_range(form: Form, deed: Deed) -> bool
     is_size_in_range(form, deed, magnitude(deed))
 }
 
-/// The same of an operation whose magnitude is known.
+/// Whether an operation's amount, which is of magnitude `size`, is in the form's range.
 #[inline(always)]
 pub fn is_size_in_range(form: Form, deed: Deed, size: u128) -> bool
     requires { size ≡ magnitude deed }
