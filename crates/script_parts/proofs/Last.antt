@@ -1,7 +1,8 @@
 -- The last of a list, and a change of it, by its place.
-use Rattle.std.proofs.Common.{◌≡◌, ◌-◌, ℕ, suc, zero, List, [], ◌∷◌, ◌++◌, length, get_or, refl, sym, ap, ◌∙◌, arith}
+use Rattle.std.proofs.Common.{◌≡◌, ◌-◌, ◌<◌, ℕ, suc, zero, List, [], ◌∷◌, ◌++◌, length, get_or, refl, sym, ap, ◌∙◌, arith}
 use Rattle.std.specs.Prelude.{None, Some, Result, Ok, Err, OnErr, slice_get}
 use Rattle.std.proofs.Math.ListN.{set}
+use Rattle.std.proofs.lemmas.List.{set-get_or}
 use Rattle.script_parts.specs.declared.parts.Sub.{Sub}
 use Rattle.script_parts.specs.declared.parts.SubOp.{SubOp}
 use Rattle.script_parts.specs.declared.parts.Tree.{Tree}
@@ -36,6 +37,13 @@ got_at (x ∷ y ∷ ys) (suc k) e = got_at (y ∷ ys) k (omega arith)
 pub last_got : {A : Type 0} (xs : List A) → slice_get xs (length xs - 1) ≡ last_of xs
 last_got [] = refl
 last_got (x ∷ xs) = got_at (x ∷ xs) (length (x ∷ xs) - 1) (omega arith)
+
+-- the last that is lent
+pub lent_last : {A : Type 0} (xs : List A) (x : A) → 0 < length xs → Some x ≡ slice_get xs (length xs - 1) → x ≡ get_or xs (length xs - 1) x
+lent_last xs x some e =
+    let at : suc (length xs - 1) ≡ length xs = omega (arith, some) in
+    let same : Some x ≡ Some (get_or xs (length xs - 1) x) = e ∙ last_got xs ∙ last_is xs (length xs - 1) x at in
+    cc same
 
 pub length-on_last : {A : Type 0} (f : A → A) (xs : List A) → length (on_last f xs) ≡ length xs
 length-on_last f [] = refl
@@ -73,6 +81,10 @@ push_last_op ts k t o subs e is pushed = rw pushed (ap (λ (u : Tree). set ts k 
 pub push_op_last : (ss : List Sub) (k : ℕ) (s : Sub) (o : SubOp) (ops : List SubOp) → suc k ≡ length ss → s ≡ get_or ss k s → ops ≡ s.ops ++ o ∷ []
     → set ss k (let u : Sub = record s { ops = ops } in u) ≡ on_last (push_op o) ss
 push_op_last ss k s o ops e is pushed = rw pushed (ap (λ (u : Sub). set ss k (push_op o u)) is ∙ on_last_is (push_op o) ss k s e)
+
+-- the last subtransaction, put back as it was
+pub put_back_last : (ss : List Sub) (k : ℕ) (s : Sub) (ops : List SubOp) → s ≡ get_or ss k s → ops ≡ s.ops → set ss k (let u : Sub = record s { ops = ops } in u) ≡ ss
+put_back_last ss k s ops is same = rw same (ap (λ (u : Sub). set ss k u) is ∙ set-get_or ss k s)
 
 pub on_err : {T E : Type 0} (P : Type 0) (r : Result T E) → P → OnErr r P
 on_err P (Ok t) p = tt

@@ -31,6 +31,7 @@ pub fn are_spread(nodes: u8, trees: u32) -> bool
 }
 
 /// 1 if a tree of this kind is strict, else 0.
+#[inline(always)]
 pub fn one_strict(kind: TreeKind) -> u32
     ensures { result ≡ one_if (is_strict kind) }
 {
@@ -42,6 +43,7 @@ pub fn one_strict(kind: TreeKind) -> u32
 }
 
 /// 1 if a tree of this kind is an update tree, else 0.
+#[inline(always)]
 pub fn one_update(kind: TreeKind) -> u32
     ensures { result ≡ if_update kind 1 }
 {
@@ -53,6 +55,7 @@ pub fn one_update(kind: TreeKind) -> u32
 }
 
 /// 1 if the operation is a `put`, else 0.
+#[inline(always)]
 pub fn one_put(deed: Deed) -> u64
     ensures { result ≡ one_put deed }
 {
@@ -63,6 +66,7 @@ pub fn one_put(deed: Deed) -> u64
 }
 
 /// The kind of the last tree.
+#[inline(always)]
 pub fn last_kind(trees: &[Tree]) -> TreeKind
     requires { 0 < length trees.now }
     ensures { result ≡ last_kind trees.now }
@@ -90,6 +94,7 @@ fn touch(subs: &[Sub], item: usize) -> bool
 }
 
 /// Whether the last tree is strict, and has an operation on the item.
+#[inline(always)]
 pub fn has_touched(trees: &[Tree], item: usize) -> bool
     requires { 0 < length trees.now }
     ensures { result ≡ has_touched item trees.now }

@@ -6,13 +6,13 @@ ghost use Rattle.script_parts.specs.Adding.{item_kind_at, last_count, last_node,
 use crate::parts::{Deed, ItemRow, Sub, SubOp, Subs, Tree, TreeKind};
 use commute_ops::{Kind, Op};
 use std::alloc::Global;
-use std::mem;
 use tv_base::{Name, NoMemory, NodeNo, Seq, SubNo};
 
 /// A tree has room for this many subtransactions from the start. Most have no more.
 const FEW_SUBS: usize = 4;
 
 /// The node of an item.
+#[inline(always)]
 pub fn node_at(items: &[ItemRow], item: usize) -> NodeNo
     requires { item < length items.now }
     ensures { result.0 ≡ node_at item items.now }
@@ -21,6 +21,7 @@ pub fn node_at(items: &[ItemRow], item: usize) -> NodeNo
 }
 
 /// The kind of an item.
+#[inline(always)]
 pub fn kind_at(items: &[ItemRow], item: usize) -> Kind
     requires { item < length items.now }
     ensures { result ≡ item_kind_at item items.now }
@@ -29,6 +30,7 @@ pub fn kind_at(items: &[ItemRow], item: usize) -> Kind
 }
 
 /// Whether a tree of this kind may have this operation on an item of that kind.
+#[inline(always)]
 pub fn deed_fits(tree: TreeKind, kind: Kind, deed: Deed) -> bool
     ensures { result ≡ deed_fits tree kind deed }
 {
@@ -44,6 +46,7 @@ pub fn deed_fits(tree: TreeKind, kind: Kind, deed: Deed) -> bool
 }
 
 // Whether the operation is of the kind.
+#[inline(always)]
 fn op_fits(kind: Kind, op: Op) -> bool
     ensures { result ≡ op_fits kind op }
 {
@@ -64,6 +67,7 @@ pub fn last_subs(trees: &[Tree]) -> usize
 }
 
 /// The node of the last subtransaction of the last tree.
+#[inline(always)]
 pub fn last_node(trees: &[Tree]) -> NodeNo
     requires trees { 0 < length trees.now }
     requires subs { 0 < last_subs trees.now }
@@ -76,6 +80,7 @@ pub fn last_node(trees: &[Tree]) -> NodeNo
 }
 
 /// How many operations the last subtransaction of the last tree has, 0 if there is none.
+#[inline(always)]
 pub fn count_last_ops(trees: &[Tree]) -> usize
     ensures { result ≡ last_count trees.now }
 {
@@ -89,6 +94,7 @@ pub fn count_last_ops(trees: &[Tree]) -> usize
 }
 
 /// A subtransaction with no operation, and room for `room` of them.
+#[inline(always)]
 pub fn empty_sub(alloc: Global, parent: SubNo, node: NodeNo, room: usize) -> Result<Sub, NoMemory>
     ensures { IfOk result (λ s. s ≡ record { parent = parent; node = node; ops = [] }) }
 {
@@ -97,6 +103,7 @@ pub fn empty_sub(alloc: Global, parent: SubNo, node: NodeNo, room: usize) -> Res
 }
 
 /// A tree with its root alone, which has room for `room` operations.
+#[inline(always)]
 pub fn rooted(
     alloc: Global,
     name: Name,
@@ -108,7 +115,7 @@ pub fn rooted(
 {
     let root = empty_sub(alloc, SubNo(0), node, room)?;
     let mut subs = Seq::with_capacity(alloc, FEW_SUBS)?;
-    subs.push(root)?;
+    subs.add(root)?;
     Ok(Tree {
         name,
         kind,
@@ -125,31 +132,25 @@ pub fn push_sub(trees: &mut Vec<Tree>, sub: Sub) -> Result<(), NoMemory>
 {
     let last = trees.len() - 1;
     let tree = &mut trees[last];
-    if let Err((none, _)) = tree.subs.push(sub) {
-        return Err(none);
-    }
+    tree.subs.add(sub)?;
     Ok(())
 }
 
 // Puts an operation after those of the last subtransaction.
-fn push_to_last(alloc: Global, subs: &mut Subs, op: SubOp) -> Result<(), NoMemory>
+#[inline(always)]
+fn push_to_last(subs: &mut Subs, op: SubOp) -> Result<(), NoMemory>
     requires { 0 < length subs.old }
     ensures ok { OnOk result (subs.new ≡ on_last (push_op op) subs.old) }
     ensures err { OnErr result (subs.new ≡ subs.old) }
 {
-    let mut open = mem::replace(subs, Seq::new(alloc)).into_vec();
-    let last = open.len() - 1;
-    let sub = &mut open[last];
-    let pushed = sub.ops.push(op);
-    *subs = Seq::from_vec(open);
-    if let Err((none, _)) = pushed {
-        return Err(none);
-    }
+    let sub = subs.last_mut().unwrap();
+    sub.ops.add(op)?;
     Ok(())
 }
 
 /// Puts an operation after those of the last tree's last subtransaction, or changes nothing if no memory is found.
-pub fn push_op(alloc: Global, trees: &mut Vec<Tree>, op: SubOp) -> Result<(), NoMemory>
+#[inline(always)]
+pub fn push_op(trees: &mut Vec<Tree>, op: SubOp) -> Result<(), NoMemory>
     requires trees { 0 < length trees.old.items }
     requires subs { 0 < last_subs trees.old.items }
     ensures ok { OnOk result (trees.new.items ≡ on_last (on_last_sub (push_op op)) trees.old.items) }
@@ -157,5 +158,5 @@ pub fn push_op(alloc: Global, trees: &mut Vec<Tree>, op: SubOp) -> Result<(), No
 {
     let last = trees.len() - 1;
     let tree = &mut trees[last];
-    push_to_last(alloc, &mut tree.subs, op)
+    push_to_last(&mut tree.subs, op)
 }

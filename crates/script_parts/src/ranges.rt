@@ -7,6 +7,7 @@ use crate::parts::{Deed, Form, ItemRow};
 use commute_ops::{Amount, Kind, Op};
 
 // The magnitude of the amount of a commuting operation.
+#[inline(always)]
 fn op_magnitude(op: Op) -> u128
     ensures { result ≡ op_magnitude op }
 {
@@ -18,6 +19,7 @@ fn op_magnitude(op: Op) -> u128
 }
 
 /// The magnitude of the amount that an operation names.
+#[inline(always)]
 pub fn magnitude(deed: Deed) -> u128
     ensures { result ≡ magnitude deed }
 {
@@ -30,6 +32,7 @@ pub fn magnitude(deed: Deed) -> u128
 }
 
 // Whether the operation lowers by a negative amount.
+#[inline(always)]
 fn draws_negative(deed: Deed) -> bool
     ensures { result ≡ draws_negative deed }
 {
@@ -41,10 +44,20 @@ fn draws_negative(deed: Deed) -> bool
 
 /// Whether an operation's amount is in the form's range: of magnitude `most_amount` or less, and not negative in a
 /// `draw`.
+#[inline(always)]
 pub fn is_in_range(form: Form, deed: Deed) -> bool
     ensures { result ≡ is_in_range form deed }
 {
-    magnitude(deed) <= form.most_amount() && !draws_negative(deed)
+    is_size_in_range(form, deed, magnitude(deed))
+}
+
+/// Whether an operation's amount, which is of magnitude `size`, is in the form's range.
+#[inline(always)]
+pub fn is_size_in_range(form: Form, deed: Deed, size: u128) -> bool
+    requires { size ≡ magnitude deed }
+    ensures { result ≡ is_in_range form deed }
+{
+    size <= form.most_amount() && !draws_negative(deed)
 }
 
 /// The magnitude of an item's initial value.

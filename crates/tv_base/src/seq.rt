@@ -1,5 +1,7 @@
 // The one list type of the public surface.
-ghost use Rattle.std.specs.Prelude.{◌≡◌, ◌+◌, ◌<◌, ◌≤◌, ◌↔◌, [], ◌∷◌, ◌++◌, length, slice_set, slice_get, vec_capacity, vec_len, Some, IsNone, OnOk, OnErr, IfErr, IfOk, IfSome};
+ghost use Rattle.std.specs.Borrow.{sem};
+ghost use Rattle.std.specs.Option.{option_copied_mut};
+ghost use Rattle.std.specs.Prelude.{◌≡◌, ◌+◌, ◌-◌, ◌<◌, ◌≤◌, ◌↔◌, [], ◌∷◌, ◌++◌, length, slice_set, slice_get, vec_capacity, vec_len, Some, IsNone, IsSome, OnOk, OnErr, IfErr, IfOk, IfSome};
 
 use crate::numbers::NoMemory;
 use std::alloc::Global;
@@ -32,6 +34,8 @@ impl<T, const MOST: usize> Model for Seq<T, MOST> {
 }
 
 impl<T, const MOST: usize> Seq<T, MOST> {
+    ghost use Rattle.tv_base.specs.Lending.{lends_at};
+
     /// An empty list.
     pub fn new(alloc: Global) -> Seq<T, MOST>
         ensures { result ≡ [] }
@@ -85,6 +89,32 @@ impl<T, const MOST: usize> Seq<T, MOST> {
         }
         self.inner.push_reserved(one);
         Ok(())
+    }
+
+    /// Adds an item at the end. A list that is full, or finds no memory, stays as it is, and the item is let go.
+    #[inline(always)]
+    pub fn add(&mut self, one: T) -> Result<(), NoMemory>
+    where
+        T: Drop,
+        ensures ok { OnOk result (self.new ≡ self.old ++ one ∷ []) }
+        ensures err { OnErr result (self.new ≡ self.old) }
+    {
+        if MOST <= self.inner.len() {
+            return Err(NoMemory);
+        }
+        make_room(&mut self.inner)?;
+        self.inner.push_reserved(one);
+        Ok(())
+    }
+
+    /// The last item, to be changed where it is. None exactly if the list is empty.
+    #[inline(always)]
+    pub fn last_mut(&mut self) -> Option<&mut T>
+        ensures* writes_back { sem 𝓛 (lends_at T.row MOST.row self.entry (length self.old - 1) result) }
+        ensures some { IsSome result ↔ (0 < length self.old) }
+        ensures value { option_copied_mut result ≡ slice_get self.old (length self.old - 1) }
+    {
+        self.inner.last_mut()
     }
 
     /// Makes room for `room` more items. A list that would be too long, or finds no memory, stays as it is.
@@ -142,6 +172,7 @@ impl<T, const MOST: usize> Seq<T, MOST> {
 }
 
 /// Makes room for one more item. A short list has no place to spare: most lists of a run stay as short as they are made.
+#[inline(always)]
 fn make_room<T>(items: &mut Vec<T>) -> Result<(), NoMemory>
     ensures items { items.new.items ≡ items.old.items }
     ensures room { OnOk result (vec_len items.new < vec_capacity items.new) }

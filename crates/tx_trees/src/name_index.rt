@@ -1,5 +1,5 @@
 // Names that are numbered in the order in which they came.
-ghost use Rattle.std.specs.Prelude.{◌≡◌, ◌<◌, ◌++◌, ◌∷◌, [], false, length, position, IfSome, OnErr, OnOk};
+ghost use Rattle.std.specs.Prelude.{◌≡◌, ◌<◌, ◌++◌, ◌∷◌, [], false, if◌then◌else◌, length, not, position, IfOk, IfSome, OnErr, OnOk};
 ghost use Rattle.std.specs.List.{list_any};
 ghost use Rattle.std.specs.Str.{bytes_eq};
 
@@ -45,6 +45,16 @@ impl NameIndex {
         ensures { result ≡ list_any (bytes_eq name.now) self.now }
     {
         self.names.contains(name)
+    }
+
+    // Adds a name if it isn't there. Whether it did. Running out of memory leaves the names as they were.
+    pub(crate) fn add_new(&mut self, name: Name) -> Result<bool, NoMemory>
+        ensures new { IfOk result (λ new. list_any (bytes_eq name) self.old ≡ not new) }
+        ensures ok { IfOk result (λ new. self.new ≡ (if new then self.old ++ name ∷ [] else self.old)) }
+        ensures err { OnErr result (self.new ≡ self.old) }
+    {
+        let added = self.names.insert(name)?;
+        Ok(added)
     }
 
     // Adds a name that isn't there. Running out of memory leaves the names as they were.

@@ -1,5 +1,5 @@
 // A script, which is valid whatever was added.
-ghost use Rattle.std.specs.Prelude.{ℕ, true, false, not, if◌then◌else◌, ◌≡◌, Some, None, ◌<◌, ◌≤◌, ◌+◌, ◌==◌, length, is_some, nat_lt, IfOk, IfSome, IsNone, OnErr, OnOk};
+ghost use Rattle.std.specs.Prelude.{ℕ, true, false, not, if◌then◌else◌, ◌≡◌, Some, None, ◌<◌, ◌≤◌, ◌+◌, ◌==◌, length, is_some, nat_le, nat_lt, IfOk, IfSome, IsNone, OnErr, OnOk};
 ghost use Rattle.std.specs.List.{AllByRecursion};
 ghost use Rattle.tv_base.specs.declared.numbers.TheConstants.{MOST_SUBS_OF_TREE};
 ghost use Rattle.commute_ops.specs.declared.kinds.TheConstants.{MOST_AMOUNT};
@@ -8,7 +8,8 @@ ghost use Rattle.script_parts.specs.Amounts.{magnitude};
 ghost use Rattle.script_parts.specs.Counts.{advances_in, all_ops, all_subs, has_strict, update_subs, is_lossy};
 ghost use Rattle.script_parts.specs.Forms.{most_amount, most_nodes};
 ghost use Rattle.script_parts.specs.Undone.{undone};
-ghost use Rattle.script_parts.specs.inside.Passing.{MayAddItem, MayAddOp, MayAddSub, MayAddTree, MayUndo};
+ghost use Rattle.script_parts.specs.inside.Passing.{MayAddItem, MayAddOp, MayAddSub, MayUndo};
+ghost use Rattle.script_parts.specs.Names.{is_name};
 ghost use Rattle.script_parts.specs.Same.{same_script};
 ghost use Rattle.script_parts.specs.SameFacts.{script_laws};
 ghost use Rattle.script_parts.specs.ScriptData.{is_child, subs_at, visits};
@@ -27,7 +28,7 @@ use script_parts::lookups::{
     push_sub, rooted,
 };
 use script_parts::parts::{Deed, Form, ItemRow, ScriptRow, Sub, SubOp, Subs, Tree, TreeKind};
-use script_parts::ranges::{initial_size, is_in_range, magnitude, may_start};
+use script_parts::ranges::{initial_size, is_size_in_range, magnitude, may_start};
 use script_parts::same::same_form;
 use script_parts::why::{Refusal, Why};
 use std::alloc::Global;
@@ -273,6 +274,7 @@ impl Script {
     }
 
     // The number of the item of this name.
+    #[inline(always)]
     fn item_number(&self, name: &Name) -> Option<usize>
         ensures number { result ≡ place_of name.now self.now.items }
         ensures within { IfSome result (λ k. k < length self.now.items) }
@@ -371,14 +373,16 @@ impl Script {
         if !is_plain_name(name.bytes()) {
             return Err(Refusal::Why(Why::BadName));
         }
-        if self.names_tree(&name) {
-            return Err(Refusal::Why(Why::NameTaken));
-        }
         if self.has_no_tree_left(kind) {
+            if self.names_tree(&name) {
+                return Err(Refusal::Why(Why::NameTaken));
+            }
             return Err(Refusal::Why(Why::TooMany));
         }
         let number = TreeNo(self.trees.len() as u32);
-        self.put_tree(name, kind, node)?;
+        if !self.put_tree(name, kind, node)? {
+            return Err(Refusal::Why(Why::NameTaken));
+        }
         Ok(number)
     }
 
@@ -394,25 +398,32 @@ impl Script {
             || are_many(strict, self.update_subs + one_update(kind))
     }
 
-    // Puts a tree with its root alone, to which nothing is opposed, after the others. A subtransaction is often like the
-    // one before it, so it has room for as many operations.
-    fn put_tree(&mut self, name: Name, kind: TreeKind, node: NodeNo) -> Result<(), NoMemory>
-        requires { MayAddTree self.old name kind node }
-        ensures ok { OnOk result (self.new ≡ with_tree self.old name kind node) }
+    // Puts a tree with its root alone, to which nothing else is opposed, after the others, unless a tree has its name.
+    // Whether it did. A subtransaction is often like the one before it, so it has room for as many operations.
+    #[inline(always)]
+    fn put_tree(&mut self, name: Name, kind: TreeKind, node: NodeNo) -> Result<bool, NoMemory>
+        requires place { nat_le self.old.nodes node.0 ≡ false }
+        requires plain { is_name name ≡ true }
+        requires room { has_no_tree_left self.old.nodes kind self.old.trees ≡ false }
+        ensures free { IfOk result (λ put. names_tree name self.old.trees ≡ not put) }
+        ensures put { IfOk result (λ put. self.new ≡ (if put then with_tree self.old name kind node else self.old)) }
         ensures err { OnErr result (self.new ≡ self.old) }
     {
         let number = TreeNo(self.trees.len() as u32);
         let tree = rooted(self.alloc, name, kind, node, count_last_ops(&self.trees))?;
         self.rows.reserve(1)?;
         self.trees.reserve(1)?;
-        self.tree_names.add(name)?;
-        let _ = self.trees.push(tree);
-        let _ = self.rows.push(ScriptRow::Tree(number));
+        let new = self.tree_names.add_new(name)?;
+        if !new {
+            return Ok(false);
+        }
+        self.trees.push_reserved(tree);
+        self.rows.push_reserved(ScriptRow::Tree(number));
         self.subs += 1;
         self.strict += one_strict(kind);
         self.update_subs += one_update(kind);
         self.begun = true;
-        Ok(())
+        Ok(true)
     }
 
     /// Adds a subtransaction to the tree that is begun, and gives its place there. A refusal is the first that holds of
@@ -474,7 +485,8 @@ impl Script {
     pub fn add_op(&mut self, item: &Name, deed: Deed) -> Result<(), Refusal>
         ensures { Steps (adds_op self.old item.now deed) result self.old self.new }
     {
-        if !is_in_range(self.form, deed) {
+        let size = magnitude(deed);
+        if !is_size_in_range(self.form, deed, size) {
             return Err(Refusal::Why(Why::OutOfRange));
         }
         let Some(number) = self.item_number(item) else {
@@ -492,17 +504,18 @@ impl Script {
         if self.has_no_op_left(number, deed) {
             return Err(Refusal::Why(Why::TooMany));
         }
-        if self.is_too_much(number, deed) {
+        if self.is_too_much(number, size) {
             return Err(Refusal::Why(Why::TooMuch));
         }
         if has_touched(&self.trees, number) {
             return Err(Refusal::Why(Why::ItemTwice));
         }
-        self.put_op(number, deed)?;
+        self.put_op(number, deed, size)?;
         Ok(())
     }
 
     // Whether the item is at the node of the last subtransaction.
+    #[inline(always)]
     fn is_here(&self, item: usize) -> bool
         requires item { item < length self.now.items }
         requires begun { self.now.begun ≡ true }
@@ -512,6 +525,7 @@ impl Script {
     }
 
     // Whether the last tree may have this operation on the item.
+    #[inline(always)]
     fn fits(&self, item: usize, deed: Deed) -> bool
         requires item { item < length self.now.items }
         requires begun { self.now.begun ≡ true }
@@ -521,6 +535,7 @@ impl Script {
     }
 
     // Whether with one more operation on the item a limit would be passed.
+    #[inline(always)]
     fn has_no_op_left(&self, item: usize, deed: Deed) -> bool
         requires { item < length self.now.items }
         ensures { result ≡ has_no_op_left item deed self.now.trees }
@@ -530,24 +545,27 @@ impl Script {
             || self.puts[item] + one_put(deed) > MOST_PUTS
     }
 
-    // Whether the item's magnitudes would be too great with those of the operation.
-    fn is_too_much(&self, item: usize, deed: Deed) -> bool
+    // Whether the item's magnitudes would be too great with this one.
+    #[inline(always)]
+    fn is_too_much(&self, item: usize, size: u128) -> bool
         requires { item < length self.now.items }
-        ensures { result ≡ nat_lt (most_amount self.now.form) (load item self.now + magnitude deed) }
+        ensures { result ≡ nat_lt (most_amount self.now.form) (load item self.now + size) }
     {
-        magnitude(deed) > self.form.most_amount() - self.totals[item]
+        size > self.form.most_amount() - self.totals[item]
     }
 
-    // Puts an operation, to which nothing is opposed, after those of the last subtransaction.
-    fn put_op(&mut self, item: usize, deed: Deed) -> Result<(), NoMemory>
-        requires { MayAddOp self.old item deed }
+    // Puts an operation of this magnitude, to which nothing is opposed, after those of the last subtransaction.
+    #[inline(always)]
+    fn put_op(&mut self, item: usize, deed: Deed, size: u128) -> Result<(), NoMemory>
+        requires may { MayAddOp self.old item deed }
+        requires size { size ≡ magnitude deed }
+        requires small { item < 10000 }
         ensures ok { OnOk result (self.new ≡ with_op self.old item deed) }
         ensures err { OnErr result (self.new ≡ self.old) }
     {
-        let alloc = self.alloc;
         let number = ItemNo(item as u32);
-        push_op(alloc, &mut self.trees, SubOp { item: number, deed })?;
-        self.totals[item] += magnitude(deed);
+        push_op(&mut self.trees, SubOp { item: number, deed })?;
+        self.totals[item] += size;
         self.puts[item] += one_put(deed);
         self.ops += 1;
         Ok(())
