@@ -1,5 +1,5 @@
 // What a step is to do: a plan, and a scratch with all that takes memory.
-ghost use Rattle.std.specs.Prelude.{◌≡◌};
+ghost use Rattle.std.specs.Prelude.{◌≡◌, None};
 ghost use Rattle.tree_step.specs.Meant.{IsEmpty, no_plan, out_in};
 
 use crate::counting::Counting;
@@ -161,14 +161,32 @@ pub fn wipe(scratch: &mut Scratch)
     ensures { IsEmpty scratch.new }
 {
     scratch.plan = no_plan();
-    scratch.answered = None;
+    forget(&mut scratch.answered);
     scratch.staged.clear();
     scratch.values.clear();
     scratch.held.clear();
     scratch.told.clear();
     scratch.wanted.clear();
     scratch.refusal = None;
-    scratch.letter = None;
+    forget(&mut scratch.letter);
     scratch.sent.clear();
     scratch.acts.clear();
+}
+
+/// Leaves nothing in a place, in which there seldom is something.
+#[inline(always)]
+fn forget<T: Drop>(place: &mut Option<T>)
+    ensures { place.new ≡ None }
+{
+    if let Some(_) = place {
+        let_go(place);
+    }
+}
+
+/// Leaves nothing in a place.
+#[inline(never)]
+fn let_go<T: Drop>(place: &mut Option<T>)
+    ensures { place.new ≡ None }
+{
+    *place = None;
 }

@@ -1,5 +1,5 @@
 // The plans of a root and of another subtransaction.
-ghost use Rattle.std.specs.Prelude.{◌≡◌, ◌<◌, ◌≤◌, length, IsTrue, None, OnOk};
+ghost use Rattle.std.specs.Prelude.{◌≡◌, ◌<◌, ◌≤◌, [], length, IsTrue, None, OnOk};
 ghost use Rattle.item_versions.specs.Table.{pending};
 ghost use Rattle.item_versions.specs.Window.{in_window, IsWindowedTable};
 ghost use Rattle.tree_home.specs.Homes.{home_in, open_trees};
@@ -15,7 +15,7 @@ use crate::asked::{Request, SubTurn};
 use crate::counting::Counting;
 use crate::node::NodeParts;
 use crate::plan::{Doing, HomePlan, Scratch, TreePlan};
-use crate::sending::{push_done, root_acts, sub_acts, sub_letters};
+use crate::sending::{push_done, push_root_acts, push_sub_acts, push_subs};
 use commute_ops::Values;
 use letter_types::Notice;
 use std::alloc::Global;
@@ -79,6 +79,8 @@ pub(crate) fn plan_root(
     requires absent { home_in request.tree (open_trees node.now.homes) ≡ None }
     requires near { IsTrue (in_window node.now.turns.low.0 request.version.0) }
     requires fits { IsWindowedTable node.now.turns.low.0 (pending scratch.old.staged node.now.items) }
+    requires none_sent { scratch.old.sent ≡ [] }
+    requires no_acts { scratch.old.acts ≡ [] }
     // What is planned.
     ensures part { OnOk result (IsRootPlan script.now request notice node.now scratch.old scratch.new) }
     ensures rest { OnOk result (ChangesRoot scratch.old scratch.new) }
@@ -91,11 +93,9 @@ pub(crate) fn plan_root(
     } = request;
     let subs = script.subs_of(tree);
     let count = subs.len() as u32;
-    let sent = sub_letters(alloc, tree, version, SubNo(0), subs, 0)?;
-    let asked = sent.items().len();
-    let acts = root_acts(alloc, tree, version, &notice)?;
-    scratch.sent = sent;
-    scratch.acts = acts;
+    push_subs(&mut scratch.sent, tree, version, SubNo(0), subs)?;
+    let asked = scratch.sent.items().len();
+    push_root_acts(alloc, &mut scratch.acts, tree, version, &notice)?;
     let values = into_values(alloc, notice);
     let (home, answered) = root_home(&node.homes, request, count, values, &mut scratch.values);
     let counting = Counting {
@@ -132,6 +132,8 @@ pub(crate) fn plan_sub(
     requires near { IsTrue (in_window node.now.turns.low.0 request.version.0) }
     requires fits { IsWindowedTable node.now.turns.low.0 (pending scratch.old.staged node.now.items) }
     requires unanswered { scratch.old.answered ≡ None }
+    requires none_sent { scratch.old.sent ≡ [] }
+    requires no_acts { scratch.old.acts ≡ [] }
     // What is planned.
     ensures part { OnOk result (IsSubPlan script.now request turn node.now scratch.old scratch.new) }
     ensures rest { OnOk result (ChangesSub scratch.old scratch.new) }
@@ -146,12 +148,10 @@ pub(crate) fn plan_sub(
     } = request;
     let subs = script.subs_of(tree);
     let home = NodeNo(script.home_of(tree));
-    let mut sent = sub_letters(alloc, tree, version, sub, subs, 1)?;
-    let acts = sub_acts(alloc, request, &notice, raises)?;
-    push_done(&mut sent, home, request, notice)?;
-    let asked = sent.items().len();
-    scratch.sent = sent;
-    scratch.acts = acts;
+    push_subs(&mut scratch.sent, tree, version, sub, subs)?;
+    push_sub_acts(alloc, &mut scratch.acts, request, &notice, raises)?;
+    push_done(&mut scratch.sent, home, request, notice)?;
+    let asked = scratch.sent.items().len();
     let counting = Counting {
         version,
         root: false,
