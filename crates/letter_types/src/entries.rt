@@ -6,7 +6,7 @@ use crate::acts::{Act, Acts, copy_acts};
 use crate::bodies::Body;
 use std::alloc::Global;
 use std::mem::size_of;
-use tv_base::{ActorNo, MOST_ENTRIES, NoMemory, Seq, Stamp};
+use tv_base::{ActorNo, NoMemory, Seq, Stamp};
 
 /// A message's identity: the stamp of the entry that sent it, and its place there from 0. Go has stamp 0 and place 0.
 #[derive(Clone, Copy, Debug, PartialEq, Eq)]
@@ -22,6 +22,20 @@ pub struct Letter {
     pub from: ActorNo,
     pub to: ActorNo,
     pub body: Body,
+}
+
+impl Letter {
+    /// An equal message.
+    pub fn copy(&self, alloc: Global) -> Result<Letter, NoMemory>
+        ensures { IfOk result (λ copy. copy ≡ self.now) }
+    {
+        Ok(Letter {
+            id: self.id,
+            from: self.from,
+            to: self.to,
+            body: self.body.copy(alloc)?,
+        })
+    }
 }
 
 /// A message that is to be sent.
@@ -143,11 +157,8 @@ pub struct Posting {
     pub sent: Letters,
 }
 
-/// Entries by stamp, at most 2^40: adding one more is refused, as if memory had run out.
-pub type History = Seq<Entry, MOST_ENTRIES>;
-
-// What a history of a million entries takes depends on these: a letter has 80 bytes, one that is to be sent 64, an act
-// 40, and an entry 144 beside the letters and acts in its lists.
+// What a history of a million entries takes depends on these: a letter has 80 bytes, and an act 40. One that is to be
+// sent has 64, and an entry by itself 144 beside the letters and acts in its lists.
 const _: () = prove!(size_of::<Letter>() == 80);
 
 const _: () = prove!(size_of::<Outgoing>() == 64);

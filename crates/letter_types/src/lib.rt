@@ -13,7 +13,7 @@ pub use acts::{Act, Acts, copy_acts};
 pub use bodies::{Answer, Body, Notice, Row, What, copy_row};
 pub use boxed::Boxed;
 pub use entries::{
-    Entry, History, Letter, LetterId, Letters, Outgoing, Posting, Step, StepOut, copy_letters, go,
+    Entry, Letter, LetterId, Letters, Outgoing, Posting, Step, StepOut, copy_letters, go,
     one_letter,
 };
 pub use kept::{KeepReason, KeptLetter};

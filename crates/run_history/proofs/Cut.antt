@@ -8,8 +8,8 @@ use Rattle.letter_types.specs.declared.entries.Entry.{Entry}
 use Rattle.letter_types.specs.declared.entries.Letter.{Letter}
 use Rattle.letter_types.specs.Letters.{go, letters_of}
 use Rattle.run_history.specs.declared.history.Slot.{Slot}
-use Rattle.run_history.specs.Messages.{entry_by, outgoing_of}
-use Rattle.run_history.specs.inside.Slots.{acts_begin, AreKept, AreKeptFrom, begins, entries_from, entries_in, entry_in, IsKept, IsTaken, Lists, lists_of, sent_begins, taken_by}
+use Rattle.run_history.specs.Messages.{entry_behind, outgoing_of}
+use Rattle.run_history.specs.inside.Slots.{acts_begin, AreSlots, AreSlotsFrom, slot_begins, slots_from, entries_of_slots, entry_of_slot, IsSlot, HasTaken, Lists, lists_of, sent_begins, taken_of_slot}
 use Rattle.run_history.proofs.Kept.{range_stays}
 
 -- lists that are cut
@@ -21,21 +21,21 @@ range_cut {X} xs m i j le in_cut in_list =
     sym (range_stays (take m xs) (drop m xs) i j le (omega (arith, in_cut, length-take-le m xs in_list)))
     ∙ ap (λ (ys : List X). slice_range ys i j) (take-append-drop m xs)
 
-taken_cut : (b : Bool) (ls : Lists) (m i : ℕ) (p : Slot) → p.came ≡ b → i ≤ m → IsTaken i (length ls.came) p
-    → taken_by (take m ls.letters) ls.came p ≡ taken_by ls.letters ls.came p
+taken_cut : (b : Bool) (ls : Lists) (m i : ℕ) (p : Slot) → p.came ≡ b → i ≤ m → HasTaken i (length ls.came) p
+    → taken_of_slot (take m ls.letters) ls.came p ≡ taken_of_slot ls.letters ls.came p
 taken_cut true ls m i p is le t = rw is refl
 taken_cut false ls m i p is le t = rw is (get_or-take m ls.letters p.took (go 0) (omega (arith, t.1 is, le)))
 
-entry_cut : (n i j m a : ℕ) (ls : Lists) (p : Slot) → IsKept n i j ls p → p.sent ≤ m → m ≤ length ls.letters
-    → p.acts ≤ a → a ≤ length ls.acts → entry_in n i j (cut ls m a) p ≡ entry_in n i j ls p
+entry_cut : (n i j m a : ℕ) (ls : Lists) (p : Slot) → IsSlot n i j ls p → p.sent ≤ m → m ≤ length ls.letters
+    → p.acts ≤ a → a ≤ length ls.acts → entry_of_slot n i j (cut ls m a) p ≡ entry_of_slot n i j ls p
 entry_cut n i j m a ls p k sent in_letters acts in_acts =
     let took = taken_cut p.came ls m i p refl (omega (arith, k.sent, sent)) k.took in
     let mine = range_cut ls.letters m i p.sent k.sent sent in_letters in
     let done = range_cut ls.acts a j p.acts k.acts acts in_acts in
-    (λ x. entry_by n p.actor (took x) (map outgoing_of (mine x)) (done x))
+    (λ x. entry_behind n p.actor (took x) (map outgoing_of (mine x)) (done x))
 
-kept_cut : (n i j m a : ℕ) (ls : Lists) (p : Slot) → IsKept n i j ls p → p.sent ≤ m → m ≤ length ls.letters
-    → p.acts ≤ a → a ≤ length ls.acts → IsKept n i j (cut ls m a) p
+kept_cut : (n i j m a : ℕ) (ls : Lists) (p : Slot) → IsSlot n i j ls p → p.sent ≤ m → m ≤ length ls.letters
+    → p.acts ≤ a → a ≤ length ls.acts → IsSlot n i j (cut ls m a) p
 kept_cut n i j m a ls p k sent in_letters acts in_acts = record {
   sent = k.sent;
   acts = k.acts;
@@ -52,12 +52,12 @@ pub record Left (n i j m a : ℕ) (ls : Lists) (ps : List Slot) (p : Slot) : Typ
   pub acts : j ≤ a
   pub in_letters : m ≤ length ls.letters
   pub in_acts : a ≤ length ls.acts
-  pub kept : AreKeptFrom n i j (cut ls m a) ps
+  pub kept : AreSlotsFrom n i j (cut ls m a) ps
   pub last : Entry
-  pub entries : entries_from n i j ls (ps ++ p ∷ []) ≡ entries_from n i j (cut ls m a) ps ++ last ∷ []
+  pub entries : slots_from n i j ls (ps ++ p ∷ []) ≡ slots_from n i j (cut ls m a) ps ++ last ∷ []
 
-pub left_from : (n i j : ℕ) (ls : Lists) (ps : List Slot) (p : Slot) → AreKeptFrom n i j ls (ps ++ p ∷ [])
-    → Left n i j (begins (λ q. q.sent) i ps (length ps)) (begins (λ q. q.acts) j ps (length ps)) ls ps p
+pub left_from : (n i j : ℕ) (ls : Lists) (ps : List Slot) (p : Slot) → AreSlotsFrom n i j ls (ps ++ p ∷ [])
+    → Left n i j (slot_begins (λ q. q.sent) i ps (length ps)) (slot_begins (λ q. q.acts) j ps (length ps)) ls ps p
 left_from n i j ls [] p k = record {
   sent = omega arith;
   acts = omega arith;
@@ -67,12 +67,12 @@ left_from n i j ls [] p k = record {
     sym (length-take-le i ls.letters (omega (arith, k.0.sent, k.0.sent_in))),
     sym (length-take-le j ls.acts (omega (arith, k.0.acts, k.0.acts_in))),
   );
-  last = entry_in n i j ls p;
+  last = entry_of_slot n i j ls p;
   entries = refl;
 }
 left_from n i j ls (q ∷ ps) p k =
-    let m = begins (λ r. r.sent) q.sent ps (length ps) in
-    let a = begins (λ r. r.acts) q.acts ps (length ps) in
+    let m = slot_begins (λ r. r.sent) q.sent ps (length ps) in
+    let a = slot_begins (λ r. r.acts) q.acts ps (length ps) in
     let rest = left_from (n + 1) q.sent q.acts ls ps p k.1 in
     let first = entry_cut n i j m a ls q k.0 rest.sent rest.in_letters rest.acts rest.in_acts in
     record {
@@ -87,19 +87,19 @@ left_from n i j ls (q ∷ ps) p k =
 
 -- the same of a history whose last slot is gone
 pub record TakenBack (es : List Entry) (ls : Lists) (ps : List Slot) : Type 0 where
-  pub kept : AreKept ls ps
+  pub kept : AreSlots ls ps
   pub last : Entry
-  pub entries : es ≡ entries_in ls ps ++ last ∷ []
+  pub entries : es ≡ entries_of_slots ls ps ++ last ∷ []
 
 pub taken_back : (ls : Lists) (qs ps : List Slot) (es : List Entry) (letters : List Letter) (acts : List Act) (p : Slot) (k : ℕ)
-    → entries_in ls qs ≡ es → AreKept ls qs → qs ≡ ps ++ p ∷ [] → k ≡ length ps
+    → entries_of_slots ls qs ≡ es → AreSlots ls qs → qs ≡ ps ++ p ∷ [] → k ≡ length ps
     → letters ≡ take (sent_begins ps k) ls.letters → acts ≡ take (acts_begin ps k) ls.acts
     → TakenBack es (lists_of letters ls.came acts) ps
 taken_back ls qs ps es letters acts p k is kept q at l d =
-    let all : AreKept ls (ps ++ p ∷ []) = subst (λ (xs : List Slot). AreKept ls xs) q kept in
+    let all : AreSlots ls (ps ++ p ∷ []) = subst (λ (xs : List Slot). AreSlots ls xs) q kept in
     let back = left_from 0 0 0 ls ps p all.all in
     let few : length ps ≤ MOST_ENTRIES = omega (arith, all.few, length-append ps (p ∷ [])) in
-    let whole : es ≡ entries_in ls (ps ++ p ∷ []) = sym is ∙ ap (entries_in ls) q in
+    let whole : es ≡ entries_of_slots ls (ps ++ p ∷ []) = sym is ∙ ap (entries_of_slots ls) q in
     let made : TakenBack es (cut ls (sent_begins ps (length ps)) (acts_begin ps (length ps))) ps =
     record { kept = record { few = few; all = back.kept }; last = back.last; entries = whole ∙ back.entries } in
     let l1 : take (sent_begins ps (length ps)) ls.letters ≡ letters =

@@ -11,8 +11,8 @@ use Rattle.letter_types.specs.declared.entries.Entry.{Entry}
 use Rattle.letter_types.specs.declared.entries.Letter.{Letter}
 use Rattle.letter_types.specs.Letters.{go, letters_of}
 use Rattle.run_history.specs.declared.history.Slot.{Slot}
-use Rattle.run_history.specs.Messages.{acts_of, entry_by, messages_of, outgoing_of}
-use Rattle.run_history.specs.inside.Slots.{AreKept, AreKeptFrom, begins, entries_from, entries_in, entry_in, IsKept, IsTaken, Lists, taken_by}
+use Rattle.run_history.specs.Messages.{acts_of, entry_behind, messages_of, outgoing_of}
+use Rattle.run_history.specs.inside.Slots.{AreSlots, AreSlotsFrom, slot_begins, slots_from, entries_of_slots, entry_of_slot, IsSlot, HasTaken, Lists, taken_of_slot}
 
 -- lists that go on
 abbrev pub longer : Lists → List Letter → List Letter → List Act → Lists
@@ -31,23 +31,23 @@ range_behind {X} xs ys j is =
     ∙ take_all (j - length xs) ys (omega (arith, is, length-append xs ys))
 
 taken_by_stays : (b : Bool) (ls : Lists) (l1 l2 : List Letter) (i : ℕ) (p : Slot) → p.came ≡ b
-    → i ≤ length ls.letters → IsTaken i (length ls.came) p
-    → taken_by (ls.letters ++ l1) (ls.came ++ l2) p ≡ taken_by ls.letters ls.came p
+    → i ≤ length ls.letters → HasTaken i (length ls.came) p
+    → taken_of_slot (ls.letters ++ l1) (ls.came ++ l2) p ≡ taken_of_slot ls.letters ls.came p
 taken_by_stays true ls l1 l2 i p is le t = rw is (get_or_append_left ls.came l2 (go 0) p.took (t.0 is))
 taken_by_stays false ls l1 l2 i p is le t = rw is (get_or_append_left ls.letters l1 (go 0) p.took (omega (arith, t.1 is, le)))
 
 -- an entry stays
-pub entry_stays : (n i j : ℕ) (ls : Lists) (l1 l2 : List Letter) (ds : List Act) (p : Slot) → IsKept n i j ls p
-    → entry_in n i j (longer ls l1 l2 ds) p ≡ entry_in n i j ls p
+pub entry_stays : (n i j : ℕ) (ls : Lists) (l1 l2 : List Letter) (ds : List Act) (p : Slot) → IsSlot n i j ls p
+    → entry_of_slot n i j (longer ls l1 l2 ds) p ≡ entry_of_slot n i j ls p
 entry_stays n i j ls l1 l2 ds p k =
     let took = taken_by_stays p.came ls l1 l2 i p refl (omega (arith, k.sent, k.sent_in)) k.took in
     let sent = range_stays ls.letters l1 i p.sent k.sent k.sent_in in
     let acts = range_stays ls.acts ds j p.acts k.acts k.acts_in in
-    (λ x. entry_by n p.actor (took x) (map outgoing_of (sent x)) (acts x))
+    (λ x. entry_behind n p.actor (took x) (map outgoing_of (sent x)) (acts x))
 
 -- and is kept
-pub kept_stays : (n i j : ℕ) (ls : Lists) (l1 l2 : List Letter) (ds : List Act) (p : Slot) → IsKept n i j ls p
-    → IsKept n i j (longer ls l1 l2 ds) p
+pub kept_stays : (n i j : ℕ) (ls : Lists) (l1 l2 : List Letter) (ds : List Act) (p : Slot) → IsSlot n i j ls p
+    → IsSlot n i j (longer ls l1 l2 ds) p
 kept_stays n i j ls l1 l2 ds p k = record {
   sent = k.sent;
   acts = k.acts;
@@ -59,7 +59,7 @@ kept_stays n i j ls l1 l2 ds p k = record {
 
 -- all stay
 pub entries_stay : (n i j : ℕ) (ls : Lists) (ps : List Slot) (l1 l2 : List Letter) (ds : List Act)
-    → AreKeptFrom n i j ls ps → entries_from n i j (longer ls l1 l2 ds) ps ≡ entries_from n i j ls ps
+    → AreSlotsFrom n i j ls ps → slots_from n i j (longer ls l1 l2 ds) ps ≡ slots_from n i j ls ps
 entries_stay n i j ls [] l1 l2 ds k = refl
 entries_stay n i j ls (p ∷ ps) l1 l2 ds k =
     let first = entry_stays n i j ls l1 l2 ds p k.0 in
@@ -68,53 +68,53 @@ entries_stay n i j ls (p ∷ ps) l1 l2 ds k =
 
 -- one more entry behind those that are kept
 pub one_more : (n i j : ℕ) (ls : Lists) (ps : List Slot) (l1 l2 : List Letter) (ds : List Act) (p : Slot)
-    → AreKeptFrom n i j ls ps → entries_from n i j (longer ls l1 l2 ds) (ps ++ p ∷ [])
-    ≡ entries_from n i j ls ps ++ entry_in (n + length ps) (length ls.letters) (length ls.acts) (longer ls l1 l2 ds) p ∷ []
+    → AreSlotsFrom n i j ls ps → slots_from n i j (longer ls l1 l2 ds) (ps ++ p ∷ [])
+    ≡ slots_from n i j ls ps ++ entry_of_slot (n + length ps) (length ls.letters) (length ls.acts) (longer ls l1 l2 ds) p ∷ []
 one_more n i j ls [] l1 l2 ds p k =
     let at : n ≡ n + 0 = omega arith in
-    (λ x. entry_in (at x) (k.0 x) (k.1 x) (longer ls l1 l2 ds) p ∷ [])
+    (λ x. entry_of_slot (at x) (k.0 x) (k.1 x) (longer ls l1 l2 ds) p ∷ [])
 one_more n i j ls (q ∷ ps) l1 l2 ds p k =
     let first = entry_stays n i j ls l1 l2 ds q k.0 in
     let rest = one_more (n + 1) q.sent q.acts ls ps l1 l2 ds p k.1 in
     let at : (n + 1) + length ps ≡ n + length (q ∷ ps) = omega arith in
     (λ x. first x ∷ rest x)
-    ∙ (λ x. entry_in n i j ls q ∷ entries_from (n + 1) q.sent q.acts ls ps
-    ++ entry_in (at x) (length ls.letters) (length ls.acts) (longer ls l1 l2 ds) p ∷ [])
+    ∙ (λ x. entry_of_slot n i j ls q ∷ slots_from (n + 1) q.sent q.acts ls ps
+    ++ entry_of_slot (at x) (length ls.letters) (length ls.acts) (longer ls l1 l2 ds) p ∷ [])
 
 pub kept_more : (n i j : ℕ) (ls : Lists) (ps : List Slot) (l1 l2 : List Letter) (ds : List Act) (p : Slot)
-    → AreKeptFrom n i j ls ps
-    → IsKept (n + length ps) (length ls.letters) (length ls.acts) (longer ls l1 l2 ds) p
+    → AreSlotsFrom n i j ls ps
+    → IsSlot (n + length ps) (length ls.letters) (length ls.acts) (longer ls l1 l2 ds) p
     → p.sent ≡ length (ls.letters ++ l1) → p.acts ≡ length (ls.acts ++ ds)
-    → AreKeptFrom n i j (longer ls l1 l2 ds) (ps ++ p ∷ [])
+    → AreSlotsFrom n i j (longer ls l1 l2 ds) (ps ++ p ∷ [])
 kept_more n i j ls [] l1 l2 ds p k one sent acts =
     let at : n + 0 ≡ n = omega arith in (
-      subst (λ (m : ℕ). IsKept m i j (longer ls l1 l2 ds) p) at
-          (subst (λ (m : ℕ). IsKept (n + 0) m j (longer ls l1 l2 ds) p) (sym k.0)
-          (subst (λ (m : ℕ). IsKept (n + 0) (length ls.letters) m (longer ls l1 l2 ds) p) (sym k.1) one)),
+      subst (λ (m : ℕ). IsSlot m i j (longer ls l1 l2 ds) p) at
+          (subst (λ (m : ℕ). IsSlot (n + 0) m j (longer ls l1 l2 ds) p) (sym k.0)
+          (subst (λ (m : ℕ). IsSlot (n + 0) (length ls.letters) m (longer ls l1 l2 ds) p) (sym k.1) one)),
       (sent, acts),
     )
 kept_more n i j ls (q ∷ ps) l1 l2 ds p k one sent acts =
     let at : n + length (q ∷ ps) ≡ (n + 1) + length ps = omega arith in (
       kept_stays n i j ls l1 l2 ds q k.0,
       kept_more (n + 1) q.sent q.acts ls ps l1 l2 ds p k.1
-          (subst (λ (m : ℕ). IsKept m (length ls.letters) (length ls.acts) (longer ls l1 l2 ds) p) at one) sent acts,
+          (subst (λ (m : ℕ). IsSlot m (length ls.letters) (length ls.acts) (longer ls l1 l2 ds) p) at one) sent acts,
     )
 
-pub entries_count : (n i j : ℕ) (ls : Lists) (ps : List Slot) → length (entries_from n i j ls ps) ≡ length ps
+pub entries_count : (n i j : ℕ) (ls : Lists) (ps : List Slot) → length (slots_from n i j ls ps) ≡ length ps
 entries_count n i j ls [] = refl
 entries_count n i j ls (p ∷ ps) = ap suc (entries_count (n + 1) p.sent p.acts ls ps)
 
 -- all messages that the entries sent are those of the list, from where the first one's begin
-pub messages_from : (n i j : ℕ) (ls : Lists) (ps : List Slot) → AreKeptFrom n i j ls ps
-    → messages_of (entries_from n i j ls ps) ≡ drop i ls.letters
+pub messages_from : (n i j : ℕ) (ls : Lists) (ps : List Slot) → AreSlotsFrom n i j ls ps
+    → messages_of (slots_from n i j ls ps) ≡ drop i ls.letters
 messages_from n i j ls [] k = sym (drop_all i ls.letters (omega (arith, k.0)))
 messages_from n i j ls (p ∷ ps) k =
     let rest = messages_from (n + 1) p.sent p.acts ls ps k.1 in
     (λ x. sym k.0.ids x ++ rest x) ∙ sym (drop_split ls.letters i p.sent k.0.sent)
 
 -- and so for acts
-pub acts_from : (n i j : ℕ) (ls : Lists) (ps : List Slot) → AreKeptFrom n i j ls ps
-    → acts_of (entries_from n i j ls ps) ≡ drop j ls.acts
+pub acts_from : (n i j : ℕ) (ls : Lists) (ps : List Slot) → AreSlotsFrom n i j ls ps
+    → acts_of (slots_from n i j ls ps) ≡ drop j ls.acts
 acts_from n i j ls [] k = sym (drop_all j ls.acts (omega (arith, k.1)))
 acts_from n i j ls (p ∷ ps) k =
     ap (λ (ds : List Act). slice_range ls.acts j p.acts ++ ds) (acts_from (n + 1) p.sent p.acts ls ps k.1)
@@ -122,32 +122,32 @@ acts_from n i j ls (p ∷ ps) k =
 
 -- the entry at a place, and that it is kept
 pub record AtPlace (n i j : ℕ) (ls : Lists) (ps : List Slot) (k : ℕ) (p : Slot) : Type 0 where
-  pub entry : slice_get (entries_from n i j ls ps) k
-      ≡ Some (entry_in (n + k) (begins (λ q. q.sent) i ps k) (begins (λ q. q.acts) j ps k) ls p)
-  pub kept : IsKept (n + k) (begins (λ q. q.sent) i ps k) (begins (λ q. q.acts) j ps k) ls p
+  pub entry : slice_get (slots_from n i j ls ps) k
+      ≡ Some (entry_of_slot (n + k) (slot_begins (λ q. q.sent) i ps k) (slot_begins (λ q. q.acts) j ps k) ls p)
+  pub kept : IsSlot (n + k) (slot_begins (λ q. q.sent) i ps k) (slot_begins (λ q. q.acts) j ps k) ls p
 
-pub at_place : (n i j : ℕ) (ls : Lists) (ps : List Slot) (k : ℕ) (p : Slot) → AreKeptFrom n i j ls ps
+pub at_place : (n i j : ℕ) (ls : Lists) (ps : List Slot) (k : ℕ) (p : Slot) → AreSlotsFrom n i j ls ps
     → slice_get ps k ≡ Some p → AtPlace n i j ls ps k p
 at_place n i j ls [] k p kept at = absurd (cc at)
 at_place n i j ls (q ∷ ps) zero p kept at =
     let is : q ≡ p = cc at in
     let zero_is : n ≡ n + 0 = omega arith in
     record {
-      entry = (λ x. Some (entry_in (zero_is x) i j ls (is x)));
-      kept = subst (λ (m : ℕ). IsKept m i j ls p) zero_is (subst (λ (y : Slot). IsKept n i j ls y) is kept.0);
+      entry = (λ x. Some (entry_of_slot (zero_is x) i j ls (is x)));
+      kept = subst (λ (m : ℕ). IsSlot m i j ls p) zero_is (subst (λ (y : Slot). IsSlot n i j ls y) is kept.0);
     }
 at_place n i j ls (q ∷ ps) (suc k) p kept at =
     let there = at_place (n + 1) q.sent q.acts ls ps k p kept.1 at in
     let m : (n + 1) + k ≡ n + suc k = omega arith in
-    let i1 = begins (λ r. r.sent) q.sent ps k in
-    let j1 = begins (λ r. r.acts) q.acts ps k in
+    let i1 = slot_begins (λ r. r.sent) q.sent ps k in
+    let j1 = slot_begins (λ r. r.acts) q.acts ps k in
     record {
-      entry = there.entry ∙ (λ x. Some (entry_in (m x) i1 j1 ls p));
-      kept = subst (λ (y : ℕ). IsKept y i1 j1 ls p) m there.kept;
+      entry = there.entry ∙ (λ x. Some (entry_of_slot (m x) i1 j1 ls p));
+      kept = subst (λ (y : ℕ). IsSlot y i1 j1 ls p) m there.kept;
     }
 
 -- the same of a history's entries, by the slot that is read there
-pub found_in : (ls : Lists) (ps : List Slot) (es : List Entry) (k : ℕ) (p : Slot) → entries_in ls ps ≡ es → AreKept ls ps
+pub found_in : (ls : Lists) (ps : List Slot) (es : List Entry) (k : ℕ) (p : Slot) → entries_of_slots ls ps ≡ es → AreSlots ls ps
     → k < length es → p ≡ get_or ps k p → AtPlace 0 0 0 ls ps k p
 found_in ls ps es k p is kept lt at =
     let in_slots : k < length ps = omega (arith, lt, ap (length {A = Entry}) is, entries_count 0 0 0 ls ps) in

@@ -11,8 +11,8 @@ use Rattle.letter_types.specs.declared.entries.Letter.{Letter}
 use Rattle.letter_types.specs.declared.entries.Outgoing.{Outgoing}
 use Rattle.letter_types.specs.Letters.{go, sealed}
 use Rattle.run_history.specs.declared.history.Slot.{Slot}
-use Rattle.run_history.specs.Messages.{entry_by, messages_of, outgoing_of}
-use Rattle.run_history.specs.inside.Slots.{AreKept, entries_in, IsKept, IsTaken, Lists, lists_of, taken_by}
+use Rattle.run_history.specs.Messages.{entry_behind, messages_of, outgoing_of}
+use Rattle.run_history.specs.inside.Slots.{AreSlots, entries_of_slots, IsSlot, HasTaken, Lists, lists_of, taken_of_slot}
 use Rattle.run_history.proofs.Kept.{entries_count, kept_more, longer, messages_from, one_more, range_behind}
 
 -- what is sent is what its messages say
@@ -22,28 +22,28 @@ unsealed stamp actor place (o ∷ os) = ap (λ (xs : List Outgoing). o ∷ xs) (
 
 -- the lists with one more entry's parts, and the entries that they mean
 pub record Pushed (es : List Entry) (ls : Lists) (qs : List Slot) (p : Slot) (os : List Outgoing) (ds : List Act) : Type 0 where
-  pub kept : AreKept ls qs
-  pub entries : entries_in ls qs ≡ es ++ entry_by (length es) p.actor (taken_by ls.letters ls.came p) os ds ∷ []
+  pub kept : AreSlots ls qs
+  pub entries : entries_of_slots ls qs ≡ es ++ entry_behind (length es) p.actor (taken_of_slot ls.letters ls.came p) os ds ∷ []
 
 pushed_to : (ls : Lists) (ps : List Slot) (p : Slot) (stamp : ℕ) (os : List Outgoing) (more : List Letter) (ds : List Act)
-    → AreKept ls ps → length ps < MOST_ENTRIES → stamp ≡ length ps + 1
-    → IsTaken (length ls.letters) (length (ls.came ++ more)) p
+    → AreSlots ls ps → length ps < MOST_ENTRIES → stamp ≡ length ps + 1
+    → HasTaken (length ls.letters) (length (ls.came ++ more)) p
     → p.sent ≡ length (ls.letters ++ sealed stamp p.actor.0 0 os) → p.acts ≡ length (ls.acts ++ ds)
-    → Pushed (entries_in ls ps) (longer ls (sealed stamp p.actor.0 0 os) more ds) (ps ++ p ∷ []) p os ds
+    → Pushed (entries_of_slots ls ps) (longer ls (sealed stamp p.actor.0 0 os) more ds) (ps ++ p ∷ []) p os ds
 pushed_to ls ps p stamp os more ds kept few at took sent acts =
     let l1 = sealed stamp p.actor.0 0 os in
     let all = longer ls l1 more ds in
     let n = 0 + length ps in
     let i = length ls.letters in
     let j = length ls.acts in
-    let taken = taken_by all.letters all.came p in
+    let taken = taken_of_slot all.letters all.came p in
     let mine : slice_range all.letters i p.sent ≡ l1 = range_behind ls.letters l1 p.sent sent in
     let done : slice_range all.acts j p.acts ≡ ds = range_behind ls.acts ds p.acts acts in
     let said : map outgoing_of (slice_range all.letters i p.sent) ≡ os =
     ap (map outgoing_of) mine ∙ unsealed stamp p.actor.0 0 os in
-    let count : n ≡ length (entries_in ls ps) = omega (arith, entries_count 0 0 0 ls ps) in
+    let count : n ≡ length (entries_of_slots ls ps) = omega (arith, entries_count 0 0 0 ls ps) in
     let next : stamp ≡ n + 1 = omega (arith, at) in
-    let one : IsKept n i j all p = record {
+    let one : IsSlot n i j all p = record {
       sent = omega (arith, sent, length-append ls.letters l1);
       acts = omega (arith, acts, length-append ls.acts ds);
       sent_in = omega (arith, sent);
@@ -57,28 +57,28 @@ pushed_to ls ps p stamp os more ds kept few at took sent acts =
         all = kept_more 0 0 0 ls ps l1 more ds p kept.all one sent acts;
       };
       entries = one_more 0 0 0 ls ps l1 more ds p kept.all
-          ∙ (λ x. entries_in ls ps ++ entry_by (count x) p.actor taken (said x) (done x) ∷ []);
+          ∙ (λ x. entries_of_slots ls ps ++ entry_behind (count x) p.actor taken (said x) (done x) ∷ []);
     }
 
 -- the same by what calls say of the lists
 pub pushed : (ls : Lists) (ps qs : List Slot) (es : List Entry) (letters came more : List Letter) (acts ds : List Act) (p : Slot) (stamp : ℕ) (os : List Outgoing)
-    → entries_in ls ps ≡ es → AreKept ls ps → length ps < MOST_ENTRIES → stamp ≡ length ps + 1
+    → entries_of_slots ls ps ≡ es → AreSlots ls ps → length ps < MOST_ENTRIES → stamp ≡ length ps + 1
     → letters ≡ ls.letters ++ sealed stamp p.actor.0 0 os → came ≡ ls.came ++ more → acts ≡ ls.acts ++ ds → qs ≡ ps ++ p ∷ []
-    → IsTaken (length ls.letters) (length came) p → p.sent ≡ length letters → p.acts ≡ length acts
+    → HasTaken (length ls.letters) (length came) p → p.sent ≡ length letters → p.acts ≡ length acts
     → Pushed es (lists_of letters came acts) qs p os ds
 pushed ls ps qs es letters came more acts ds p stamp os is kept few at l c d q took sent done =
     let l1 = sealed stamp p.actor.0 0 os in
-    let taken : IsTaken (length ls.letters) (length (ls.came ++ more)) p =
-    subst (λ (xs : List Letter). IsTaken (length ls.letters) (length xs) p) c took in
+    let taken : HasTaken (length ls.letters) (length (ls.came ++ more)) p =
+    subst (λ (xs : List Letter). HasTaken (length ls.letters) (length xs) p) c took in
     let made = pushed_to ls ps p stamp os more ds kept few at taken (sent ∙ ap (length {A = Letter}) l) (done ∙ ap (length {A = Act}) d) in
     subst (λ (xs : List Entry). Pushed xs (lists_of letters came acts) qs p os ds) is
-    (subst (λ (xs : List Letter). Pushed (entries_in ls ps) (lists_of xs came acts) qs p os ds) (sym l)
-    (subst (λ (xs : List Letter). Pushed (entries_in ls ps) (lists_of (ls.letters ++ l1) xs acts) qs p os ds) (sym c)
-    (subst (λ (xs : List Act). Pushed (entries_in ls ps) (lists_of (ls.letters ++ l1) (ls.came ++ more) xs) qs p os ds) (sym d)
-    (subst (λ (xs : List Slot). Pushed (entries_in ls ps) (longer ls l1 more ds) xs p os ds) (sym q) made))))
+    (subst (λ (xs : List Letter). Pushed (entries_of_slots ls ps) (lists_of xs came acts) qs p os ds) (sym l)
+    (subst (λ (xs : List Letter). Pushed (entries_of_slots ls ps) (lists_of (ls.letters ++ l1) xs acts) qs p os ds) (sym c)
+    (subst (λ (xs : List Act). Pushed (entries_of_slots ls ps) (lists_of (ls.letters ++ l1) (ls.came ++ more) xs) qs p os ds) (sym d)
+    (subst (λ (xs : List Slot). Pushed (entries_of_slots ls ps) (longer ls l1 more ds) xs p os ds) (sym q) made))))
 
 -- the message at a place of all that were sent
-pub message_at : (ls : Lists) (ps : List Slot) (es : List Entry) (k : ℕ) → entries_in ls ps ≡ es → AreKept ls ps
+pub message_at : (ls : Lists) (ps : List Slot) (es : List Entry) (k : ℕ) → entries_of_slots ls ps ≡ es → AreSlots ls ps
     → k < length (messages_of es) → (k < length ls.letters) × (slice_get (messages_of es) k ≡ Some (get_or ls.letters k (go 0)))
 message_at ls ps es k is kept lt =
     let all : messages_of es ≡ ls.letters = ap messages_of (sym is) ∙ messages_from 0 0 0 ls ps kept.all in

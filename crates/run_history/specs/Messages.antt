@@ -21,5 +21,5 @@ abbrev pub acts_of : List Entry → List Act
 acts_of es = flat_map (λ e. e.acts) es
 
 -- the entry behind n others, of an actor that took a message, sent these and did these
-abbrev pub entry_by : ℕ → ActorNo → Letter → List Outgoing → List Act → Entry
-entry_by n actor l sent acts = record { stamp = record { 0 = n + 1 }; actor = actor; took = l; sent = sent; acts = acts }
+abbrev pub entry_behind : ℕ → ActorNo → Letter → List Outgoing → List Act → Entry
+entry_behind n actor l sent acts = record { stamp = record { 0 = n + 1 }; actor = actor; took = l; sent = sent; acts = acts }

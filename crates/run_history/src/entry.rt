@@ -80,16 +80,10 @@ impl<'a> EntryRef<'a> {
     pub fn copy(&self, alloc: Global) -> Result<Entry, NoMemory>
         ensures { IfOk result (λ entry. entry ≡ self.now) }
     {
-        let took = Letter {
-            id: self.took.id,
-            from: self.took.from,
-            to: self.took.to,
-            body: self.took.body.copy(alloc)?,
-        };
         Ok(Entry {
             stamp: self.stamp,
             actor: self.actor,
-            took,
+            took: self.took.copy(alloc)?,
             sent: copy_sent(alloc, self.sent)?,
             acts: copy_done(alloc, self.acts)?,
         })

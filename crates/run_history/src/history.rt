@@ -2,8 +2,8 @@
 ghost use Rattle.std.specs.Prelude.{◌≡◌, ◌+◌, ◌<◌, ◌≤◌, [], ◌∷◌, ◌++◌, length, slice_get, IfErr, IfOk, IfSome, OnErr, OnOk, Some};
 ghost use Rattle.letter_types.specs.declared.entries.Entry.{Entry};
 ghost use Rattle.tv_base.specs.declared.numbers.TheConstants.{MOST_ENTRIES};
-ghost use Rattle.run_history.specs.Messages.{acts_of, entry_by, messages_of};
-ghost use Rattle.run_history.specs.inside.Slots.{acts_begin, IsTaken, sent_begins, taken_by};
+ghost use Rattle.run_history.specs.Messages.{acts_of, entry_behind, messages_of};
+ghost use Rattle.run_history.specs.inside.Slots.{acts_begin, HasTaken, sent_begins, taken_of_slot};
 ghost use Rattle.std.specs.List.{slice_range};
 
 use crate::entry::{Entries, EntryRef};
@@ -11,9 +11,10 @@ use crate::pushing::{push_act_copies, push_done, push_sent, push_sent_copies};
 use letter_types::{Act, Acts, Entry, Letter, Letters};
 use std::alloc::Global;
 use std::marker::Model;
+use std::mem::size_of;
 use tv_base::{ActorNo, MOST_ENTRIES, NoMemory, Stamp};
 
-/// Where an entry's parts lie. What it sent and did begins where that of the entry before ends.
+/// Where an entry's parts lie. What it sent and did slot_begins where that of the entry before ends.
 #[derive(Clone, Copy)]
 struct Slot {
     // the place of the message that it took: among those that came whole, or among those that were sent here
@@ -24,6 +25,9 @@ struct Slot {
     sent: usize,
     acts: usize,
 }
+
+// A history of a million entries has a million of these.
+const _: () = prove!(size_of::<Slot>() == 32);
 
 /// The entries of a run by stamp, at most 2^40: adding one more is refused, as if memory had run out. Contracts see the
 /// list of entries.
@@ -60,8 +64,8 @@ fn acts_begin(slots: &Vec<Slot>, place: usize) -> usize
 // The message that an entry took, among those that were sent and those that came whole.
 #[inline(always)]
 fn taken<'a>(letters: &'a [Letter], came: &'a [Letter], slot: Slot) -> &'a Letter
-    requires { IsTaken (length letters.now) (length came.now) slot }
-    ensures { result.now ≡ taken_by letters.now came.now slot }
+    requires { HasTaken (length letters.now) (length came.now) slot }
+    ensures { result.now ≡ taken_of_slot letters.now came.now slot }
 {
     if slot.came {
         &came[slot.took]
@@ -82,13 +86,13 @@ fn part<T>(items: &[T], from: usize, to: usize) -> &[T]
 impl Model for History {
     ghost use Rattle.std.specs.Prelude.{List};
     ghost use Rattle.letter_types.specs.declared.entries.Entry.{Entry};
-    ghost use Rattle.run_history.specs.inside.Slots.{AreKept, entries_in, lists_of};
+    ghost use Rattle.run_history.specs.inside.Slots.{AreSlots, entries_of_slots, lists_of};
 
     ghost Value = { List Entry };
 
-    ghost view = { λ h. entries_in (lists_of h.letters.items h.came.items h.acts.items) h.slots.items };
+    ghost view = { λ h. entries_of_slots (lists_of h.letters.items h.came.items h.acts.items) h.slots.items };
 
-    ghost invariant = { λ h. AreKept (lists_of h.letters.items h.came.items h.acts.items) h.slots.items };
+    ghost invariant = { λ h. AreSlots (lists_of h.letters.items h.came.items h.acts.items) h.slots.items };
 }
 
 impl History {
@@ -217,7 +221,7 @@ impl History {
     ) -> Result<(), NoMemory>
         requires { took < length (messages_of self.old) }
         ensures ok { OnOk result (IfSome (slice_get (messages_of self.old) took)
-            (λ l. self.new ≡ self.old ++ entry_by (length self.old) actor l sent.now acts.now ∷ [])) }
+            (λ l. self.new ≡ self.old ++ entry_behind (length self.old) actor l sent.now acts.now ∷ [])) }
         ensures err { OnErr result (self.new ≡ self.old) }
     {
         if MOST_ENTRIES <= self.slots.len() {

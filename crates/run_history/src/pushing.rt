@@ -68,16 +68,19 @@ pub(crate) fn push_sent(letters: &mut Vec<Letter>, stamp: Stamp, actor: ActorNo,
     requires { vec_len letters.old + length sent ≤ vec_capacity letters.old }
     ensures { letters.new.items ≡ letters.old.items ++ sealed stamp.0 actor.0 0 sent }
 {
-    let mut place: u32 = 0;
+    let mut number: u32 = 0;
     for outgoing in sent.into_vec() {
         let Outgoing { to, body } = outgoing;
         letters.push_reserved(Letter {
-            id: LetterId { stamp, place },
+            id: LetterId {
+                stamp,
+                place: number,
+            },
             from: actor,
             to,
             body,
         });
-        place = place.saturating_add(1);
+        number = number.saturating_add(1);
     }
 }
 

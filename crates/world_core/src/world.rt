@@ -153,16 +153,10 @@ fn enter(
         flow.history.enter(alloc, place - 1, actor, sent, acts)?;
         return Ok(());
     }
-    let took = Letter {
-        id: took.id,
-        from: took.from,
-        to: actor,
-        body: took.body.copy(alloc)?,
-    };
     let entry = Entry {
         stamp: Stamp(flow.history.len() as u64 + 1),
         actor,
-        took,
+        took: took.copy(alloc)?,
         sent: copy_letters(alloc, sent)?,
         acts: copy_acts(alloc, acts)?,
     };

@@ -9,7 +9,7 @@ use Rattle.world_core.specs.declared.actor.ActorState.{ActorState}
 use Rattle.tx_trees.specs.ScriptData.{ScriptData}
 use Rattle.tree_step.specs.declared.plan.Scratch.{Scratch}
 use Rattle.world_core.specs.declared.actor.ActorPlan.{ActorPlan}
-use Rattle.run_history.specs.Messages.{entry_by}
+use Rattle.run_history.specs.Messages.{entry_behind}
 use Rattle.world_core.specs.Steps.{IsActorDone, IsActorStepOf}
 
 -- actor a did a step that was planned, this goes out, and the other actors stay
@@ -26,4 +26,4 @@ IsPlanFor s l actors p x = IfSome (slice_get actors l.to.0) (λ st. IsActorStepO
 
 -- the entry behind n others of the step that a message leads to
 abbrev pub entry_made : ℕ → Letter → List Outgoing → List Act → Entry
-entry_made n l sent acts = entry_by n l.to l sent acts
+entry_made n l sent acts = entry_behind n l.to l sent acts

@@ -1,6 +1,6 @@
 use Rattle.std.proofs.Common.{◌≡◌, suc, ◌-◌, ◌<◌, ◌∙◌, length, sym, ap, arith}
 use Rattle.run_history.specs.declared.history.Slot.{Slot}
-use Rattle.run_history.specs.inside.Slots.{begins}
+use Rattle.run_history.specs.inside.Slots.{slot_begins}
 use Rattle.run_history.proofs.Begins.{begins_first, begins_later}
 use Rattle.run_history.proofs.history.sent_begins.Goals as goal
 
@@ -8,7 +8,7 @@ pub returns-then-place-eq0 : goal.returns-then-place-eq0
 returns-then-place-eq0 c =
     let first : c.args.place ≡ 0 = c.if-place-eq0.true in
     sym (begins_first (λ (p : Slot). p.sent) 0 c.args.slots.now.items)
-    ∙ ap (begins (λ (p : Slot). p.sent) 0 c.args.slots.now.items) (sym first)
+    ∙ ap (slot_begins (λ (p : Slot). p.sent) 0 c.args.slots.now.items) (sym first)
 
 pub returns-else-place-eq0 : goal.returns-else-place-eq0
 returns-else-place-eq0 c =
@@ -17,4 +17,4 @@ returns-else-place-eq0 c =
     let lt : k < length c.args.slots.now.items = omega (arith, next, c.requires) in
     ap (λ (p : Slot). p.sent) c.index.ensures
     ∙ sym (begins_later (λ (p : Slot). p.sent) 0 c.args.slots.now.items k c.index.result.now lt)
-    ∙ ap (begins (λ (p : Slot). p.sent) 0 c.args.slots.now.items) next
+    ∙ ap (slot_begins (λ (p : Slot). p.sent) 0 c.args.slots.now.items) next

@@ -12,7 +12,7 @@ loop-outgoing-preserved c =
     let one = c.in-Some.outgoing in
     let stamp = c.args.stamp.0 in
     let actor = c.args.actor.0 in
-    let last = letter_at stamp actor c.loop-outgoing.place one in
+    let last = letter_at stamp actor c.loop-outgoing.number one in
     let count = length-append seen (one ∷ []) in
     let sum = ap (length {A = Outgoing}) c.into_vec-outgoing-items.ensures.items in
     let whole : seen ++ one ∷ c.next.new.self.rest.items ≡ c.args.sent = search rules in
@@ -21,8 +21,8 @@ loop-outgoing-preserved c =
           ∙ ap (λ (ls : List Letter). ls ++ last ∷ []) inv.sent
           ∙ append_assoc c.args.letters.now.items (sealed stamp actor 0 seen) (last ∷ [])
           ∙ ap (λ (ls : List Letter). c.args.letters.now.items ++ ls)
-          (sym (sealed_more stamp actor 0 c.loop-outgoing.place seen one (omega (arith, inv.place))));
-      place = omega (arith, inv.place, c.saturating_add-place.ensures, count, c.into_vec-outgoing-items.ensures.limit, sum, length-append seen (one ∷ c.next.new.self.rest.items), ap (length {A = Outgoing}) whole);
+          (sym (sealed_more stamp actor 0 c.loop-outgoing.number seen one (omega (arith, inv.number))));
+      number = omega (arith, inv.number, c.saturating_add-number.ensures, count, c.into_vec-outgoing-items.ensures.limit, sum, length-append seen (one ∷ c.next.new.self.rest.items), ap (length {A = Outgoing}) whole);
       whole = append_assoc seen (one ∷ []) c.next.new.self.rest.items ∙ whole;
       room = omega (arith, inv.room, c.push_reserved.ensures.len, c.push_reserved.ensures.capacity, count);
     }

@@ -5,7 +5,7 @@ use Rattle.run_history.proofs.pushing.push_sent.Given as goal
 abbrev pub invariant-loop-outgoing : goal.invariant-loop-outgoing
 invariant-loop-outgoing l = record {
   sent : l.letters.items ≡ l.initial.letters.items ++ sealed l.stamp.0 l.actor.0 0 l.yielded;
-  place : l.place ≡ length l.yielded;
+  number : l.number ≡ length l.yielded;
   whole : l.yielded ++ l.outgoing-iterator.rest.items ≡ l.fn.sent;
   room : vec_len l.letters + (length l.fn.sent) ≤ vec_capacity l.letters + length l.yielded;
 }

@@ -4,7 +4,7 @@ use Rattle.std.proofs.lemmas.List.{append-nil, get_or_append_left}
 use Rattle.letter_types.specs.declared.entries.Letter.{Letter}
 use Rattle.letter_types.specs.Letters.{go, sealed}
 use Rattle.run_history.specs.declared.history.Slot.{Slot}
-use Rattle.run_history.specs.Messages.{entry_by}
+use Rattle.run_history.specs.Messages.{entry_behind}
 use Rattle.run_history.specs.inside.Slots.{lists_of}
 use Rattle.run_history.proofs.Pushed.{message_at, Pushed, pushed}
 use Rattle.run_history.proofs.history.History.enter.Goals as goal
@@ -40,4 +40,4 @@ returns-clause-ok c =
     let took : get_or c.push_sent_copies.new.letters.items c.args.took (go 0) ≡ get_or i.letters.items c.args.took (go 0) =
     ap (λ (xs : List Letter). get_or xs c.args.took (go 0)) c.in_ok-push_sent_copies.ensures.ok ∙ stays in
     rw there.1 ((made c).entries
-    ∙ (λ x. c.args.self.now ++ entry_by (length c.args.self.now) c.args.actor (took x) c.args.sent.now c.args.acts.now ∷ []))
+    ∙ (λ x. c.args.self.now ++ entry_behind (length c.args.self.now) c.args.actor (took x) c.args.sent.now c.args.acts.now ∷ []))

@@ -4,8 +4,8 @@ use Rattle.std.specs.List.{slice_range}
 use Rattle.letter_types.specs.declared.acts.Act.{Act}
 use Rattle.letter_types.specs.declared.entries.Entry.{Entry}
 use Rattle.letter_types.specs.declared.entries.Letter.{Letter}
-use Rattle.run_history.specs.Messages.{entry_by, outgoing_of}
-use Rattle.run_history.specs.inside.Slots.{acts_begin, lists_of, sent_begins, taken_by}
+use Rattle.run_history.specs.Messages.{entry_behind, outgoing_of}
+use Rattle.run_history.specs.inside.Slots.{acts_begin, lists_of, sent_begins, taken_of_slot}
 use Rattle.run_history.proofs.Kept.{entries_count, found_in}
 use Rattle.run_history.proofs.history.History.entry.Goals as goal
 
@@ -81,9 +81,9 @@ returns c =
     let found = found_in ls c.self.inside.slots.items c.args.self.now c.args.place c.index-slot.result.now c.self.view_is c.self.invariant c.requires c.index-slot.ensures in
     let p = c.index-slot.result.now in
     let k : 0 + c.args.place ≡ c.args.place = omega arith in
-    let took = c.taken.ensures ∙ (λ x. taken_by (c.deref.ensures.value x) (c.deref-2.ensures.value x) p) in
+    let took = c.taken.ensures ∙ (λ x. taken_of_slot (c.deref.ensures.value x) (c.deref-2.ensures.value x) p) in
     let sent = c.part.ensures ∙ (λ x. slice_range (c.deref-3.ensures.value x) (c.sent_begins-sent.ensures x) p.sent) in
     let acts = c.part-2.ensures ∙ (λ x. slice_range (c.deref-4.ensures.value x) (c.acts_begin-acts.ensures x) p.acts) in
     ap (λ (es : List Entry). slice_get es c.args.place) (sym c.self.view_is)
     ∙ found.entry
-    ∙ (λ x. Some (entry_by (k x) p.actor (sym took x) (map outgoing_of (sym sent x)) (sym acts x)))
+    ∙ (λ x. Some (entry_behind (k x) p.actor (sym took x) (map outgoing_of (sym sent x)) (sym acts x)))
