@@ -9,7 +9,7 @@ use Rattle.letter_types.specs.declared.entries.Letter.{Letter}
 use Rattle.letter_types.specs.Letters.{go, letters_of}
 use Rattle.run_history.specs.declared.history.Slot.{Slot}
 use Rattle.run_history.specs.Messages.{entry_behind, outgoing_of}
-use Rattle.run_history.specs.inside.Slots.{acts_begin, AreSlots, AreSlotsFrom, slot_begins, slots_from, entries_of_slots, entry_of_slot, IsSlot, HasTaken, Lists, lists_of, sent_begins, taken_of_slot}
+use Rattle.run_history.specs.inside.Slots.{acts_begin, AreSlots, AreSlotsFrom, slot_begins, slots_from, entries_of_slots, entry_of_slot, IsSlot, IsTakenFrom, Lists, lists_of, sent_begins, taken_of_slot}
 use Rattle.run_history.proofs.Kept.{range_stays}
 
 -- lists that are cut
@@ -21,7 +21,7 @@ range_cut {X} xs m i j le in_cut in_list =
     sym (range_stays (take m xs) (drop m xs) i j le (omega (arith, in_cut, length-take-le m xs in_list)))
     ∙ ap (λ (ys : List X). slice_range ys i j) (take-append-drop m xs)
 
-taken_cut : (b : Bool) (ls : Lists) (m i : ℕ) (p : Slot) → p.came ≡ b → i ≤ m → HasTaken i (length ls.came) p
+taken_cut : (b : Bool) (ls : Lists) (m i : ℕ) (p : Slot) → p.came ≡ b → i ≤ m → IsTakenFrom i (length ls.came) p
     → taken_of_slot (take m ls.letters) ls.came p ≡ taken_of_slot ls.letters ls.came p
 taken_cut true ls m i p is le t = rw is refl
 taken_cut false ls m i p is le t = rw is (get_or-take m ls.letters p.took (go 0) (omega (arith, t.1 is, le)))

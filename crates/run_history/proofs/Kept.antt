@@ -12,7 +12,7 @@ use Rattle.letter_types.specs.declared.entries.Letter.{Letter}
 use Rattle.letter_types.specs.Letters.{go, letters_of}
 use Rattle.run_history.specs.declared.history.Slot.{Slot}
 use Rattle.run_history.specs.Messages.{acts_of, entry_behind, messages_of, outgoing_of}
-use Rattle.run_history.specs.inside.Slots.{AreSlots, AreSlotsFrom, slot_begins, slots_from, entries_of_slots, entry_of_slot, IsSlot, HasTaken, Lists, taken_of_slot}
+use Rattle.run_history.specs.inside.Slots.{AreSlots, AreSlotsFrom, slot_begins, slots_from, entries_of_slots, entry_of_slot, IsSlot, IsTakenFrom, Lists, taken_of_slot}
 
 -- lists that go on
 abbrev pub longer : Lists → List Letter → List Letter → List Act → Lists
@@ -31,7 +31,7 @@ range_behind {X} xs ys j is =
     ∙ take_all (j - length xs) ys (omega (arith, is, length-append xs ys))
 
 taken_by_stays : (b : Bool) (ls : Lists) (l1 l2 : List Letter) (i : ℕ) (p : Slot) → p.came ≡ b
-    → i ≤ length ls.letters → HasTaken i (length ls.came) p
+    → i ≤ length ls.letters → IsTakenFrom i (length ls.came) p
     → taken_of_slot (ls.letters ++ l1) (ls.came ++ l2) p ≡ taken_of_slot ls.letters ls.came p
 taken_by_stays true ls l1 l2 i p is le t = rw is (get_or_append_left ls.came l2 (go 0) p.took (t.0 is))
 taken_by_stays false ls l1 l2 i p is le t = rw is (get_or_append_left ls.letters l1 (go 0) p.took (omega (arith, t.1 is, le)))

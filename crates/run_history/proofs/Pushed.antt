@@ -12,7 +12,7 @@ use Rattle.letter_types.specs.declared.entries.Outgoing.{Outgoing}
 use Rattle.letter_types.specs.Letters.{go, sealed}
 use Rattle.run_history.specs.declared.history.Slot.{Slot}
 use Rattle.run_history.specs.Messages.{entry_behind, messages_of, outgoing_of}
-use Rattle.run_history.specs.inside.Slots.{AreSlots, entries_of_slots, IsSlot, HasTaken, Lists, lists_of, taken_of_slot}
+use Rattle.run_history.specs.inside.Slots.{AreSlots, entries_of_slots, IsSlot, IsTakenFrom, Lists, lists_of, taken_of_slot}
 use Rattle.run_history.proofs.Kept.{entries_count, kept_more, longer, messages_from, one_more, range_behind}
 
 -- what is sent is what its messages say
@@ -27,7 +27,7 @@ pub record Pushed (es : List Entry) (ls : Lists) (qs : List Slot) (p : Slot) (os
 
 pushed_to : (ls : Lists) (ps : List Slot) (p : Slot) (stamp : ℕ) (os : List Outgoing) (more : List Letter) (ds : List Act)
     → AreSlots ls ps → length ps < MOST_ENTRIES → stamp ≡ length ps + 1
-    → HasTaken (length ls.letters) (length (ls.came ++ more)) p
+    → IsTakenFrom (length ls.letters) (length (ls.came ++ more)) p
     → p.sent ≡ length (ls.letters ++ sealed stamp p.actor.0 0 os) → p.acts ≡ length (ls.acts ++ ds)
     → Pushed (entries_of_slots ls ps) (longer ls (sealed stamp p.actor.0 0 os) more ds) (ps ++ p ∷ []) p os ds
 pushed_to ls ps p stamp os more ds kept few at took sent acts =
@@ -64,12 +64,12 @@ pushed_to ls ps p stamp os more ds kept few at took sent acts =
 pub pushed : (ls : Lists) (ps qs : List Slot) (es : List Entry) (letters came more : List Letter) (acts ds : List Act) (p : Slot) (stamp : ℕ) (os : List Outgoing)
     → entries_of_slots ls ps ≡ es → AreSlots ls ps → length ps < MOST_ENTRIES → stamp ≡ length ps + 1
     → letters ≡ ls.letters ++ sealed stamp p.actor.0 0 os → came ≡ ls.came ++ more → acts ≡ ls.acts ++ ds → qs ≡ ps ++ p ∷ []
-    → HasTaken (length ls.letters) (length came) p → p.sent ≡ length letters → p.acts ≡ length acts
+    → IsTakenFrom (length ls.letters) (length came) p → p.sent ≡ length letters → p.acts ≡ length acts
     → Pushed es (lists_of letters came acts) qs p os ds
 pushed ls ps qs es letters came more acts ds p stamp os is kept few at l c d q took sent done =
     let l1 = sealed stamp p.actor.0 0 os in
-    let taken : HasTaken (length ls.letters) (length (ls.came ++ more)) p =
-    subst (λ (xs : List Letter). HasTaken (length ls.letters) (length xs) p) c took in
+    let taken : IsTakenFrom (length ls.letters) (length (ls.came ++ more)) p =
+    subst (λ (xs : List Letter). IsTakenFrom (length ls.letters) (length xs) p) c took in
     let made = pushed_to ls ps p stamp os more ds kept few at taken (sent ∙ ap (length {A = Letter}) l) (done ∙ ap (length {A = Act}) d) in
     subst (λ (xs : List Entry). Pushed xs (lists_of letters came acts) qs p os ds) is
     (subst (λ (xs : List Letter). Pushed (entries_of_slots ls ps) (lists_of xs came acts) qs p os ds) (sym l)

@@ -3,7 +3,7 @@ ghost use Rattle.std.specs.Prelude.{◌≡◌, ◌+◌, ◌<◌, ◌≤◌, [], 
 ghost use Rattle.letter_types.specs.declared.entries.Entry.{Entry};
 ghost use Rattle.tv_base.specs.declared.numbers.TheConstants.{MOST_ENTRIES};
 ghost use Rattle.run_history.specs.Messages.{acts_of, entry_behind, messages_of};
-ghost use Rattle.run_history.specs.inside.Slots.{acts_begin, HasTaken, sent_begins, taken_of_slot};
+ghost use Rattle.run_history.specs.inside.Slots.{acts_begin, IsTakenFrom, sent_begins, taken_of_slot};
 ghost use Rattle.std.specs.List.{slice_range};
 
 use crate::entry::{Entries, EntryRef};
@@ -64,7 +64,7 @@ fn acts_begin(slots: &Vec<Slot>, place: usize) -> usize
 // The message that an entry took, among those that were sent and those that came whole.
 #[inline(always)]
 fn taken<'a>(letters: &'a [Letter], came: &'a [Letter], slot: Slot) -> &'a Letter
-    requires { HasTaken (length letters.now) (length came.now) slot }
+    requires { IsTakenFrom (length letters.now) (length came.now) slot }
     ensures { result.now ≡ taken_of_slot letters.now came.now slot }
 {
     if slot.came {

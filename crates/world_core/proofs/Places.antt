@@ -2,7 +2,7 @@
 use Rattle.std.proofs.Common.{◌≡◌, ℕ, zero, suc, ◌+◌, ◌-◌, ◌<◌, ◌≤◌, List, [], ◌∷◌, ◌++◌, ◌∙◌, length, map, take, drop, refl, sym, ap, subst, arith, append_assoc}
 use Rattle.std.specs.Prelude.{get_or}
 use Rattle.std.specs.List.{All}
-use Rattle.std.specs.List.{flat_map, remove}
+use Rattle.std.specs.List.{remove}
 use Rattle.std.proofs.Math.Seq.{get_or-append_seam}
 use Rattle.std.proofs.lemmas.Grind.{flat_map-append}
 use Rattle.std.proofs.lemmas.List.{append-nil, get_or-drop, get_or_append_left, length-append, length-drop, length-map, map-append}
@@ -13,7 +13,7 @@ use Rattle.letter_types.specs.declared.entries.Letter.{Letter}
 use Rattle.letter_types.specs.declared.entries.Outgoing.{Outgoing}
 use Rattle.letter_types.specs.Letters.{letters_of, sealed}
 use Rattle.run_history.specs.Messages.{messages_of}
-use Rattle.world_core.specs.inside.Flows.{ArePlaced, message_at, places_from}
+use Rattle.world_core.specs.inside.Flows.{ArePlacesOf, message_at, places_from}
 
 -- one more entry's messages come behind
 pub messages_more : (es : List Entry) (e : Entry) → messages_of (es ++ e ∷ []) ≡ messages_of es ++ letters_of e
@@ -30,7 +30,7 @@ at_places {X} xs (y ∷ ys) d i is =
     let here : get_or (xs ++ y ∷ ys) (i + 1) d ≡ y =
     ap (λ (n : ℕ). get_or (xs ++ y ∷ ys) n d) is ∙ get_or-append_seam xs y ys d in
     let rest = ap (λ (zs : List X). map (λ p. get_or zs p d) (places_from (i + 1) (length ys))) all
-        ∙ at_places (xs ++ y ∷ []) ys d (i + 1) (omega (arith, is, length-append xs (y ∷ []))) in
+    ∙ at_places (xs ++ y ∷ []) ys d (i + 1) (omega (arith, is, length-append xs (y ∷ []))) in
     (λ x. here x ∷ rest x)
 
 pub new_messages : (g : Letter) (es : List Entry) (e : Entry) (n : ℕ) → n ≡ length (letters_of e)
@@ -40,16 +40,16 @@ new_messages g es e n count =
     ∙ at_places (g ∷ messages_of es) (letters_of e) g (length (messages_of es)) (omega arith)
 
 -- messages stay at their places
-pub messages_stay : (g : Letter) (es : List Entry) (e : Entry) (ps : List ℕ) → ArePlaced es ps
+pub messages_stay : (g : Letter) (es : List Entry) (e : Entry) (ps : List ℕ) → ArePlacesOf es ps
     → map (message_at g (es ++ e ∷ [])) ps ≡ map (message_at g es) ps
 messages_stay g es e [] placed = refl
 messages_stay g es e (p ∷ ps) placed =
     let first = ap (λ (ls : List Letter). get_or (g ∷ ls) p g) (messages_more es e)
-        ∙ get_or_append_left (g ∷ messages_of es) (letters_of e) g p (omega (arith, placed 0 p (omega arith))) in
+    ∙ get_or_append_left (g ∷ messages_of es) (letters_of e) g p (omega (arith, placed 0 p (omega arith))) in
     let rest = messages_stay g es e ps (λ k d lt. placed (suc k) d (omega (arith, lt))) in
     (λ x. first x ∷ rest x)
 
-pub placed_more : (es : List Entry) (e : Entry) (ps : List ℕ) → ArePlaced es ps → ArePlaced (es ++ e ∷ []) ps
+pub placed_more : (es : List Entry) (e : Entry) (ps : List ℕ) → ArePlacesOf es ps → ArePlacesOf (es ++ e ∷ []) ps
 placed_more es e ps placed k d lt =
     omega (arith, placed k d lt, ap (length {A = Letter}) (messages_more es e), length-append (messages_of es) (letters_of e))
 
@@ -59,10 +59,10 @@ places_below i (suc n) m le zero d lt = omega (arith, le)
 places_below i (suc n) m le (suc k) d lt = places_below (i + 1) n m (omega (arith, le)) k d (omega (arith, lt))
 
 pub new_placed : (es : List Entry) (e : Entry) (n : ℕ) → n ≡ length (letters_of e)
-    → ArePlaced (es ++ e ∷ []) (places_from (length (messages_of es)) n)
+    → ArePlacesOf (es ++ e ∷ []) (places_from (length (messages_of es)) n)
 new_placed es e n count =
     places_below (length (messages_of es)) n (length (messages_of (es ++ e ∷ [])))
-      (omega (arith, count, ap (length {A = Letter}) (messages_more es e), length-append (messages_of es) (letters_of e)))
+    (omega (arith, count, ap (length {A = Letter}) (messages_more es e), length-append (messages_of es) (letters_of e)))
 
 -- one more place
 pub places_more : (i n : ℕ) → places_from i (n + 1) ≡ places_from i n ++ (i + n + 1) ∷ []
@@ -85,7 +85,7 @@ map-remove {X} {Y} f (x ∷ xs) (suc k) = ap (λ (ys : List Y). f x ∷ ys) (map
 pub All-remove : {X : Type 0} (P : X → Type 0) (xs : List X) (k : ℕ) → All P xs → All P (remove xs k)
 All-remove {X} P xs k all =
     All-append P (take k xs) (drop (suc k) xs) (All-take P k xs all)
-      (λ j d lt. subst P (sym (get_or-drop (suc k) xs j d)) (all (suc k + j) d (omega (arith, lt, length-drop (suc k) xs))))
+    (λ j d lt. subst P (sym (get_or-drop (suc k) xs j d)) (all (suc k + j) d (omega (arith, lt, length-drop (suc k) xs))))
 
 pub sealed_count : (stamp actor place : ℕ) (os : List Outgoing) → length (sealed stamp actor place os) ≡ length os
 sealed_count stamp actor place [] = refl
@@ -98,7 +98,7 @@ more_count h e from to f t =
     omega (arith, f, t, ap (length {A = Letter}) (messages_more h e), length-append (messages_of h) (letters_of e))
 
 -- the bag after an entry: one message is gone, and those that the entry sent are last
-pub bag_after : (g : Letter) (h : List Entry) (e : Entry) (bag left : List ℕ) (from to k : ℕ) → k < length bag → ArePlaced h bag
+pub bag_after : (g : Letter) (h : List Entry) (e : Entry) (bag left : List ℕ) (from to k : ℕ) → k < length bag → ArePlacesOf h bag
     → from ≡ length (messages_of h) → to ≡ length (messages_of (h ++ e ∷ []))
     → left ≡ remove (bag ++ places_from from (to - from)) k
     → map (message_at g (h ++ e ∷ [])) left ≡ remove (map (message_at g h) bag) k ++ letters_of e
@@ -115,13 +115,13 @@ bag_after g h e bag left from to k lt placed f t is =
     ∙ ap (λ (ls : List Letter). remove ls k) both
     ∙ remove-append_left old (letters_of e) k (omega (arith, lt, length-map bag (message_at g h)))
 
-pub placed_after : (h : List Entry) (e : Entry) (bag left : List ℕ) (from to k : ℕ) → ArePlaced h bag
+pub placed_after : (h : List Entry) (e : Entry) (bag left : List ℕ) (from to k : ℕ) → ArePlacesOf h bag
     → from ≡ length (messages_of h) → to ≡ length (messages_of (h ++ e ∷ []))
-    → left ≡ remove (bag ++ places_from from (to - from)) k → ArePlaced (h ++ e ∷ []) left
+    → left ≡ remove (bag ++ places_from from (to - from)) k → ArePlacesOf (h ++ e ∷ []) left
 placed_after h e bag left from to k placed f t is =
     let P = λ (p : ℕ). p ≤ length (messages_of (h ++ e ∷ [])) in
     let fresh : All P (places_from from (to - from)) =
     subst (λ (n : ℕ). All P (places_from n (to - from))) (sym f) (new_placed h e (to - from) (more_count h e from to f t)) in
-    subst (λ (ks : List ℕ). ArePlaced (h ++ e ∷ []) ks) (sym is)
-      (All-remove P (bag ++ places_from from (to - from)) k
-      (All-append P bag (places_from from (to - from)) (placed_more h e bag placed) fresh))
+    subst (λ (ks : List ℕ). ArePlacesOf (h ++ e ∷ []) ks) (sym is)
+    (All-remove P (bag ++ places_from from (to - from)) k
+    (All-append P bag (places_from from (to - from)) (placed_more h e bag placed) fresh))

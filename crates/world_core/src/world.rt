@@ -5,9 +5,9 @@ ghost use Rattle.run_history.specs.Messages.{messages_of};
 ghost use Rattle.tx_trees.specs.ScriptData.{ScriptData};
 ghost use Rattle.world_core.specs.Actors.{AreStatesOf, IsLedTo, IsWorldOf, TookLetter};
 ghost use Rattle.tree_step.specs.Meant.{IsEmpty, out_in};
-ghost use Rattle.world_core.specs.Steps.{ActorMayDo, MayTake, out_of};
+ghost use Rattle.world_core.specs.Steps.{ActorMayDo, MayTake};
 ghost use Rattle.world_core.specs.inside.Actors.{Acted, entry_made, IsPlanFor};
-ghost use Rattle.world_core.specs.inside.Flows.{ArePlaced, message_at, places_from, world_in};
+ghost use Rattle.world_core.specs.inside.Flows.{ArePlacesOf, message_at, places_from, world_in};
 ghost use Rattle.pair_counters.specs.Numbers.{MOST_COUNT};
 
 use crate::actor::{ActorPlan, ActorState, actor_done, actor_plan};
@@ -42,13 +42,13 @@ pub struct World {
 impl Model for World {
     ghost use Rattle.tree_step.specs.Meant.{IsEmpty};
     ghost use Rattle.world_core.specs.Actors.{WorldData};
-    ghost use Rattle.world_core.specs.inside.Flows.{ArePlaced, world_in};
+    ghost use Rattle.world_core.specs.inside.Flows.{ArePlacesOf, world_in};
 
     ghost Value = { WorldData };
 
     ghost view = { λ w. world_in w.flow };
 
-    ghost invariant = { λ w. IsEmpty w.scratch × ArePlaced w.flow.history w.flow.bag.items };
+    ghost invariant = { λ w. IsEmpty w.scratch × ArePlacesOf w.flow.history w.flow.bag.items };
 }
 
 /// The actors of a script as a run begins.
@@ -187,14 +187,14 @@ fn advance(
     // What the caller knows.
     requires waits { k < length flow.old.bag.items }
     requires world { IsWorldOf script.now (world_in flow.old) }
-    requires placed { ArePlaced flow.old.history flow.old.bag.items }
+    requires placed { ArePlacesOf flow.old.history flow.old.bag.items }
     requires empty { IsEmpty scratch.old }
     // What came.
     ensures world { OnOk result (IsWorldOf script.now (world_in flow.new)) }
     ensures took { OnOk result (TookLetter k (world_in flow.old) (world_in flow.new)) }
     ensures stamp { IfOk result (λ stamp. stamp.0 ≡ length flow.new.history) }
     ensures empty { OnOk result (IsEmpty scratch.new) }
-    ensures placed { ArePlaced flow.new.history flow.new.bag.items }
+    ensures placed { ArePlacesOf flow.new.history flow.new.bag.items }
     ensures err { OnErr result (world_in flow.new ≡ world_in flow.old) }
 {
     let _valid = script.nodes();

@@ -36,8 +36,8 @@ abbrev pub entries_of_slots : Lists → List Slot → List Entry
 entries_of_slots ls ps = slots_from 0 0 0 ls ps
 
 -- the message that an entry took is among the first i that were sent, or among m that came whole
-abbrev pub HasTaken : ℕ → ℕ → Slot → Type 0
-HasTaken i m p = (p.came ≡ true → p.took < m) × (p.came ≡ false → p.took < i)
+abbrev pub IsTakenFrom : ℕ → ℕ → Slot → Type 0
+IsTakenFrom i m p = (p.came ≡ true → p.took < m) × (p.came ≡ false → p.took < i)
 
 -- an entry's parts lie in the lists: its messages have their ids, and what it took was sent before
 pub record IsSlot (n i j : ℕ) (ls : Lists) (p : Slot) : Type 0 where
@@ -45,7 +45,7 @@ pub record IsSlot (n i j : ℕ) (ls : Lists) (p : Slot) : Type 0 where
   pub acts : j ≤ p.acts
   pub sent_in : p.sent ≤ length ls.letters
   pub acts_in : p.acts ≤ length ls.acts
-  pub took : HasTaken i (length ls.came) p
+  pub took : IsTakenFrom i (length ls.came) p
   pub ids : slice_range ls.letters i p.sent ≡ letters_of (entry_of_slot n i j ls p)
 
 -- all parts lie there one behind the other, up to the lists' ends

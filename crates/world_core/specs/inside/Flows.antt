@@ -11,8 +11,8 @@ abbrev pub message_at : Letter → List Entry → ℕ → Letter
 message_at first es p = get_or (first ∷ messages_of es) p first
 
 -- each place has a message
-abbrev pub ArePlaced : List Entry → List ℕ → Type 0
-ArePlaced es places = All (λ p. p ≤ length (messages_of es)) places
+abbrev pub ArePlacesOf : List Entry → List ℕ → Type 0
+ArePlacesOf es places = All (λ p. p ≤ length (messages_of es)) places
 
 -- the places of n messages behind the first i that were sent
 abbrev pub places_from : ℕ → ℕ → List ℕ

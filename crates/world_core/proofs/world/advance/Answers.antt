@@ -11,11 +11,10 @@ use Rattle.letter_types.specs.declared.entries.Outgoing.{Outgoing}
 use Rattle.letter_types.specs.Letters.{sealed}
 use Rattle.run_history.specs.Messages.{messages_of}
 use Rattle.tree_step.specs.Meant.{out_in}
-use Rattle.world_core.specs.Steps.{out_of}
 use Rattle.world_core.specs.declared.actor.ActorState.{ActorState}
 use Rattle.world_core.specs.declared.world.Flow.{Flow}
 use Rattle.world_core.specs.inside.Actors.{Acted, entry_made}
-use Rattle.world_core.specs.inside.Flows.{ArePlaced, message_at, places_from, world_in}
+use Rattle.world_core.specs.inside.Flows.{ArePlacesOf, message_at, places_from, world_in}
 use Rattle.world_core.proofs.Events.{is_here, may_take, Event, event_world, event_took}
 use Rattle.world_core.proofs.Places.{bag_after, messages_more, placed_after, sealed_count}
 use Rattle.world_core.proofs.world.advance.Goals as goal
@@ -29,24 +28,27 @@ letter_there f k place l at is =
 pub plan-requires-clause-here : goal.plan-requires-clause-here
 plan-requires-clause-here c =
     is_here _ _ _ _ c.requires.world c.nodes-valid.ensures.valid
-      (letter_there c.args.flow.now c.args.k c.at-place.result.now c.message_at-letter.result.now c.at-place.ensures c.message_at-letter.ensures)
+    (letter_there c.args.flow.now c.args.k c.at-place.result.now c.message_at-letter.result.now c.at-place.ensures c.message_at-letter.ensures)
 
 pub plan-requires-clause-may : goal.plan-requires-clause-may
 plan-requires-clause-may c =
     let few : length c.args.flow.now.history ≤ 2 ^ 40 = c.len.ensures.few in
     may_take _ _ _ _ _ c.requires.world c.nodes-valid.ensures.valid (omega (arith, few))
-      (letter_there c.args.flow.now c.args.k c.at-place.result.now c.message_at-letter.result.now c.at-place.ensures c.message_at-letter.ensures)
+    (letter_there c.args.flow.now c.args.k c.at-place.result.now c.message_at-letter.result.now c.at-place.ensures c.message_at-letter.ensures)
 
 pub enter-requires : goal.enter-requires
 enter-requires c =
     let place = c.at-place.result.now in
-    omega (arith, c.requires.placed c.args.k place c.requires.waits,
-      get_or_from_slice_get c.args.flow.now.bag.items c.args.k place place c.at-place.ensures)
+    omega (
+      arith,
+      c.requires.placed c.args.k place c.requires.waits,
+      get_or_from_slice_get c.args.flow.now.bag.items c.args.k place place c.at-place.ensures,
+    )
 
 pub act-requires-clause-here : goal.act-requires-clause-here
 act-requires-clause-here c =
     let here = is_here _ _ _ _ c.requires.world c.nodes-valid.ensures.valid
-        (letter_there c.args.flow.now c.args.k c.at-place.result.now c.message_at-letter.result.now c.at-place.ensures c.message_at-letter.ensures) in
+    (letter_there c.args.flow.now c.args.k c.at-place.result.now c.message_at-letter.result.now c.at-place.ensures c.message_at-letter.ensures) in
     omega (arith, here, ap (λ (f : Flow). length f.actors.items) c.in_ok-enter.ensures.rest)
 
 pub put_places-requires-clause-room : goal.put_places-requires-clause-room
@@ -55,10 +57,16 @@ put_places-requires-clause-room c =
     let e = entry_made (length h) (message_at c.args.flow.now.go h c.at-place.result.now) c.sent-sent.result.now c.acts.result.now in
     let all : c.messages.result.now ≡ messages_of h ++ sealed (length h + 1) e.actor.0 0 c.sent-sent.result.now =
     c.messages.ensures ∙ ap messages_of c.in_ok-enter.ensures.ok ∙ messages_more h e in
-    omega (arith, ap (length {A = Letter}) all, ap (length {A = Letter}) c.messages-before.ensures,
+    omega (
+      arith,
+      ap (length {A = Letter}) all,
+      ap (length {A = Letter}) c.messages-before.ensures,
       length-append (messages_of h) (sealed (length h + 1) e.actor.0 0 c.sent-sent.result.now),
-      sealed_count (length h + 1) e.actor.0 0 c.sent-sent.result.now, c.in_ok-make_room.ensures.ok,
-      ap (λ (f : Flow). f.bag.room) c.in_ok-enter.ensures.rest, ap (length {A = Outgoing}) c.items.ensures.items)
+      sealed_count (length h + 1) e.actor.0 0 c.sent-sent.result.now,
+      c.in_ok-make_room.ensures.ok,
+      ap (λ (f : Flow). f.bag.room) c.in_ok-enter.ensures.rest,
+      ap (length {A = Outgoing}) c.items.ensures.items,
+    )
 
 -- what is left of the bag
 left : (c : goal.After-wipe) → c.take.new.self.items ≡ remove (c.args.flow.now.bag.items
@@ -105,7 +113,7 @@ event c =
           c.in-Ok.ensures.acted;
       bag = (λ x. map (message_at (first x) (ok x)) c.take.new.self.items)
           ∙ bag_after f.go h (entry_here c) f.bag.items c.take.new.self.items (length c.messages-before.result.now)
-              (length c.messages.result.now) c.args.k c.requires.waits c.requires.placed (before c) (after c) (left c)
+          (length c.messages.result.now) c.args.k c.requires.waits c.requires.placed (before c) (after c) (left c)
           ∙ (λ x. remove (world_in f).bag c.args.k ++ sealed (length h + 1) (took x).to.0 0 (c.sent-sent.ensures x));
       history = ok ∙ (λ x. h ++ entry_made (length h) (took x) (c.sent-sent.ensures x) (c.acts.ensures x) ∷ []);
     }
@@ -119,6 +127,6 @@ returns-in-Ok-clause-took c = event_took _ _ _ _ _ _ _ _ (event c)
 pub returns-in-Ok-clause-placed : goal.returns-in-Ok-clause-placed
 returns-in-Ok-clause-placed c =
     let h = c.args.flow.now.history in
-    subst (λ (es : List Entry). ArePlaced es c.take.new.self.items) (sym c.in_ok-enter.ensures.ok)
-      (placed_after h (entry_here c) c.args.flow.now.bag.items c.take.new.self.items (length c.messages-before.result.now)
-      (length c.messages.result.now) c.args.k c.requires.placed (before c) (after c) (left c))
+    subst (λ (es : List Entry). ArePlacesOf es c.take.new.self.items) (sym c.in_ok-enter.ensures.ok)
+    (placed_after h (entry_here c) c.args.flow.now.bag.items c.take.new.self.items (length c.messages-before.result.now)
+    (length c.messages.result.now) c.args.k c.requires.placed (before c) (after c) (left c))

@@ -1,4 +1,4 @@
-use Rattle.std.proofs.Common.{◌≡◌, ℕ, ◌+◌, ◌-◌, ◌≤◌, ◌∙◌, List, [], ◌∷◌, ◌++◌, sym, ap, arith, append_assoc}
+use Rattle.std.proofs.Common.{◌≡◌, ℕ, ◌+◌, ◌-◌, ◌∙◌, List, [], ◌∷◌, ◌++◌, sym, ap, arith, append_assoc}
 use Rattle.letter_bag.specs.Bag.{BagData}
 use Rattle.world_core.specs.inside.Flows.{places_from}
 use Rattle.world_core.proofs.Places.{places_more}
