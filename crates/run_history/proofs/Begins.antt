@@ -1,7 +1,7 @@
 -- Where the parts of an entry begin.
 use Rattle.std.proofs.Common.{◌≡◌, ℕ, zero, suc, ◌<◌, List, [], ◌∷◌, length, refl, arith}
 use Rattle.std.specs.Prelude.{get_or}
-use Rattle.run_history.specs.declared.history.Slot.{Slot}
+use Rattle.run_history.specs.declared.record.Slot.{Slot}
 use Rattle.run_history.specs.inside.Slots.{slot_begins}
 
 pub begins_first : (f : Slot → ℕ) (d : ℕ) (ps : List Slot) → slot_begins f d ps 0 ≡ d

@@ -10,7 +10,7 @@ use Rattle.letter_types.specs.declared.acts.Act.{Act}
 use Rattle.letter_types.specs.declared.entries.Entry.{Entry}
 use Rattle.letter_types.specs.declared.entries.Letter.{Letter}
 use Rattle.letter_types.specs.Letters.{go, letters_of}
-use Rattle.run_history.specs.declared.history.Slot.{Slot}
+use Rattle.run_history.specs.declared.record.Slot.{Slot}
 use Rattle.run_history.specs.Messages.{acts_of, entry_behind, messages_of, outgoing_of}
 use Rattle.run_history.specs.inside.Slots.{AreSlots, AreSlotsFrom, slot_begins, slots_from, entries_of_slots, entry_of_slot, IsSlot, IsTakenFrom, Lists, taken_of_slot}
 
@@ -18,7 +18,7 @@ use Rattle.run_history.specs.inside.Slots.{AreSlots, AreSlotsFrom, slot_begins, 
 abbrev pub longer : Lists → List Letter → List Letter → List Act → Lists
 longer ls letters came acts = record { letters = ls.letters ++ letters; came = ls.came ++ came; acts = ls.acts ++ acts }
 
--- a range that lies in a list stays ds the list goes on
+-- a range that lies in a list stays as the list goes on
 pub range_stays : {X : Type 0} (xs ys : List X) (i j : ℕ) → i ≤ j → j ≤ length xs → slice_range (xs ++ ys) i j ≡ slice_range xs i j
 range_stays {X} xs ys i j le in_list =
     ap (λ (zs : List X). take (j - i) zs) (drop-append-le i xs ys (omega (arith, le, in_list)))
@@ -30,17 +30,17 @@ range_behind {X} xs ys j is =
     ap (λ (zs : List X). take (j - length xs) zs) (drop-append_seam xs ys)
     ∙ take_all (j - length xs) ys (omega (arith, is, length-append xs ys))
 
-taken_by_stays : (b : Bool) (ls : Lists) (l1 l2 : List Letter) (i : ℕ) (p : Slot) → p.came ≡ b
+taken_stays : (b : Bool) (ls : Lists) (l1 l2 : List Letter) (i : ℕ) (p : Slot) → p.came ≡ b
     → i ≤ length ls.letters → IsTakenFrom i (length ls.came) p
     → taken_of_slot (ls.letters ++ l1) (ls.came ++ l2) p ≡ taken_of_slot ls.letters ls.came p
-taken_by_stays true ls l1 l2 i p is le t = rw is (get_or_append_left ls.came l2 (go 0) p.took (t.0 is))
-taken_by_stays false ls l1 l2 i p is le t = rw is (get_or_append_left ls.letters l1 (go 0) p.took (omega (arith, t.1 is, le)))
+taken_stays true ls l1 l2 i p is le t = rw is (get_or_append_left ls.came l2 (go 0) p.took (t.0 is))
+taken_stays false ls l1 l2 i p is le t = rw is (get_or_append_left ls.letters l1 (go 0) p.took (omega (arith, t.1 is, le)))
 
 -- an entry stays
 pub entry_stays : (n i j : ℕ) (ls : Lists) (l1 l2 : List Letter) (ds : List Act) (p : Slot) → IsSlot n i j ls p
     → entry_of_slot n i j (longer ls l1 l2 ds) p ≡ entry_of_slot n i j ls p
 entry_stays n i j ls l1 l2 ds p k =
-    let took = taken_by_stays p.came ls l1 l2 i p refl (omega (arith, k.sent, k.sent_in)) k.took in
+    let took = taken_stays p.came ls l1 l2 i p refl (omega (arith, k.sent, k.sent_in)) k.took in
     let sent = range_stays ls.letters l1 i p.sent k.sent k.sent_in in
     let acts = range_stays ls.acts ds j p.acts k.acts k.acts_in in
     (λ x. entry_behind n p.actor (took x) (map outgoing_of (sent x)) (acts x))
@@ -56,15 +56,6 @@ kept_stays n i j ls l1 l2 ds p k = record {
   took = ((λ is. omega (arith, k.took.0 is, length-append ls.came l2)), k.took.1);
   ids = range_stays ls.letters l1 i p.sent k.sent k.sent_in ∙ k.ids ∙ ap letters_of (sym (entry_stays n i j ls l1 l2 ds p k));
 }
-
--- all stay
-pub entries_stay : (n i j : ℕ) (ls : Lists) (ps : List Slot) (l1 l2 : List Letter) (ds : List Act)
-    → AreSlotsFrom n i j ls ps → slots_from n i j (longer ls l1 l2 ds) ps ≡ slots_from n i j ls ps
-entries_stay n i j ls [] l1 l2 ds k = refl
-entries_stay n i j ls (p ∷ ps) l1 l2 ds k =
-    let first = entry_stays n i j ls l1 l2 ds p k.0 in
-    let rest = entries_stay (n + 1) p.sent p.acts ls ps l1 l2 ds k.1 in
-    (λ x. first x ∷ rest x)
 
 -- one more entry behind those that are kept
 pub one_more : (n i j : ℕ) (ls : Lists) (ps : List Slot) (l1 l2 : List Letter) (ds : List Act) (p : Slot)

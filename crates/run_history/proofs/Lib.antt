@@ -2,4 +2,3 @@ pub mod Sealed
 pub mod Kept
 pub mod Begins
 pub mod Pushed
-pub mod Cut

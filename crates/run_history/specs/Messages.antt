@@ -1,5 +1,5 @@
 -- The messages and acts of a history, in order.
-use Rattle.std.specs.Prelude.{ℕ, ◌+◌, List}
+use Rattle.std.specs.Prelude.{ℕ, ◌+◌, List, [], ◌∷◌, ◌++◌, length}
 use Rattle.std.specs.List.{flat_map}
 use Rattle.tv_base.specs.declared.numbers.ActorNo.{ActorNo}
 use Rattle.letter_types.specs.declared.acts.Act.{Act}
@@ -23,3 +23,7 @@ acts_of es = flat_map (λ e. e.acts) es
 -- the entry behind n others, of an actor that took a message, sent these and did these
 abbrev pub entry_behind : ℕ → ActorNo → Letter → List Outgoing → List Act → Entry
 entry_behind n actor l sent acts = record { stamp = record { 0 = n + 1 }; actor = actor; took = l; sent = sent; acts = acts }
+
+-- these entries, and behind them that of an actor that took a message, sent these and did these
+abbrev pub with_entry : List Entry → ActorNo → Letter → List Outgoing → List Act → List Entry
+with_entry es actor l sent acts = es ++ entry_behind (length es) actor l sent acts ∷ []

@@ -1,6 +1,7 @@
 // One entry of a history, and all of them in order.
 ghost use Rattle.std.specs.Prelude.{◌≡◌, IfOk, map, drop};
 ghost use Rattle.std.specs.Iterator.{YieldsFirst, item_count};
+ghost use Rattle.letter_types.specs.Letters.{letters_of};
 ghost use Rattle.run_history.specs.Messages.{outgoing_of};
 
 use crate::history::History;
@@ -20,8 +21,9 @@ pub struct EntryRef<'a> {
 }
 
 impl<'a> Model for EntryRef<'a> {
-    ghost use Rattle.std.specs.Prelude.{map};
+    ghost use Rattle.std.specs.Prelude.{◌≡◌, map};
     ghost use Rattle.letter_types.specs.declared.entries.Entry.{Entry};
+    ghost use Rattle.letter_types.specs.Letters.{sealed};
     ghost use Rattle.run_history.specs.Messages.{outgoing_of};
 
     ghost Value = { Entry };
@@ -33,6 +35,9 @@ impl<'a> Model for EntryRef<'a> {
       sent = map outgoing_of e.sent.now;
       acts = e.acts.now;
     } };
+
+    // each message has its id
+    ghost invariant = { λ e. e.sent.now ≡ sealed e.stamp.0 e.actor.0 0 (map outgoing_of e.sent.now) };
 }
 
 impl<'a> EntryRef<'a> {
@@ -60,10 +65,11 @@ impl<'a> EntryRef<'a> {
         self.took
     }
 
-    /// The messages that were sent.
+    /// The messages that were sent, each with its id.
     #[inline(always)]
     pub fn sent(&self) -> &'a [Letter]
-        ensures { map outgoing_of result.now ≡ self.now.sent }
+        ensures sent { map outgoing_of result.now ≡ self.now.sent }
+        ensures ids { result.now ≡ letters_of self.now }
     {
         self.sent
     }

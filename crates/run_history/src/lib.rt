@@ -4,6 +4,8 @@
 mod entry;
 mod history;
 mod pushing;
+mod record;
 
 pub use entry::{Entries, EntryRef};
 pub use history::History;
+pub use record::Record;

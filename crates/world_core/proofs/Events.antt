@@ -2,7 +2,7 @@
 use Rattle.std.proofs.Common.{◌≡◌, ℕ, ◌+◌, ◌*◌, ◌<◌, ◌≤◌, List, [], ◌∷◌, ◌++◌, length, reverse, Option, Some, None, sym, ap, ◌∙◌, subst, arith}
 use Rattle.std.specs.Prelude.{slice_get, IfSome}
 use Rattle.std.specs.List.{remove}
-use Rattle.std.proofs.lemmas.List.{length-append, length-reverse}
+use Rattle.std.proofs.lemmas.List.{length-reverse}
 use Rattle.tv_base.proofs.ByPlace.{get_some}
 use Rattle.letter_types.specs.declared.entries.Letter.{Letter}
 use Rattle.letter_types.specs.declared.entries.StepOut.{StepOut}
@@ -18,10 +18,10 @@ use Rattle.world_core.specs.declared.actor.ActorPlan.{ActorPlan}
 use Rattle.world_model.specs.Tables.{ActorData}
 use Rattle.world_model.specs.Taking.{CountsBelow, IsAddressed, MOST_COUNTED}
 use Rattle.world_core.specs.Actors.{IsWorldOf, TookLetter, WorldData}
-use Rattle.world_core.specs.Steps.{IsActorStepOf, ActorMayDo, MayTake, out_of}
+use Rattle.world_core.specs.Steps.{IsActorStepOf, ActorMayDo, MayTake}
 use Rattle.world_core.specs.inside.Actors.{Acted, entry_made}
-use Rattle.world_core.proofs.Doing.{is_row, may_do, out_is}
-use Rattle.world_core.proofs.Worlds.{Took, below, entry_of, next_world}
+use Rattle.world_core.proofs.Doing.{is_row, may_do}
+use Rattle.world_core.proofs.Worlds.{Took, below, next_world}
 
 pub if_some : {X : Type 0} (P : X → Type 0) (o : Option X) (x : X) → o ≡ Some x → IfSome o P → P x
 if_some P None x is h = absurd (cc is)
@@ -71,8 +71,8 @@ pub record Event (s : ScriptData) (w : WorldData) (k : ℕ) (l : Letter) (p : Ac
   pub letter : slice_get w.bag k ≡ Some l
   pub step : IfSome (slice_get w.actors l.to.0) (λ st. IsActorStepOf s l st p z)
   pub acted : Acted l.to.0 p z w.actors next.actors out
-  pub bag : next.bag ≡ remove w.bag k ++ sealed (length w.history + 1) l.to.0 0 (out_of p z).sent
-  pub history : next.history ≡ w.history ++ entry_made (length w.history) l (out_of p z).sent (out_of p z).acts ∷ []
+  pub bag : next.bag ≡ remove w.bag k ++ sealed (length w.history + 1) l.to.0 0 out.sent
+  pub history : next.history ≡ w.history ++ entry_made (length w.history) l out.sent out.acts ∷ []
 
 -- the actor made its row
 took_by : (s : ScriptData) (w : WorldData) (k : ℕ) (l : Letter) (p : ActorPlan) (z : Scratch) (out : StepOut) (next : WorldData)
@@ -88,35 +88,17 @@ took_by s w k l p z out next world e =
           (if_some (λ st. IsActorStepOf s l st p z) (slice_get w.actors l.to.0) a.before a.there e.step) a.done;
     }
 
--- what goes out is what was planned
-is_out : (s : ScriptData) (w : WorldData) (k : ℕ) (l : Letter) (p : ActorPlan) (z : Scratch) (out : StepOut) (next : WorldData)
-    → Event s w k l p z out next → out_of p z ≡ out
-is_out s w k l p z out next e = sym (out_is p z e.acted.before e.acted.after out e.acted.done)
-
-pub history_is : (s : ScriptData) (w : WorldData) (k : ℕ) (l : Letter) (p : ActorPlan) (z : Scratch) (out : StepOut) (next : WorldData)
-    → Event s w k l p z out next → next.history ≡ w.history ++ entry_of (length w.history + 1) l out.sent out.acts ∷ []
-history_is s w k l p z out next e =
-    let is = is_out s w k l p z out next e in
-    e.history ∙ (λ i. w.history ++ entry_of (length w.history + 1) l (is i).sent (is i).acts ∷ [])
-
 pub event_world : (s : ScriptData) (w : WorldData) (k : ℕ) (l : Letter) (p : ActorPlan) (z : Scratch) (out : StepOut) (next : WorldData)
     → IsWorldOf s w → IsValid s → Event s w k l p z out next → IsWorldOf s next
 event_world s w k l p z out next world valid e =
-    let is = is_out s w k l p z out next e in
-    let made : IsWorldOf s (record { actors = next.actors; bag = next.bag; history = w.history ++ entry_of (length w.history + 1) l out.sent out.acts ∷ [] }) =
+    let made : IsWorldOf s (record { actors = next.actors; bag = next.bag; history = w.history ++ entry_made (length w.history) l out.sent out.acts ∷ [] }) =
     next_world s w k l out next.actors next.bag world valid (record {
       letter = e.letter;
       took = took_by s w k l p z out next world e;
-      bag = e.bag ∙ (λ i. remove w.bag k ++ sealed (length w.history + 1) l.to.0 0 (is i).sent);
+      bag = e.bag;
     }) in
-    subst (λ (h : List Entry). IsWorldOf s (record { actors = next.actors; bag = next.bag; history = h })) (sym (history_is s w k l p z out next e)) made
+    subst (λ (h : List Entry). IsWorldOf s (record { actors = next.actors; bag = next.bag; history = h })) (sym e.history) made
 
 pub event_took : (s : ScriptData) (w : WorldData) (k : ℕ) (l : Letter) (p : ActorPlan) (z : Scratch) (out : StepOut) (next : WorldData)
     → Event s w k l p z out next → TookLetter k w next
-event_took s w k l p z out next e = (entry_of (length w.history + 1) l out.sent out.acts, history_is s w k l p z out next e, e.letter)
-
-pub event_count : (s : ScriptData) (w : WorldData) (k : ℕ) (l : Letter) (p : ActorPlan) (z : Scratch) (out : StepOut) (next : WorldData)
-    → Event s w k l p z out next → length next.history ≡ length w.history + 1
-event_count s w k l p z out next e =
-    ap (length {A = Entry}) (history_is s w k l p z out next e)
-    ∙ omega (arith, length-append w.history (entry_of (length w.history + 1) l out.sent out.acts ∷ []))
+event_took s w k l p z out next e = (entry_made (length w.history) l out.sent out.acts, e.history, e.letter)

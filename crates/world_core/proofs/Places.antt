@@ -1,17 +1,17 @@
 -- Messages by their places, as a history gets one more entry.
 use Rattle.std.proofs.Common.{◌≡◌, ℕ, zero, suc, ◌+◌, ◌-◌, ◌<◌, ◌≤◌, List, [], ◌∷◌, ◌++◌, ◌∙◌, length, map, take, drop, refl, sym, ap, subst, arith, append_assoc}
-use Rattle.std.specs.Prelude.{get_or}
+use Rattle.std.specs.Prelude.{get_or, slice_get, Some}
 use Rattle.std.specs.List.{All}
 use Rattle.std.specs.List.{remove}
 use Rattle.std.proofs.Math.Seq.{get_or-append_seam}
 use Rattle.std.proofs.lemmas.Grind.{flat_map-append}
-use Rattle.std.proofs.lemmas.List.{append-nil, get_or-drop, get_or_append_left, length-append, length-drop, length-map, map-append}
+use Rattle.std.proofs.lemmas.List.{append-nil, get_or-drop, get_or_append_left, get_or_default, length-append, length-drop, length-map, map-append, take-map, drop-map}
+use Rattle.std.proofs.lemmas.Option.{get_or_from_slice_get}
 use Rattle.std.proofs.lemmas.List.Edits.{remove-append_left}
 use Rattle.std.proofs.lemmas.List.Elements.{All-append, All-take}
 use Rattle.letter_types.specs.declared.entries.Entry.{Entry}
 use Rattle.letter_types.specs.declared.entries.Letter.{Letter}
-use Rattle.letter_types.specs.declared.entries.Outgoing.{Outgoing}
-use Rattle.letter_types.specs.Letters.{letters_of, sealed}
+use Rattle.letter_types.specs.Letters.{go, letters_of}
 use Rattle.run_history.specs.Messages.{messages_of}
 use Rattle.world_core.specs.inside.Flows.{ArePlacesOf, message_at, places_from}
 
@@ -34,14 +34,14 @@ at_places {X} xs (y ∷ ys) d i is =
     (λ x. here x ∷ rest x)
 
 pub new_messages : (g : Letter) (es : List Entry) (e : Entry) (n : ℕ) → n ≡ length (letters_of e)
-    → map (message_at g (es ++ e ∷ [])) (places_from (length (messages_of es)) n) ≡ letters_of e
+    → map (message_at g (messages_of (es ++ e ∷ []))) (places_from (length (messages_of es)) n) ≡ letters_of e
 new_messages g es e n count =
     (λ x. map (λ p. get_or (g ∷ messages_more es e x) p g) (places_from (length (messages_of es)) (count x)))
     ∙ at_places (g ∷ messages_of es) (letters_of e) g (length (messages_of es)) (omega arith)
 
 -- messages stay at their places
 pub messages_stay : (g : Letter) (es : List Entry) (e : Entry) (ps : List ℕ) → ArePlacesOf es ps
-    → map (message_at g (es ++ e ∷ [])) ps ≡ map (message_at g es) ps
+    → map (message_at g (messages_of (es ++ e ∷ []))) ps ≡ map (message_at g (messages_of es)) ps
 messages_stay g es e [] placed = refl
 messages_stay g es e (p ∷ ps) placed =
     let first = ap (λ (ls : List Letter). get_or (g ∷ ls) p g) (messages_more es e)
@@ -76,20 +76,10 @@ places_more i (suc n) =
     ∙ ap (λ (ks : List ℕ). (i + 1) ∷ ks) (places_more (i + 1) n ∙ ap (λ (k : ℕ). places_from (i + 1) n ++ k ∷ []) at)
 
 -- what is taken out of a list
-pub map-remove : {X Y : Type 0} (f : X → Y) (xs : List X) (k : ℕ) → map f (remove xs k) ≡ remove (map f xs) k
-map-remove f [] zero = refl
-map-remove f [] (suc k) = refl
-map-remove f (x ∷ xs) zero = refl
-map-remove {X} {Y} f (x ∷ xs) (suc k) = ap (λ (ys : List Y). f x ∷ ys) (map-remove f xs k)
-
 pub All-remove : {X : Type 0} (P : X → Type 0) (xs : List X) (k : ℕ) → All P xs → All P (remove xs k)
 All-remove {X} P xs k all =
     All-append P (take k xs) (drop (suc k) xs) (All-take P k xs all)
     (λ j d lt. subst P (sym (get_or-drop (suc k) xs j d)) (all (suc k + j) d (omega (arith, lt, length-drop (suc k) xs))))
-
-pub sealed_count : (stamp actor place : ℕ) (os : List Outgoing) → length (sealed stamp actor place os) ≡ length os
-sealed_count stamp actor place [] = refl
-sealed_count stamp actor place (o ∷ os) = ap suc (sealed_count stamp actor (place + 1) os)
 
 -- how many messages come behind
 more_count : (h : List Entry) (e : Entry) (from to : ℕ) → from ≡ length (messages_of h) → to ≡ length (messages_of (h ++ e ∷ []))
@@ -101,19 +91,21 @@ more_count h e from to f t =
 pub bag_after : (g : Letter) (h : List Entry) (e : Entry) (bag left : List ℕ) (from to k : ℕ) → k < length bag → ArePlacesOf h bag
     → from ≡ length (messages_of h) → to ≡ length (messages_of (h ++ e ∷ []))
     → left ≡ remove (bag ++ places_from from (to - from)) k
-    → map (message_at g (h ++ e ∷ [])) left ≡ remove (map (message_at g h) bag) k ++ letters_of e
+    → map (message_at g (messages_of (h ++ e ∷ []))) left ≡ remove (map (message_at g (messages_of h)) bag) k ++ letters_of e
 bag_after g h e bag left from to k lt placed f t is =
-    let after = message_at g (h ++ e ∷ []) in
+    let after = message_at g (messages_of (h ++ e ∷ [])) in
     let more = places_from from (to - from) in
-    let old = map (message_at g h) bag in
+    let all = bag ++ more in
+    let old = map (message_at g (messages_of h)) bag in
     let fresh : map after more ≡ letters_of e =
     ap (λ (n : ℕ). map after (places_from n (to - from))) f ∙ new_messages g h e (to - from) (more_count h e from to f t) in
-    let both : map after (bag ++ more) ≡ old ++ letters_of e =
+    let both : map after all ≡ old ++ letters_of e =
     map-append after bag more ∙ (λ x. messages_stay g h e bag placed x ++ fresh x) in
     ap (map after) is
-    ∙ map-remove after (bag ++ more) k
+    ∙ map-append after (take k all) (drop (suc k) all)
+    ∙ (λ x. sym (take-map after k all) x ++ sym (drop-map after (suc k) all) x)
     ∙ ap (λ (ls : List Letter). remove ls k) both
-    ∙ remove-append_left old (letters_of e) k (omega (arith, lt, length-map bag (message_at g h)))
+    ∙ remove-append_left old (letters_of e) k (omega (arith, lt, length-map bag (message_at g (messages_of h))))
 
 pub placed_after : (h : List Entry) (e : Entry) (bag left : List ℕ) (from to k : ℕ) → ArePlacesOf h bag
     → from ≡ length (messages_of h) → to ≡ length (messages_of (h ++ e ∷ []))
@@ -125,3 +117,14 @@ placed_after h e bag left from to k placed f t is =
     subst (λ (ks : List ℕ). ArePlacesOf (h ++ e ∷ []) ks) (sym is)
     (All-remove P (bag ++ places_from from (to - from)) k
     (All-append P bag (places_from from (to - from)) (placed_more h e bag placed) fresh))
+
+-- Go of whoever a message is to stands for the first message, where that is Go
+pub message_to : (first : Letter) (sent : List Letter) (p : ℕ) (l : Letter) → first ≡ go first.to.0 → p ≤ length sent
+    → l ≡ message_at first sent p → message_at (go l.to.0) sent p ≡ l
+message_to first sent zero l of le is = ap (λ (m : Letter). go m.to.0) is ∙ sym of ∙ sym is
+message_to first sent (suc k) l of le is = get_or_default sent k (go l.to.0) first (omega (arith, le)) ∙ sym is
+
+-- a place of the bag has a message
+pub place_in : (es : List Entry) (bag : List ℕ) (k p : ℕ) → ArePlacesOf es bag → k < length bag → slice_get bag k ≡ Some p
+    → p ≤ length (messages_of es)
+place_in es bag k p placed lt at = omega (arith, placed k p lt, get_or_from_slice_get bag k p p at)

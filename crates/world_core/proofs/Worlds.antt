@@ -25,12 +25,9 @@ use Rattle.world_model.proofs.Scripts.{get_below}
 use Rattle.world_core.specs.declared.actor.ActorState.{ActorState}
 use Rattle.world_model.specs.Tables.{ActorData, CoordinatorData, RestartingData, actor_row, coordinator_table, restarting_table}
 use Rattle.world_core.specs.Actors.{AreStatesOf, IsFor, IsStateOf, IsWorldOf, WorldData, actor_data}
+use Rattle.world_core.specs.inside.Actors.{entry_made}
 use Rattle.world_core.proofs.Doing.{IsRow}
 use Rattle.world_core.proofs.Bag.{Found, found_at}
-
--- the entry that a step makes
-abbrev pub entry_of : ℕ → Letter → List Outgoing → List Act → Entry
-entry_of stamp l sent acts = record { stamp = record { 0 = stamp }; actor = l.to; took = l; sent = sent; acts = acts }
 
 -- the coordinator of either kind, by its number
 coordinator_is : (s : ScriptData) (past : List Entry) (a : ℕ) → nat_lt a s.nodes ≡ false → (a == s.nodes) ≡ true → is_lossy s ≡ false
@@ -46,31 +43,31 @@ restarting_is s past a is at loses =
     here ∙ ap (λ (b : Bool). if b then RestartingData (restarting_in s past) else CoordinatorData (coordinator_in s past)) loses
 
 -- whose step it is
-moves_by : (s : ScriptData) (past : List Entry) (l : Letter) (stamp : ℕ) (sent : List Outgoing) (acts : List Act) (b c : Bool)
+moves_by : (s : ScriptData) (past : List Entry) (l : Letter) (n : ℕ) (sent : List Outgoing) (acts : List Act) (b c : Bool)
     → nat_lt l.to.0 s.nodes ≡ b → (l.to.0 == s.nodes) ≡ c → l.to.0 < s.nodes + 2
     → sent ≡ (actor_row s l.to.0 (actor_in s past l.to.0) l).sent → acts ≡ (actor_row s l.to.0 (actor_in s past l.to.0) l).acts
-    → Moves s past (entry_of stamp l sent acts)
-moves_by s past l stamp sent acts true c is at lt a b = AtNode (grind (arith, nat_tests)) (rw is at a, rw is at b)
-moves_by s past l stamp sent acts false true is at lt a b = by (is_lossy s) refl where
-  of : (d : ActorData) → actor_in s past l.to.0 ≡ d → Says (actor_row s l.to.0 d l) (entry_of stamp l sent acts)
+    → Moves s past (entry_made n l sent acts)
+moves_by s past l n sent acts true c is at lt a b = AtNode (grind (arith, nat_tests)) (rw is at a, rw is at b)
+moves_by s past l n sent acts false true is at lt a b = by (is_lossy s) refl where
+  of : (d : ActorData) → actor_in s past l.to.0 ≡ d → Says (actor_row s l.to.0 d l) (entry_made n l sent acts)
   of d now =
       (a ∙ ap (λ (x : ActorData). (actor_row s l.to.0 x l).sent) now, b ∙ ap (λ (x : ActorData). (actor_row s l.to.0 x l).acts) now)
 
-  by : (loses : Bool) → is_lossy s ≡ loses → Moves s past (entry_of stamp l sent acts)
+  by : (loses : Bool) → is_lossy s ≡ loses → Moves s past (entry_made n l sent acts)
   by false keeps =
       AtCoordinator (grind (arith, nat_tests)) keeps (of (CoordinatorData (coordinator_in s past)) (coordinator_is s past l.to.0 is at keeps))
   by true loses =
       AtRestarting (grind (arith, nat_tests)) loses (of (RestartingData (restarting_in s past)) (restarting_is s past l.to.0 is at loses))
-moves_by s past l stamp sent acts false false is at lt a b = AtClient (grind (arith, nat_tests)) (rw (is, at) at a, rw (is, at) at b)
+moves_by s past l n sent acts false false is at lt a b = AtClient (grind (arith, nat_tests)) (rw (is, at) at a, rw (is, at) at b)
 
 -- the addressee's next state
-state_by : (s : ScriptData) (past : List Entry) (l : Letter) (stamp : ℕ) (sent : List Outgoing) (acts : List Act) (b c : Bool)
+state_by : (s : ScriptData) (past : List Entry) (l : Letter) (n : ℕ) (sent : List Outgoing) (acts : List Act) (b c : Bool)
     → nat_lt l.to.0 s.nodes ≡ b → (l.to.0 == s.nodes) ≡ c → l.to.0 < s.nodes + 2
-    → (actor_row s l.to.0 (actor_in s past l.to.0) l).state ≡ actor_in s (entry_of stamp l sent acts ∷ past) l.to.0
-state_by s past l stamp sent acts true c is at lt = rw (is, same_test l.to.0) refl
-state_by s past l stamp sent acts false true is at lt = by (is_lossy s) refl where
+    → (actor_row s l.to.0 (actor_in s past l.to.0) l).state ≡ actor_in s (entry_made n l sent acts ∷ past) l.to.0
+state_by s past l n sent acts true c is at lt = rw (is, same_test l.to.0) refl
+state_by s past l n sent acts false true is at lt = by (is_lossy s) refl where
   e : Entry
-  e = entry_of stamp l sent acts
+  e = entry_made n l sent acts
 
   by : (loses : Bool) → is_lossy s ≡ loses → (actor_row s l.to.0 (actor_in s past l.to.0) l).state ≡ actor_in s (e ∷ past) l.to.0
   by false keeps =
@@ -81,7 +78,7 @@ state_by s past l stamp sent acts false true is at lt = by (is_lossy s) refl whe
       let next : (restarting_table (restarting_in s past) l).state ≡ restarting_in s (e ∷ past) = rw at refl in
       ap (λ (x : ActorData). (actor_row s l.to.0 x l).state) (restarting_is s past l.to.0 is at loses)
       ∙ ap RestartingData next ∙ sym (restarting_is s (e ∷ past) l.to.0 is at loses)
-state_by s past l stamp sent acts false false is at lt =
+state_by s past l n sent acts false false is at lt =
     let client : (l.to.0 == client_of s) ≡ true = grind (arith, nat_tests) in rw (is, at, client) refl
 
 -- the other actors stay
@@ -138,46 +135,46 @@ may_follow : (s : ScriptData) (w : WorldData) (k : ℕ) (l : Letter) (sent : Lis
     → slice_get w.bag k ≡ Some l
     → sent ≡ (actor_row s l.to.0 (actor_in s (reverse w.history) l.to.0) l).sent
     → acts ≡ (actor_row s l.to.0 (actor_in s (reverse w.history) l.to.0) l).acts
-    → MayFollow s (reverse w.history) (entry_of (length w.history + 1) l sent acts)
+    → MayFollow s (reverse w.history) (entry_made (length w.history) l sent acts)
 may_follow s w k l sent acts world valid at a b = record {
   stamp = omega (arith, length-reverse w.history);
   waits = (found_in s w k l world at).found;
   addressee = refl;
-  moves = moves_by s (reverse w.history) l (length w.history + 1) sent acts (nat_lt l.to.0 s.nodes) (l.to.0 == s.nodes) refl refl (below s w k l world valid at) a b;
+  moves = moves_by s (reverse w.history) l (length w.history) sent acts (nat_lt l.to.0 s.nodes) (l.to.0 == s.nodes) refl refl (below s w k l world valid at) a b;
 }
 
 -- each actor's next state
-state_next : (s : ScriptData) (past : List Entry) (l : Letter) (stamp : ℕ) (sent : List Outgoing) (acts : List Act) (old : List ActorState) (after st : ActorState) (a : ℕ)
+state_next : (s : ScriptData) (past : List Entry) (l : Letter) (n : ℕ) (sent : List Outgoing) (acts : List Act) (old : List ActorState) (after st : ActorState) (a : ℕ)
     → length old ≡ s.nodes + 2 → l.to.0 < s.nodes + 2 → AreStatesOf s past old
     → actor_data after ≡ (actor_row s l.to.0 (actor_in s past l.to.0) l).state → IsFor s after
     → slice_get (slice_set old l.to.0 after) a ≡ Some st → (b : Bool) → (l.to.0 == a) ≡ b
-    → IsStateOf s (entry_of stamp l sent acts ∷ past) a st
-state_next s past l stamp sent acts old after st a count to states row script at true is =
+    → IsStateOf s (entry_made n l sent acts ∷ past) a st
+state_next s past l n sent acts old after st a count to states row script at true is =
     let eq : l.to.0 ≡ a = grind (arith, nat_tests) in
     let here : slice_get (slice_set old l.to.0 after) a ≡ Some after =
     subst (λ (n : ℕ). slice_get (slice_set old l.to.0 after) n ≡ Some after) eq (get_set_same old l.to.0 after (omega arith)) in
     let same : after ≡ st = same_Some after st (sym here ∙ at) in
-    subst (λ (y : ActorState). IsStateOf s (entry_of stamp l sent acts ∷ past) a y) same (record {
-      seen = subst (λ (n : ℕ). actor_data after ≡ actor_in s (entry_of stamp l sent acts ∷ past) n) eq
-          (row ∙ state_by s past l stamp sent acts (nat_lt l.to.0 s.nodes) (l.to.0 == s.nodes) refl refl to);
+    subst (λ (y : ActorState). IsStateOf s (entry_made n l sent acts ∷ past) a y) same (record {
+      seen = subst (λ (n : ℕ). actor_data after ≡ actor_in s (entry_made n l sent acts ∷ past) n) eq
+          (row ∙ state_by s past l n sent acts (nat_lt l.to.0 s.nodes) (l.to.0 == s.nodes) refl refl to);
       script = script;
     })
-state_next s past l stamp sent acts old after st a count to states row script at false is =
+state_next s past l n sent acts old after st a count to states row script at false is =
     let ne : l.to.0 ≢ a = grind (arith, nat_tests) in
     let there : slice_get old a ≡ Some st = sym (get_set_other old l.to.0 a after ne) ∙ at in
     let lt : a < s.nodes + 2 = omega (arith, get_below old a st there) in
     record {
       seen = (states a st there).seen
-          ∙ sym (others_by s past (entry_of stamp l sent acts) a (nat_lt a s.nodes) (a == s.nodes) refl refl lt ne);
+          ∙ sym (others_by s past (entry_made n l sent acts) a (nat_lt a s.nodes) (a == s.nodes) refl refl lt ne);
       script = (states a st there).script;
     }
 
 pub next_world : (s : ScriptData) (w : WorldData) (k : ℕ) (l : Letter) (out : StepOut) (actors : List ActorState) (bag : List Letter)
     → IsWorldOf s w → IsValid s → Stepped s w k l out actors bag
-    → IsWorldOf s (record { actors = actors; bag = bag; history = w.history ++ entry_of (length w.history + 1) l out.sent out.acts ∷ [] })
+    → IsWorldOf s (record { actors = actors; bag = bag; history = w.history ++ entry_made (length w.history) l out.sent out.acts ∷ [] })
 next_world s w k l out actors bag world valid step =
     let past = reverse w.history in
-    let e = entry_of (length w.history + 1) l out.sent out.acts in
+    let e = entry_made (length w.history) l out.sent out.acts in
     let to : l.to.0 < s.nodes + 2 = below s w k l world valid step.letter in
     let acted = step.took in
     let row : made (actor_data acted.after) out ≡ actor_row s l.to.0 (actor_in s past l.to.0) l = row_is s past l w.actors actors out world.actors acted in
@@ -185,7 +182,7 @@ next_world s w k l out actors bag world valid step =
     record {
       run = rw back (may_follow s w k l out.sent out.acts world valid step.letter (ap (λ (o : Out ActorData). o.sent) row) (ap (λ (o : Out ActorData). o.acts) row), world.run);
       count = ap (length {A = ActorState}) acted.set ∙ length-set w.actors l.to.0 acted.after ∙ world.count;
-      actors = rw (back, acted.set) (λ a st at. state_next s past l (length w.history + 1) out.sent out.acts w.actors acted.after st a world.count to world.actors
+      actors = rw (back, acted.set) (λ a st at. state_next s past l (length w.history) out.sent out.acts w.actors acted.after st a world.count to world.actors
           (ap (λ (o : Out ActorData). o.state) row) acted.is.script at
           (l.to.0 == a) refl);
       bag = step.bag ∙ rw (back, world.bag, (found_in s w k l world step.letter).left) refl;

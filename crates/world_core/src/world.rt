@@ -1,40 +1,41 @@
 // A world: all actors, the messages in flight, and the history so far.
 ghost use Rattle.std.specs.Prelude.{◌≡◌, ◌<◌, ◌≤◌, ◌+◌, ◌-◌, ◌++◌, ◌∷◌, [], length, slice_get, IfOk, IfSome, OnOk, OnErr, Some};
 ghost use Rattle.tv_base.specs.declared.numbers.TheConstants.{MOST_ENTRIES};
-ghost use Rattle.run_history.specs.Messages.{messages_of};
+ghost use Rattle.letter_types.specs.Letters.{go};
+ghost use Rattle.run_history.specs.Messages.{messages_of, with_entry};
+ghost use Rattle.run_history.specs.Records.{HasRoom};
 ghost use Rattle.tx_trees.specs.ScriptData.{ScriptData};
 ghost use Rattle.world_core.specs.Actors.{AreStatesOf, IsLedTo, IsWorldOf, TookLetter};
 ghost use Rattle.tree_step.specs.Meant.{IsEmpty, out_in};
 ghost use Rattle.world_core.specs.Steps.{ActorMayDo, MayTake};
-ghost use Rattle.world_core.specs.inside.Actors.{Acted, entry_made, IsPlanFor};
-ghost use Rattle.world_core.specs.inside.Flows.{ArePlacesOf, message_at, places_from, world_in};
+ghost use Rattle.world_core.specs.inside.Actors.{Acted, IsPlanFor};
+ghost use Rattle.world_core.specs.inside.Flows.{IsFlowOf, message_at, places_from, world_in};
 ghost use Rattle.pair_counters.specs.Numbers.{MOST_COUNT};
 
 use crate::actor::{ActorPlan, ActorState, actor_done, actor_plan};
 use letter_bag::OrderedBag;
-use letter_types::{Acts, Entry, Letter, Letters, copy_acts, copy_letters, go};
-use run_history::History;
+use letter_types::{Letter, go};
+use run_history::{History, Record};
 use std::alloc::Global;
 use std::marker::Model;
 use tree_step::{Incoming, Scratch, new_scratch, wipe};
 use tv_base::{ActorNo, NoMemory, Stamp};
 use tx_trees::Script;
 
-/// What an event of a world changes: the actors, the messages in flight, and the history. A message is kept once, in
-/// the history, and the bag has its place: 0 is Go, which no entry sent, and `n` the `n`th of all that were sent.
+/// What an event of a world changes beside the history: the actors, and the messages in flight. A message is kept once,
+/// in the history, and the bag has its place: 0 is Go, which no entry sent, and `n` the `n`th of all that were sent.
 #[derive(Drop)]
 struct Flow {
     actors: Vec<ActorState>,
     bag: OrderedBag<usize>,
     go: Letter,
-    history: History,
 }
 
 /// All actors of a script, the messages in flight in order of their ids, and the history so far.
 #[derive(Drop)]
 pub struct World {
-    alloc: Global,
     flow: Flow,
+    history: History,
     // used again by each step, and empty between steps
     scratch: Scratch,
 }
@@ -42,13 +43,13 @@ pub struct World {
 impl Model for World {
     ghost use Rattle.tree_step.specs.Meant.{IsEmpty};
     ghost use Rattle.world_core.specs.Actors.{WorldData};
-    ghost use Rattle.world_core.specs.inside.Flows.{ArePlacesOf, world_in};
+    ghost use Rattle.world_core.specs.inside.Flows.{IsFlowOf, world_in};
 
     ghost Value = { WorldData };
 
-    ghost view = { λ w. world_in w.flow };
+    ghost view = { λ w. world_in w.flow w.history };
 
-    ghost invariant = { λ w. IsEmpty w.scratch × ArePlacesOf w.flow.history w.flow.bag.items };
+    ghost invariant = { λ w. IsEmpty w.scratch × IsFlowOf w.history w.flow };
 }
 
 /// The actors of a script as a run begins.
@@ -66,14 +67,14 @@ fn first_actors(alloc: Global, script: &Script) -> Result<Vec<ActorState>, NoMem
 
 /// The message at a place.
 #[inline(always)]
-fn message_at(flow: &Flow, place: usize) -> &Letter
-    requires { place ≤ length (messages_of flow.now.history) }
-    ensures { result.now ≡ message_at flow.now.go flow.now.history place }
+fn message_at<'a>(go: &'a Letter, sent: &'a [Letter], place: usize) -> &'a Letter
+    requires { place ≤ length sent.now }
+    ensures { result.now ≡ message_at go.now sent.now place }
 {
     if place == 0 {
-        &flow.go
+        go
     } else {
-        &flow.history.messages()[place - 1]
+        &sent[place - 1]
     }
 }
 
@@ -132,36 +133,21 @@ fn act(
     actor_done(alloc, state, plan, scratch)
 }
 
-/// Puts the entry of a step behind the history, with equal copies of what it sends and does. If memory runs out, the
-/// history is as it was.
-fn enter(
-    alloc: Global,
-    flow: &mut Flow,
-    place: usize,
-    sent: &Letters,
-    acts: &Acts,
-) -> Result<(), NoMemory>
-    requires { place ≤ length (messages_of flow.old.history) }
-    ensures ok { OnOk result (flow.new.history ≡ flow.old.history
-        ++ entry_made (length flow.old.history) (message_at flow.old.go flow.old.history place) sent.now acts.now ∷ []) }
-    ensures err { OnErr result (flow.new.history ≡ flow.old.history) }
-    ensures rest { flow.new ≡ record flow.old { history = flow.new.history } }
+/// Enters the step of an actor that took the message at a place: what goes out is moved out of the scratch.
+#[inline(always)]
+fn enter(log: &mut Record, place: usize, actor: ActorNo, scratch: &mut Scratch)
+    requires place { place ≤ length (messages_of log.old.entries) }
+    requires room { HasRoom (length scratch.old.sent) (length scratch.old.acts) log.old }
+    ensures { log.new.entries ≡ with_entry log.old.entries actor (message_at (go actor.0) (messages_of log.old.entries) place)
+        scratch.old.sent scratch.old.acts }
 {
-    let took = message_at(flow, place);
-    let actor = took.to;
+    let sent = &mut scratch.sent;
+    let acts = &mut scratch.acts;
     if 0 < place {
-        flow.history.enter(alloc, place - 1, actor, sent, acts)?;
-        return Ok(());
+        log.enter(place - 1, actor, sent, acts);
+    } else {
+        log.enter_whole(go(actor), actor, sent, acts);
     }
-    let entry = Entry {
-        stamp: Stamp(flow.history.len() as u64 + 1),
-        actor,
-        took: took.copy(alloc)?,
-        sent: copy_letters(alloc, sent)?,
-        acts: copy_acts(alloc, acts)?,
-    };
-    flow.history.push(entry)?;
-    Ok(())
 }
 
 /// Makes room for the messages of one step, if it sends any.
@@ -178,29 +164,30 @@ fn make_room(bag: &mut OrderedBag<usize>, room: usize) -> Result<(), NoMemory>
 
 /// One event of a world. If memory runs out, what it changes is as it was.
 fn advance(
-    alloc: Global,
     script: &Script,
     flow: &mut Flow,
+    log: &mut Record,
     scratch: &mut Scratch,
     k: usize,
 ) -> Result<Stamp, NoMemory>
     // What the caller knows.
     requires waits { k < length flow.old.bag.items }
-    requires world { IsWorldOf script.now (world_in flow.old) }
-    requires placed { ArePlacesOf flow.old.history flow.old.bag.items }
+    requires world { IsWorldOf script.now (world_in flow.old log.old.entries) }
+    requires flow { IsFlowOf log.old.entries flow.old }
     requires empty { IsEmpty scratch.old }
     // What came.
-    ensures world { OnOk result (IsWorldOf script.now (world_in flow.new)) }
-    ensures took { OnOk result (TookLetter k (world_in flow.old) (world_in flow.new)) }
-    ensures stamp { IfOk result (λ stamp. stamp.0 ≡ length flow.new.history) }
+    ensures world { OnOk result (IsWorldOf script.now (world_in flow.new log.new.entries)) }
+    ensures took { OnOk result (TookLetter k (world_in flow.old log.old.entries) (world_in flow.new log.new.entries)) }
+    ensures stamp { IfOk result (λ stamp. stamp.0 ≡ length log.new.entries) }
     ensures empty { OnOk result (IsEmpty scratch.new) }
-    ensures placed { ArePlacesOf flow.new.history flow.new.bag.items }
-    ensures err { OnErr result (world_in flow.new ≡ world_in flow.old) }
+    ensures flow { IsFlowOf log.new.entries flow.new }
+    ensures err { OnErr result (world_in flow.new log.new.entries ≡ world_in flow.old log.old.entries) }
 {
     let _valid = script.nodes();
-    let stamp = Stamp(flow.history.len() as u64 + 1);
+    let alloc = *flow.actors.allocator();
+    let stamp = Stamp(log.len() as u64 + 1);
     let place = *flow.bag.at(k);
-    let letter = message_at(flow, place);
+    let letter = message_at(&flow.go, log.messages(), place);
     let actor = letter.to;
     let came = Incoming {
         alloc,
@@ -208,22 +195,16 @@ fn advance(
         script,
     };
     let plan = plan(&flow.actors, &came, scratch)?;
-    let sent = plan.sent(scratch);
-    make_room(&mut flow.bag, sent.items().len())?;
-    let before = flow.history.messages().len();
-    enter(alloc, flow, place, sent, plan.acts(scratch))?;
-    match act(alloc, &mut flow.actors, actor, plan, scratch) {
-        Ok(()) => {
-            put_places(&mut flow.bag, before, flow.history.messages().len());
-            flow.bag.take(k);
-            wipe(scratch);
-            Ok(stamp)
-        }
-        Err(refused) => {
-            flow.history.take_back();
-            Err(refused)
-        }
-    }
+    let sent = plan.sent(scratch).items().len();
+    make_room(&mut flow.bag, sent)?;
+    log.make_room(sent, plan.acts(scratch).items().len())?;
+    act(alloc, &mut flow.actors, actor, plan, scratch)?;
+    let before = log.messages().len();
+    enter(log, place, actor, scratch);
+    put_places(&mut flow.bag, before, log.messages().len());
+    flow.bag.take(k);
+    wipe(scratch);
+    Ok(stamp)
 }
 
 impl World {
@@ -240,11 +221,10 @@ impl World {
             actors,
             bag,
             go: go(client),
-            history: History::new(alloc),
         };
         Ok(World {
-            alloc,
             flow,
+            history: History::new(alloc),
             scratch: new_scratch(alloc),
         })
     }
@@ -261,7 +241,7 @@ impl World {
         requires { k < length self.now.bag }
         ensures { slice_get self.now.bag k ≡ Some result.now }
     {
-        message_at(&self.flow, *self.flow.bag.at(k))
+        message_at(&self.flow.go, self.history.messages(), *self.flow.bag.at(k))
     }
 
     /// The state of an actor. In a world of a script it is the one to which this actor's own entries lead.
@@ -287,7 +267,9 @@ impl World {
         ensures stamp { IfOk result (λ stamp. stamp.0 ≡ length self.new.history) }
         ensures err { OnErr result (self.new ≡ self.old) }
     {
-        let result = advance(self.alloc, script, &mut self.flow, &mut self.scratch, k);
+        let mut log = self.history.open()?;
+        let result = advance(script, &mut self.flow, &mut log, &mut self.scratch, k);
+        self.history.close(log);
         if result.is_err() {
             wipe(&mut self.scratch);
         }
@@ -299,14 +281,14 @@ impl World {
         ensures history { result.now ≡ self.now.history }
         ensures few { length self.now.history ≤ MOST_ENTRIES }
     {
-        let _count = self.flow.history.len();
-        &self.flow.history
+        let _count = self.history.len();
+        &self.history
     }
 
     /// The history, by value.
     pub fn into_history(self) -> History
         ensures { result ≡ self.history }
     {
-        self.flow.history
+        self.history
     }
 }

@@ -6,7 +6,7 @@ use Rattle.letter_types.specs.declared.acts.Act.{Act}
 use Rattle.letter_types.specs.declared.entries.Entry.{Entry}
 use Rattle.letter_types.specs.declared.entries.Letter.{Letter}
 use Rattle.letter_types.specs.Letters.{go, letters_of}
-use Rattle.run_history.specs.declared.history.Slot.{Slot}
+use Rattle.run_history.specs.declared.record.Slot.{Slot}
 use Rattle.run_history.specs.Messages.{entry_behind, outgoing_of}
 
 -- the lists in which parts of entries lie
@@ -57,7 +57,7 @@ pub record AreSlots (ls : Lists) (ps : List Slot) : Type 0 where
   pub few : length ps ≤ MOST_ENTRIES
   pub all : AreSlotsFrom 0 0 0 ls ps
 
--- where something slot_begins at a place: where it ends at the place before, or at d
+-- where something begins at a place: where it ends at the place before, or at d
 abbrev pub slot_begins : (Slot → ℕ) → ℕ → List Slot → ℕ → ℕ
 slot_begins f d [] k = d
 slot_begins f d (p ∷ ps) zero = d

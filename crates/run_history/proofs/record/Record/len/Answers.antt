@@ -1,8 +1,9 @@
 use Rattle.std.proofs.Common.{length, ap, arith}
 use Rattle.letter_types.specs.declared.entries.Entry.{Entry}
+use Rattle.run_history.specs.Records.{RecordData}
 use Rattle.run_history.specs.inside.Slots.{lists_of}
 use Rattle.run_history.proofs.Kept.{entries_count}
-use Rattle.run_history.proofs.history.History.len.Goals as goal
+use Rattle.run_history.proofs.record.Record.len.Goals as goal
 
 pub returns-clause-len : goal.returns-clause-len
 returns-clause-len c =
@@ -10,7 +11,7 @@ returns-clause-len c =
     omega (
       arith,
       c.len.ensures,
-      ap (length {A = Entry}) c.self.view_is,
+      ap (length {A = Entry}) (ap (λ (r : RecordData). r.entries) c.self.view_is),
       entries_count 0 0 0 (lists_of i.letters.items i.came.items i.acts.items) i.slots.items,
     )
 
@@ -20,6 +21,6 @@ returns-clause-few c =
     omega (
       arith,
       c.self.invariant.few,
-      ap (length {A = Entry}) c.self.view_is,
+      ap (length {A = Entry}) (ap (λ (r : RecordData). r.entries) c.self.view_is),
       entries_count 0 0 0 (lists_of i.letters.items i.came.items i.acts.items) i.slots.items,
     )

@@ -3,7 +3,8 @@ use Rattle.letter_types.specs.declared.entries.Letter.{Letter}
 use Rattle.letter_types.specs.declared.entries.Outgoing.{Outgoing}
 use Rattle.letter_types.specs.Letters.{sealed}
 use Rattle.run_history.proofs.Sealed.{letter_at, sealed_more}
-use Rattle.run_history.proofs.pushing.push_sent.Goals as goal
+use Rattle.run_history.proofs.pushing.move_sent.Goals as goal
+use Rattle.std.specs.Vec.Iter.{drain_items}
 
 pub loop-outgoing-preserved : goal.loop-outgoing-preserved
 loop-outgoing-preserved c =
@@ -14,15 +15,15 @@ loop-outgoing-preserved c =
     let actor = c.args.actor.0 in
     let last = letter_at stamp actor c.loop-outgoing.number one in
     let count = length-append seen (one ∷ []) in
-    let sum = ap (length {A = Outgoing}) c.into_vec-outgoing-items.ensures.items in
-    let whole : seen ++ one ∷ c.next.new.self.rest.items ≡ c.args.sent = search rules in
+    let rest = drain_items c.next.new.self in
+    let whole : seen ++ one ∷ rest ≡ c.args.sent.now.items = search rules in
     record {
       sent = c.push_reserved.ensures.items
           ∙ ap (λ (ls : List Letter). ls ++ last ∷ []) inv.sent
           ∙ append_assoc c.args.letters.now.items (sealed stamp actor 0 seen) (last ∷ [])
           ∙ ap (λ (ls : List Letter). c.args.letters.now.items ++ ls)
           (sym (sealed_more stamp actor 0 c.loop-outgoing.number seen one (omega (arith, inv.number))));
-      number = omega (arith, inv.number, c.saturating_add-number.ensures, count, c.into_vec-outgoing-items.ensures.limit, sum, length-append seen (one ∷ c.next.new.self.rest.items), ap (length {A = Outgoing}) whole);
-      whole = append_assoc seen (one ∷ []) c.next.new.self.rest.items ∙ whole;
+      number = omega (arith, inv.number, c.saturating_add-number.ensures, count, c.requires.few, length-append seen (one ∷ rest), ap (length {A = Outgoing}) whole);
+      whole = append_assoc seen (one ∷ []) rest ∙ whole;
       room = omega (arith, inv.room, c.push_reserved.ensures.len, c.push_reserved.ensures.capacity, count);
     }

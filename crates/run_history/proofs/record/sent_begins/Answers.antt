@@ -1,8 +1,8 @@
 use Rattle.std.proofs.Common.{◌≡◌, suc, ◌-◌, ◌<◌, ◌∙◌, length, sym, ap, arith}
-use Rattle.run_history.specs.declared.history.Slot.{Slot}
+use Rattle.run_history.specs.declared.record.Slot.{Slot}
 use Rattle.run_history.specs.inside.Slots.{slot_begins}
 use Rattle.run_history.proofs.Begins.{begins_first, begins_later}
-use Rattle.run_history.proofs.history.sent_begins.Goals as goal
+use Rattle.run_history.proofs.record.sent_begins.Goals as goal
 
 pub returns-then-place-eq0 : goal.returns-then-place-eq0
 returns-then-place-eq0 c =
