@@ -1,16 +1,16 @@
 // The client: it submits the script's rows.
-ghost use Rattle.std.specs.Prelude.{◌≡◌, ◌==◌, ◌&&◌, ◌≤◌, length, not, IfOk};
+ghost use Rattle.std.specs.Prelude.{◌≡◌, ◌==◌, ◌&&◌, ◌≤◌, [], length, not, IfOk};
 ghost use Rattle.world_model.specs.Client.{client_row, start_client, wanted};
-ghost use Rattle.client_rows.specs.Changes.{IsClientStepOf, after_client_change};
+ghost use Rattle.client_rows.specs.Changes.{IsClientStepOf, after_client_change, client_step};
 ghost use Rattle.client_rows.specs.Kept.{IsKeptOf, kept_of};
 ghost use Rattle.client_rows.specs.inside.Heard.{finishes_with_news, submit_at};
 ghost use Rattle.client_rows.specs.inside.Places.{is_over, place_reached};
 
-use crate::change::{ClientChange, ClientPrepared};
-use crate::letters;
+use crate::change::ClientChange;
+use crate::letters::{push_end, push_first, push_rows, push_wanted};
 use crate::news::{Heard, News, ended_after, heard_of, mark};
 use crate::places::{RowPlace, furthest, is_over, with_news};
-use letter_types::{Letter, StepOut};
+use letter_types::{Acts, Letter, Letters};
 use std::alloc::Global;
 use std::marker::Model;
 use tv_base::NoMemory;
@@ -63,42 +63,51 @@ impl Client {
         })
     }
 
-    /// Prepares what the client's table says of a message. The script is the one that the client was made with. It takes
-    /// time for the rows that are submitted, and not for those before them; it takes all memory that the step needs, and
-    /// changes nothing.
+    /// Prepares what the client's table says of a message. The script is the one that the client was made with. What goes
+    /// out is put into the two lists, whose items are dropped and whose room is used. It takes time for the rows that are
+    /// submitted, and not for those before them; it takes all memory that the step needs, and changes nothing else.
     pub fn prepare(
         &self,
-        alloc: Global,
         letter: &Letter,
         script: &Script,
-    ) -> Result<ClientPrepared, NoMemory>
+        sent: &mut Letters,
+        acts: &mut Acts,
+    ) -> Result<ClientChange, NoMemory>
         requires { IsKeptOf script.now self.now }
-        ensures { IfOk result
-            (IsClientStepOf script.now (client_row script.now self.now.client letter.now.body) self.now) }
+        ensures { IfOk result (λ change. IsClientStepOf script.now (client_row script.now self.now.client letter.now.body)
+            self.now (client_step change sent.new acts.new)) }
     {
+        sent.clear();
+        acts.clear();
         match heard_of(script, &letter.body) {
-            Heard::Nothing => Ok(ClientPrepared::still(alloc)),
-            Heard::Told(news) => self.submit(alloc, news, script),
-            Heard::Asked(epoch) => self.answer(alloc, epoch, script),
+            Heard::Nothing => Ok(ClientChange::Still),
+            Heard::Told(news) => self.submit(news, script, sent, acts),
+            Heard::Asked(epoch) => self.answer(epoch, script, sent),
         }
     }
 
     /// Prepares what the client does at news: it submits what it may.
-    fn submit(&self, alloc: Global, news: News, script: &Script) -> Result<ClientPrepared, NoMemory>
-        requires { IsKeptOf script.now self.now }
-        ensures { IfOk result
-            (IsClientStepOf script.now (submit_at script.now news self.now.client) self.now) }
+    fn submit(
+        &self,
+        news: News,
+        script: &Script,
+        sent: &mut Letters,
+        acts: &mut Acts,
+    ) -> Result<ClientChange, NoMemory>
+        requires kept { IsKeptOf script.now self.now }
+        requires none_sent { sent.old ≡ [] }
+        requires no_acts { acts.old ≡ [] }
+        ensures { IfOk result (λ change. IsClientStepOf script.now (submit_at script.now news self.now.client)
+            self.now (client_step change sent.new acts.new)) }
     {
         let _valid = script.nodes();
         let at = self.reaches(news, script);
         let rows = script.rows();
         let finishes = finishes(rows, at, ended_after(news, self.ended), self.finished);
-        let submitted = &rows[self.at.next..at.next];
-        let out = letters::out(alloc, script, news, self.at.asked, submitted, finishes)?;
-        Ok(ClientPrepared {
-            change: ClientChange::Submit { news, at, finishes },
-            out,
-        })
+        push_first(sent, script, news)?;
+        push_rows(sent, script, self.at.asked, &rows[self.at.next..at.next])?;
+        push_end(acts, finishes)?;
+        Ok(ClientChange::Submit { news, at, finishes })
     }
 
     /// How far it comes at news: the place after the last row that it may submit then.
@@ -126,30 +135,23 @@ impl Client {
     }
 
     /// Prepares the answer to a coordinator that has forgotten: how many advancements it was asked for.
-    fn answer(&self, alloc: Global, epoch: u64, script: &Script) -> Result<ClientPrepared, NoMemory>
-        requires { IsKeptOf script.now self.now }
-        ensures { IfOk result
-            (IsClientStepOf script.now (wanted script.now epoch self.now.client) self.now) }
+    fn answer(
+        &self,
+        epoch: u64,
+        script: &Script,
+        sent: &mut Letters,
+    ) -> Result<ClientChange, NoMemory>
+        requires kept { IsKeptOf script.now self.now }
+        requires none_sent { sent.old ≡ [] }
+        ensures { IfOk result (λ change. IsClientStepOf script.now (wanted script.now epoch self.now.client)
+            self.now (client_step change sent.new [])) }
     {
-        let out = letters::wanted(alloc, script, epoch, self.at.asked)?;
-        Ok(ClientPrepared {
-            change: ClientChange::Still,
-            out,
-        })
+        push_wanted(sent, script, epoch, self.at.asked)?;
+        Ok(ClientChange::Still)
     }
 
-    /// Does a prepared step, and gives what goes out. It needs no memory.
-    pub fn done(&mut self, prepared: ClientPrepared) -> StepOut
-        ensures after { self.new ≡ after_client_change prepared.change self.old }
-        ensures out { result ≡ prepared.out }
-    {
-        let ClientPrepared { change, out } = prepared;
-        self.go_on(change);
-        out
-    }
-
-    /// Does what is to be done.
-    fn go_on(&mut self, change: ClientChange)
+    /// Does what a prepared step changes. It needs no memory.
+    pub fn done(&mut self, change: ClientChange)
         ensures { self.new ≡ after_client_change change self.old }
     {
         match change {

@@ -8,7 +8,7 @@ mod news;
 mod places;
 mod public;
 
-pub use change::{ClientChange, ClientPrepared};
+pub use change::ClientChange;
 pub use client::Client;
 pub use news::News;
 pub use places::RowPlace;

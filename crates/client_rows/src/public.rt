@@ -9,7 +9,7 @@ ghost use Rattle.client_rows.specs.Kept.{IsKeptOf};
 
 use crate::client::Client;
 use crate::news::{Heard, heard_of};
-use letter_types::{Letter, Step};
+use letter_types::{Letter, Step, StepOut};
 use std::alloc::Global;
 use tv_base::NoMemory;
 use tx_trees::Script;
@@ -33,9 +33,10 @@ impl Client {
         ensures still_kept { OnOk result (IsKeptOf script.now self.new) }
         ensures err { OnErr result (self.new ≡ self.old) }
     {
-        let prepared = self.prepare(alloc, letter, script)?;
-        let kept = prepared.out().copy(alloc)?;
-        let given = self.done(prepared);
+        let mut given = StepOut::still(alloc);
+        let change = self.prepare(letter, script, &mut given.sent, &mut given.acts)?;
+        let kept = given.copy(alloc)?;
+        self.done(change);
         Ok(Step { given, kept })
     }
 

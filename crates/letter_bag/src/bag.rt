@@ -68,6 +68,7 @@ impl<T: Drop> OrderedBag<T> {
     }
 
     /// Makes room for `room` more. If no memory is found, the bag is as it was.
+    #[inline(always)]
     pub fn reserve(&mut self, room: usize) -> Result<(), NoMemory>
         ensures ok { OnOk result (self.new ≡ record { items = self.old.items; room = room }) }
         ensures err { OnErr result (self.new ≡ self.old) }
@@ -118,6 +119,7 @@ impl<T: Drop> OrderedBag<T> {
 
 /// Makes room for `room` more in the queue. One that fills a block doesn't grow: it becomes the block itself, and a new
 /// one is begun. If it is longer, since many items were put at once, whole blocks move away first.
+#[inline(always)]
 fn make_room<T: Drop>(
     older: &mut Blocks<T>,
     newer: &mut VecDeque<T>,
@@ -139,6 +141,7 @@ fn make_room<T: Drop>(
 }
 
 /// Moves the first items of a queue into blocks until at most a block's are left.
+#[inline(always)]
 fn shorten<T: Drop>(older: &mut Blocks<T>, newer: &mut VecDeque<T>) -> Result<(), AllocError>
     requires { length older.old + deque_len newer.old < 2 ^ 64 }
     ensures items { older.new ++ newer.new.items ≡ older.old ++ newer.old.items }

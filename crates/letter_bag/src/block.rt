@@ -61,6 +61,7 @@ impl<T> Block<T> {
 }
 
 /// Takes item `i` out of a queue. The others keep their order.
+#[inline(always)]
 pub(crate) fn take_item<T>(items: &mut VecDeque<T>, i: usize) -> T
     requires { i < deque_len items.old }
     ensures taken { slice_get items.old.items i ≡ Some result }

@@ -163,6 +163,7 @@ fn settle<T: Drop>(blocks: &mut Vec<Block<T>>, j: usize)
 }
 
 /// Makes one of block `j` and the next, if there is one and the two fill no more than half of a block.
+#[inline(always)]
 fn join_next<T: Drop>(blocks: &mut Vec<Block<T>>, j: usize)
     ensures { joined blocks.new.items ≡ joined blocks.old.items }
 {

@@ -41,6 +41,9 @@ pub(crate) fn push_sent(
     ensures moved { letters.new.items ≡ letters.old.items ++ sealed stamp.0 actor.0 0 sent.old }
     ensures left { sent.new ≡ [] }
 {
+    if sent.items().is_empty() {
+        return;
+    }
     let alloc = *letters.allocator();
     let mut open = mem::replace(sent, Letters::new(alloc)).into_vec();
     move_sent(letters, stamp, actor, &mut open);
@@ -54,6 +57,9 @@ pub(crate) fn push_done(acts: &mut Vec<Act>, done: &mut Acts)
     ensures moved { acts.new.items ≡ acts.old.items ++ done.old }
     ensures left { done.new ≡ [] }
 {
+    if done.items().is_empty() {
+        return;
+    }
     let alloc = *acts.allocator();
     let mut open = mem::replace(done, Acts::new(alloc)).into_vec();
     let _moved = acts.append(&mut open);

@@ -38,14 +38,14 @@ abbrev pub out_of : ActorPlan → Scratch → StepOut
 out_of (NodeStep p) x = out_in x
 out_of (CoordinatorStep p) x = p.out
 out_of (RestartStep p) x = p.out
-out_of (ClientStep p) x = p.out
+out_of (ClientStep p) x = out_in x
 
 -- a step that is planned is the row of this message in the actor's table, and the actor may do it
 abbrev pub IsActorStepOf : ScriptData → Letter → ActorState → ActorPlan → Scratch → Type 0
 IsActorStepOf s l (Node n) (NodeStep p) x = IsLetterPlan s l n p x
 IsActorStepOf s l (Coordinator c) (CoordinatorStep p) x = IsCoordinatorStep (coordinator_table c l) c p
 IsActorStepOf s l (Restarting c) (RestartStep p) x = IsRestartStep (restarting_table c l) c p
-IsActorStepOf s l (Client k) (ClientStep p) x = IsClientStep s (client_table s k.client l) k p
+IsActorStepOf s l (Client k) (ClientStep p) x = IsClientStep s (client_table s k.client l) k (record { change = p; out = out_in x })
 IsActorStepOf s l _ _ x = ⊥
 
 -- the actor may do it
@@ -63,5 +63,5 @@ IsActorDone (NodeStep p) x (Node n) (Node m) out =
     × ((counts_of m.core.parts.counters).nodes ≡ (counts_of n.core.parts.counters).nodes)
 IsActorDone (CoordinatorStep p) x (Coordinator c) (Coordinator d) out = (d ≡ coordinator_after p.change c) × (out ≡ p.out)
 IsActorDone (RestartStep p) x (Restarting c) (Restarting d) out = (d ≡ restarting_after p.change c) × (out ≡ p.out)
-IsActorDone (ClientStep p) x (Client k) (Client m) out = (m ≡ client_after p.change k) × (out ≡ p.out)
+IsActorDone (ClientStep p) x (Client k) (Client m) out = (m ≡ client_after p k) × (out ≡ out_in x)
 IsActorDone _ x _ _ _ = ⊥

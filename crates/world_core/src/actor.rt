@@ -12,13 +12,13 @@ ghost use Rattle.pair_counters.specs.Numbers.{MOST_COUNT};
 
 use crate::node::NodeState;
 use advance_coord::{Coordinator, CoordinatorPrepared};
-use client_rows::{Client, ClientPrepared};
+use client_rows::{Client, ClientChange};
 use coord_restart::{RestartPrepared, Restarting};
 use letter_types::{Acts, Boxed, Letter, Letters, StepOut};
 use node_machine::NodePlan;
 use std::alloc::Global;
 use tree_step::{Incoming, Scratch};
-use tv_base::{ActorNo, NoMemory, NodeNo};
+use tv_base::{ActorNo, NoMemory, NodeNo, Seq};
 use tx_trees::Script;
 
 /// The state of one actor.
@@ -56,7 +56,7 @@ pub enum ActorPlan {
     /// The same of one that may forget.
     Restarting(Boxed<RestartPrepared>),
     /// The client's step.
-    Client(Boxed<ClientPrepared>),
+    Client(ClientChange),
 }
 
 impl ActorPlan {
@@ -65,10 +65,9 @@ impl ActorPlan {
         ensures { result.now ≡ (out_of self.now scratch.now).sent }
     {
         match self {
-            ActorPlan::Node(_) => &scratch.sent,
+            ActorPlan::Node(_) | ActorPlan::Client(_) => &scratch.sent,
             ActorPlan::Coordinator(prepared) => &prepared.get().out().sent,
             ActorPlan::Restarting(prepared) => &prepared.get().out().sent,
-            ActorPlan::Client(prepared) => &prepared.get().out().sent,
         }
     }
 
@@ -77,10 +76,9 @@ impl ActorPlan {
         ensures { result.now ≡ (out_of self.now scratch.now).acts }
     {
         match self {
-            ActorPlan::Node(_) => &scratch.acts,
+            ActorPlan::Node(_) | ActorPlan::Client(_) => &scratch.acts,
             ActorPlan::Coordinator(prepared) => &prepared.get().out().acts,
             ActorPlan::Restarting(prepared) => &prepared.get().out().acts,
-            ActorPlan::Client(prepared) => &prepared.get().out().acts,
         }
     }
 }
@@ -141,8 +139,8 @@ pub fn actor_plan(
             Ok(ActorPlan::Restarting(prepared))
         }
         ActorState::Client(client) => {
-            let prepared = prepare_client(came.alloc, client, came.letter, came.script)?;
-            Ok(ActorPlan::Client(prepared))
+            let change = prepare_client(client, came, scratch)?;
+            Ok(ActorPlan::Client(change))
         }
     }
 }
@@ -175,20 +173,19 @@ fn prepare_restarting(
     Ok(Boxed::new(alloc, prepared)?)
 }
 
-/// Prepares the client's step.
+/// Prepares the client's step. What goes out lies in the scratch.
 #[inline(never)]
 fn prepare_client(
-    alloc: Global,
     client: &Client,
-    letter: &Letter,
-    script: &Script,
-) -> Result<Boxed<ClientPrepared>, NoMemory>
-    requires { IsKeptOf script.now client.now }
-    ensures { IfOk result
-        (IsClientStepOf script.now (client_table script.now client.now.client letter.now) client.now) }
+    came: &Incoming,
+    scratch: &mut Scratch,
+) -> Result<ClientChange, NoMemory>
+    requires { IsKeptOf came.now.script.now client.now }
+    ensures { IfOk result (λ change. IsClientStepOf came.now.script.now
+        (client_table came.now.script.now client.now.client came.now.letter.now) client.now
+        (record { change = change; out = out_in scratch.new })) }
 {
-    let prepared = client.prepare(alloc, letter, script)?;
-    Ok(Boxed::new(alloc, prepared)?)
+    client.prepare(came.letter, came.script, &mut scratch.sent, &mut scratch.acts)
 }
 
 /// Does a step that was planned for this actor; what goes out lies in the scratch then. If a node finds no memory, it
@@ -223,13 +220,25 @@ pub fn actor_done(
             }
             _ => unreachable!(),
         },
-        ActorPlan::Client(prepared) => match state {
+        ActorPlan::Client(change) => match state {
             ActorState::Client(client) => {
-                client_done(client, prepared, scratch);
+                client.done(change);
                 Ok(())
             }
             _ => unreachable!(),
         },
+    }
+}
+
+/// Puts a list in the place of another, which keeps its room if there is nothing to put.
+#[inline(always)]
+fn put_list<T: Drop, const MOST: usize>(place: &mut Seq<T, MOST>, list: Seq<T, MOST>)
+    ensures { place.new ≡ list }
+{
+    if list.items().is_empty() {
+        place.clear();
+    } else {
+        *place = list;
     }
 }
 
@@ -238,8 +247,8 @@ fn put_out(scratch: &mut Scratch, out: StepOut)
     ensures { out_in scratch.new ≡ out }
 {
     let StepOut { sent, acts } = out;
-    scratch.sent = sent;
-    scratch.acts = acts;
+    put_list(&mut scratch.sent, sent);
+    put_list(&mut scratch.acts, acts);
 }
 
 /// The coordinator does its step.
@@ -268,13 +277,4 @@ fn restarting_done(
     ensures out { out_in scratch.new ≡ prepared.out }
 {
     put_out(scratch, restarting.done(prepared.into_inner()));
-}
-
-/// The client does its step.
-#[inline(never)]
-fn client_done(client: &mut Client, prepared: Boxed<ClientPrepared>, scratch: &mut Scratch)
-    ensures done { client.new ≡ after_client_change prepared.change client.old }
-    ensures out { out_in scratch.new ≡ prepared.out }
-{
-    put_out(scratch, client.done(prepared.into_inner()));
 }
