@@ -31,12 +31,7 @@ fn move_sent(letters: &mut Vec<Letter>, stamp: Stamp, actor: ActorNo, sent: &mut
 
 /// Moves messages to the end, for which there is room, each with its id. The list that they were in keeps its room.
 #[inline(always)]
-pub(crate) fn push_sent(
-    letters: &mut Vec<Letter>,
-    stamp: Stamp,
-    actor: ActorNo,
-    sent: &mut Letters,
-)
+pub(crate) fn push_sent(letters: &mut Vec<Letter>, stamp: Stamp, actor: ActorNo, sent: &mut Letters)
     requires { vec_len letters.old + length sent.old ≤ vec_capacity letters.old }
     ensures moved { letters.new.items ≡ letters.old.items ++ sealed stamp.0 actor.0 0 sent.old }
     ensures left { sent.new ≡ [] }

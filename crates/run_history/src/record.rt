@@ -1,5 +1,5 @@
 // What a history is written into: where each entry's parts lie, and the lists in which they lie.
-ghost use Rattle.std.specs.Prelude.{◌≡◌, ◌+◌, ◌<◌, ◌≤◌, [], length, slice_get, IfSome, OnOk, Some};
+ghost use Rattle.std.specs.Prelude.{◌≡◌, ◌<◌, ◌≤◌, [], length, slice_get, IfSome, OnOk, Some};
 ghost use Rattle.std.specs.List.{slice_range};
 ghost use Rattle.tv_base.specs.declared.numbers.TheConstants.{MOST_ENTRIES};
 ghost use Rattle.run_history.specs.Messages.{acts_of, messages_of, with_entry};
@@ -196,13 +196,7 @@ impl Record {
     }
 
     /// The same of a message that no entry here sent, which is kept beside the others.
-    pub fn enter_whole(
-        &mut self,
-        took: Letter,
-        actor: ActorNo,
-        sent: &mut Letters,
-        acts: &mut Acts,
-    )
+    pub fn enter_whole(&mut self, took: Letter, actor: ActorNo, sent: &mut Letters, acts: &mut Acts)
         requires { HasRoom (length sent.old) (length acts.old) self.old }
         ensures entry { self.new.entries ≡ with_entry self.old.entries actor took sent.old acts.old }
         ensures sent { sent.new ≡ [] }

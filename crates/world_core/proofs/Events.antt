@@ -1,5 +1,5 @@
 -- One event over the parts of a world, from what its calls say.
-use Rattle.std.proofs.Common.{◌≡◌, ℕ, ◌+◌, ◌*◌, ◌<◌, ◌≤◌, List, [], ◌∷◌, ◌++◌, length, reverse, Option, Some, None, sym, ap, ◌∙◌, subst, arith}
+use Rattle.std.proofs.Common.{◌≡◌, ℕ, ◌+◌, ◌*◌, ◌<◌, ◌≤◌, List, [], ◌∷◌, ◌++◌, length, reverse, Option, Some, None, sym, subst, arith}
 use Rattle.std.specs.Prelude.{slice_get, IfSome}
 use Rattle.std.specs.List.{remove}
 use Rattle.std.proofs.lemmas.List.{length-reverse}
@@ -19,9 +19,9 @@ use Rattle.world_model.specs.Tables.{ActorData}
 use Rattle.world_model.specs.Taking.{CountsBelow, IsAddressed, MOST_COUNTED}
 use Rattle.world_core.specs.Actors.{IsWorldOf, TookLetter, WorldData}
 use Rattle.world_core.specs.Steps.{IsActorStepOf, ActorMayDo, MayTake}
-use Rattle.world_core.specs.inside.Actors.{Acted, entry_made}
+use Rattle.world_core.specs.inside.Actors.{Acted}
 use Rattle.world_core.proofs.Doing.{is_row, may_do}
-use Rattle.world_core.proofs.Worlds.{Took, below, next_world}
+use Rattle.world_core.proofs.Worlds.{Took, below, entry_made, next_world}
 
 pub if_some : {X : Type 0} (P : X → Type 0) (o : Option X) (x : X) → o ≡ Some x → IfSome o P → P x
 if_some P None x is h = absurd (cc is)

@@ -15,6 +15,7 @@ use Rattle.letter_types.specs.declared.entries.Entry.{Entry}
 use Rattle.letter_types.specs.declared.entries.StepOut.{StepOut}
 use Rattle.letter_types.specs.Letters.{sealed}
 use Rattle.letter_types.specs.Steps.{Out, made}
+use Rattle.run_history.specs.Messages.{entry_behind}
 use Rattle.tx_trees.specs.ScriptData.{ScriptData, client_of}
 use Rattle.tx_trees.specs.Valid.{IsValid}
 use Rattle.tx_trees.specs.Counts.{is_lossy}
@@ -25,9 +26,12 @@ use Rattle.world_model.proofs.Scripts.{get_below}
 use Rattle.world_core.specs.declared.actor.ActorState.{ActorState}
 use Rattle.world_model.specs.Tables.{ActorData, CoordinatorData, RestartingData, actor_row, coordinator_table, restarting_table}
 use Rattle.world_core.specs.Actors.{AreStatesOf, IsFor, IsStateOf, IsWorldOf, WorldData, actor_data}
-use Rattle.world_core.specs.inside.Actors.{entry_made}
 use Rattle.world_core.proofs.Doing.{IsRow}
 use Rattle.world_core.proofs.Bag.{Found, found_at}
+
+-- the entry behind n others of the step that a message leads to
+abbrev pub entry_made : ℕ → Letter → List Outgoing → List Act → Entry
+entry_made n l sent acts = entry_behind n l.to l sent acts
 
 -- the coordinator of either kind, by its number
 coordinator_is : (s : ScriptData) (past : List Entry) (a : ℕ) → nat_lt a s.nodes ≡ false → (a == s.nodes) ≡ true → is_lossy s ≡ false

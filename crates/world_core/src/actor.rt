@@ -1,7 +1,7 @@
 // The actors as one, and their steps.
 ghost use Rattle.std.specs.Prelude.{◌≡◌, ◌<◌, ◌+◌, [], IfOk, OnOk, OnErr};
 ghost use Rattle.advance_coord.specs.Changes.{MayKeep, IsCoordinatorStepOf, after_coordinator_change};
-ghost use Rattle.client_rows.specs.Changes.{IsClientStepOf, after_client_change};
+ghost use Rattle.client_rows.specs.Changes.{IsClientStepOf};
 ghost use Rattle.client_rows.specs.Kept.{IsKeptOf};
 ghost use Rattle.coord_restart.specs.RestartChanges.{MayTakeUp, IsRestartStepOf, after_restart_change};
 ghost use Rattle.tree_step.specs.Meant.{IsEmpty, out_in};
@@ -185,7 +185,12 @@ fn prepare_client(
         (client_table came.now.script.now client.now.client came.now.letter.now) client.now
         (record { change = change; out = out_in scratch.new })) }
 {
-    client.prepare(came.letter, came.script, &mut scratch.sent, &mut scratch.acts)
+    client.prepare(
+        came.letter,
+        came.script,
+        &mut scratch.sent,
+        &mut scratch.acts,
+    )
 }
 
 /// Does a step that was planned for this actor; what goes out lies in the scratch then. If a node finds no memory, it

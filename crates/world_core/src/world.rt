@@ -1,5 +1,5 @@
 // A world: all actors, the messages in flight, and the history so far.
-ghost use Rattle.std.specs.Prelude.{◌≡◌, ◌<◌, ◌≤◌, ◌+◌, ◌-◌, ◌++◌, ◌∷◌, [], length, slice_get, IfOk, IfSome, OnOk, OnErr, Some};
+ghost use Rattle.std.specs.Prelude.{◌≡◌, ◌<◌, ◌≤◌, ◌+◌, ◌-◌, ◌++◌, [], length, slice_get, IfOk, IfSome, OnOk, OnErr, Some};
 ghost use Rattle.tv_base.specs.declared.numbers.TheConstants.{MOST_ENTRIES};
 ghost use Rattle.letter_types.specs.Letters.{go};
 ghost use Rattle.run_history.specs.Messages.{messages_of, with_entry};
@@ -71,11 +71,7 @@ fn message_at<'a>(go: &'a Letter, sent: &'a [Letter], place: usize) -> &'a Lette
     requires { place ≤ length sent.now }
     ensures { result.now ≡ message_at go.now sent.now place }
 {
-    if place == 0 {
-        go
-    } else {
-        &sent[place - 1]
-    }
+    if place == 0 { go } else { &sent[place - 1] }
 }
 
 /// Puts the places of the messages behind the first `from`, up to number `to`, into the bag, which has room for them.

@@ -1,15 +1,11 @@
 -- How an actor of a world does its step. These are the definitions that private code alone cites.
 use Rattle.std.specs.Prelude.{ℕ, ◌≡◌, IfSome, List, Some, slice_get, slice_set}
-use Rattle.letter_types.specs.declared.acts.Act.{Act}
 use Rattle.letter_types.specs.declared.entries.Letter.{Letter}
-use Rattle.letter_types.specs.declared.entries.Outgoing.{Outgoing}
-use Rattle.letter_types.specs.declared.entries.Entry.{Entry}
 use Rattle.letter_types.specs.declared.entries.StepOut.{StepOut}
 use Rattle.world_core.specs.declared.actor.ActorState.{ActorState}
 use Rattle.tx_trees.specs.ScriptData.{ScriptData}
 use Rattle.tree_step.specs.declared.plan.Scratch.{Scratch}
 use Rattle.world_core.specs.declared.actor.ActorPlan.{ActorPlan}
-use Rattle.run_history.specs.Messages.{entry_behind}
 use Rattle.world_core.specs.Steps.{IsActorDone, IsActorStepOf}
 
 -- actor a did a step that was planned, this goes out, and the other actors stay
@@ -23,7 +19,3 @@ pub record Acted (a : ℕ) (p : ActorPlan) (x : Scratch) (old new : List ActorSt
 -- a step is planned for the addressee of a message
 abbrev pub IsPlanFor : ScriptData → Letter → List ActorState → ActorPlan → Scratch → Type 0
 IsPlanFor s l actors p x = IfSome (slice_get actors l.to.0) (λ st. IsActorStepOf s l st p x)
-
--- the entry behind n others of the step that a message leads to
-abbrev pub entry_made : ℕ → Letter → List Outgoing → List Act → Entry
-entry_made n l sent acts = entry_behind n l.to l sent acts

@@ -13,11 +13,11 @@ use Rattle.run_history.specs.Messages.{entry_behind, messages_of, with_entry}
 use Rattle.run_history.proofs.Sealed.{sealed_count}
 use Rattle.tree_step.specs.Meant.{out_in}
 use Rattle.world_core.specs.declared.world.Flow.{Flow}
-use Rattle.world_core.specs.inside.Actors.{entry_made}
 use Rattle.world_core.specs.inside.Flows.{ArePlacesOf, message_at, places_from, world_in}
 use Rattle.world_core.proofs.Doing.{out_is}
 use Rattle.world_core.proofs.Events.{is_here, may_take, Event, event_world, event_took}
 use Rattle.world_core.proofs.Places.{bag_after, message_to, messages_more, place_in, placed_after}
+use Rattle.world_core.proofs.Worlds.{entry_made}
 use Rattle.world_core.proofs.world.advance.Goals as goal
 
 -- the message at a place of the bag, where its place is read
