@@ -1,5 +1,5 @@
 -- A history has finished exactly if one of its acts is the client's end; as many messages were sent as its entries say.
-use Rattle.std.proofs.Common.{◌≡◌, ℕ, suc, ◌+◌, ◌||◌, Bool, List, [], ◌∷◌, length, map, refl, sym, ap, ◌∙◌, arith}
+use Rattle.std.proofs.Common.{◌≡◌, ℕ, ◌||◌, Bool, List, [], ◌∷◌, length, map, refl, sym, ap, ◌∙◌, arith}
 use Rattle.std.specs.Prelude.{sum_by}
 use Rattle.std.specs.List.{list_any}
 use Rattle.std.proofs.lemmas.List.{length-append}
@@ -9,9 +9,9 @@ use Rattle.std.proofs.lemmas.List.Sums.{sum_by-cons}
 use Rattle.letter_types.specs.declared.acts.Act.{Act}
 use Rattle.letter_types.specs.declared.entries.Entry.{Entry}
 use Rattle.letter_types.specs.declared.entries.Letter.{Letter}
-use Rattle.letter_types.specs.declared.entries.Outgoing.{Outgoing}
-use Rattle.letter_types.specs.Letters.{letters_of, sealed}
+use Rattle.letter_types.specs.Letters.{letters_of}
 use Rattle.run_history.specs.Messages.{acts_of, messages_of}
+use Rattle.run_history.proofs.Sealed.{sealed_count}
 use Rattle.board_rules.specs.Histories.{Place, places_at, places_of}
 use Rattle.board_rules.specs.Right.{finishes, has_finished}
 use Rattle.board_rules.proofs.Places.{has_finished-append}
@@ -29,10 +29,6 @@ ends_among (e ∷ h) =
     ∙ (λ i. sym (acts_end e.actor.0 e.acts) i || ends_among h i)
     ∙ sym (has_finished-append (places_at e) (places_of h))
 
-sealed_long : (stamp actor place : ℕ) (os : List Outgoing) → length (sealed stamp actor place os) ≡ length os
-sealed_long stamp actor place [] = refl
-sealed_long stamp actor place (o ∷ os) = ap suc (sealed_long stamp actor (place + 1) os)
-
 -- how many messages there are
 pub all_sent : (h : List Entry) → length (messages_of h) ≡ sum_by (λ e. length e.sent) h
 all_sent [] = refl
@@ -41,7 +37,7 @@ all_sent (e ∷ h) =
       arith,
       ap (length {A = Letter}) (flat_map-cons letters_of e h),
       length-append (letters_of e) (messages_of h),
-      sealed_long e.stamp.0 e.actor.0 0 e.sent,
+      sealed_count e.stamp.0 e.actor.0 0 e.sent,
       all_sent h,
       sum_by-cons (λ (x : Entry). length x.sent) e h,
     )

@@ -1,6 +1,6 @@
 -- One entry more that is recorded.
 use Rattle.std.proofs.Common.{◌≡◌, ◌==◌, ℕ, zero, suc, ◌+◌, ◌<◌, ◌≢◌, false, List, [], ◌∷◌, ◌++◌, length, refl, sym, ap, ◌∙◌, subst, arith, inl, inr, Some}
-use Rattle.std.specs.Prelude.{map, slice_get, slice_set, sum_by}
+use Rattle.std.specs.Prelude.{slice_get, slice_set, sum_by}
 use Rattle.std.specs.List.{remove}
 use Rattle.std.proofs.lemmas.List.Sums.{sum_by-cons}
 use Rattle.tv_base.proofs.ByPlace.{slice_get_last, slice_get_left, slice_get_split}
@@ -54,13 +54,6 @@ pub next_less : (old new : RecorderData) (e : Entry) → RecordsNext old new e
 next_less old new e (taken, done) =
     subst (λ (ls : List (List Entry)). sum_by (length {A = Entry}) ls < sum_by (length {A = Entry}) old.waiting) (sym taken.lists)
     (taken_less old.waiting taken.place e taken.left taken.at)
-
--- without one of the lists
-pub map_removed : {X Y : Type 0} (f : X → Y) (xs : List X) (place : ℕ) → map f (remove xs place) ≡ remove (map f xs) place
-map_removed f [] zero = refl
-map_removed f [] (suc place) = refl
-map_removed f (x ∷ xs) zero = refl
-map_removed f (x ∷ xs) (suc place) = ap (λ (ys : List _). f x ∷ ys) (map_removed f xs place)
 
 -- an empty list goes, and any other stays
 pub empty_goes : (lists : List (List Entry)) (place : ℕ) → slice_get lists place ≡ Some [] → without_empty lists place ≡ remove lists place

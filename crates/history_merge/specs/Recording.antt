@@ -1,6 +1,8 @@
 -- How the entries of all actors are recorded in one history, by stamp.
-use Rattle.std.specs.Prelude.{◌≡◌, ◌+◌, ℕ, zero, suc, List, [], ◌∷◌, ◌++◌, length, slice_get, slice_set, Some, ◌⊎◌}
+use Rattle.std.specs.Prelude.{◌≡◌, ◌+◌, ℕ, zero, suc, List, [], ◌∷◌, ◌++◌, length, map, slice_get, slice_set, Some, ◌⊎◌}
+use Rattle.std.specs.Global.{Global, Vec}
 use Rattle.std.specs.List.{remove}
+use Rattle.std.specs.declared.collections.VecDeque.{VecDeque}
 use Rattle.letter_types.specs.declared.entries.Entry.{Entry}
 use Rattle.stamp_post.specs.declared.rule.JoinedReceipt.{JoinedReceipt}
 use Rattle.tx_trees.specs.ScriptData.{ScriptData}
@@ -23,6 +25,14 @@ pub record RecorderData : Type 0 where
 
 abbrev pub recorder_data : List Entry → List (List Entry) → RecorderData
 recorder_data done waiting = record { done = done; waiting = waiting }
+
+-- the entries that wait in these queues
+abbrev pub waiting_in : Vec (VecDeque Entry Global) → List (List Entry)
+waiting_in queues = map (λ q. q.items) queues.items
+
+-- the entries that are recorded, and those that wait in queues
+abbrev pub recorder_in : List Entry → Vec (VecDeque Entry Global) → RecorderData
+recorder_in done queues = recorder_data done (waiting_in queues)
 
 -- these entries wait too, if there are any, behind the others
 abbrev pub handed_in : List Entry → RecorderData → RecorderData

@@ -1,8 +1,8 @@
 // The history as it is recorded while actors are at work.
-ghost use Rattle.std.specs.Prelude.{◌≡◌, ◌+◌, ◌<◌, ◌↔◌, List, [], length, map, true, false, IfSome, IsNone, IfOk, OnErr, OnOk};
+ghost use Rattle.std.specs.Prelude.{◌≡◌, ◌+◌, ◌<◌, ◌↔◌, List, [], length, true, false, IfSome, IsNone, IfOk, OnErr, OnOk};
 ghost use Rattle.letter_types.specs.declared.entries.Entry.{Entry};
 ghost use Rattle.stamp_post.specs.Shown.{gatherer_data, receipt_joined};
-ghost use Rattle.history_merge.specs.Recording.{AreRecorded, FirstHas, IsFirstAt, IsMoved, IsRecorded, RecordsNext, NoneHas, Records, handed_in, recorder_data, without_empty, AreHandedIn, AreLeft, AreLeftOrIn, LacksNext};
+ghost use Rattle.history_merge.specs.Recording.{AreRecorded, FirstHas, IsFirstAt, IsMoved, IsRecorded, RecordsNext, NoneHas, Records, handed_in, waiting_in, recorder_data, recorder_in, without_empty, AreHandedIn, AreLeft, AreLeftOrIn, LacksNext};
 
 use crate::made::Made;
 use crate::name::ClusterName;
@@ -25,12 +25,12 @@ pub struct Recorder<K: ClusterName> {
 }
 
 impl<K: ClusterName> Model for Recorder<K> {
-    ghost use Rattle.std.specs.Prelude.{◌≡◌, map};
-    ghost use Rattle.history_merge.specs.Recording.{AreRecorded, RecorderData, recorder_data};
+    ghost use Rattle.std.specs.Prelude.{◌≡◌};
+    ghost use Rattle.history_merge.specs.Recording.{AreRecorded, RecorderData, recorder_in};
 
     ghost Value = { RecorderData };
 
-    ghost view = { λ r. recorder_data r.done (map (λ q. q.items) r.waiting.items) };
+    ghost view = { λ r. recorder_in r.done r.waiting };
 
     ghost invariant = { λ r. (r.gatherer.post ≡ K.post) × AreRecorded K.script r.gatherer.known r.done };
 }
@@ -61,8 +61,8 @@ fn is_first<K: ClusterName>(list: &VecDeque<Made<K>>, stamp: Stamp) -> bool
 // The place of the list whose first entry has this stamp. The lists are in the order in which they were handed in, so
 // the oldest of each worker is among the first, and few are looked at.
 fn place_of<K: ClusterName>(lists: &Vec<VecDeque<Made<K>>>, stamp: Stamp) -> Option<usize>
-    ensures found { IfSome result (IsFirstAt stamp.0 (map (λ v. v.items) lists.now.items)) }
-    ensures none { IsNone result → NoneHas stamp.0 (map (λ v. v.items) lists.now.items) }
+    ensures found { IfSome result (IsFirstAt stamp.0 (waiting_in lists.now)) }
+    ensures none { IsNone result → NoneHas stamp.0 (waiting_in lists.now) }
 {
     for place in 0..lists.len() {
         if is_first(&lists[place], stamp) {
@@ -100,7 +100,7 @@ fn move_first<K: ClusterName>(
 // The list at a place goes if it is empty.
 fn drop_empty<K: ClusterName>(lists: &mut Vec<VecDeque<Made<K>>>, place: usize)
     requires { place < length lists.old.items }
-    ensures { map (λ v. v.items) lists.new.items ≡ without_empty (map (λ v. v.items) lists.old.items) place }
+    ensures { waiting_in lists.new ≡ without_empty (waiting_in lists.old) place }
 {
     if !lists[place].is_empty() {
         return;
@@ -115,13 +115,11 @@ fn record_first<K: ClusterName>(
     lists: &mut Vec<VecDeque<Made<K>>>,
     place: usize,
 ) -> Result<Witness, NoMemory>
-    requires { IsFirstAt (length done.old + 1) (map (λ v. v.items) lists.old.items) place }
+    requires { IsFirstAt (length done.old + 1) (waiting_in lists.old) place }
     ensures post { IfOk result (λ w. w.post ≡ K.post) }
     ensures recorded { IfOk result (λ w. IsRecorded K.script (receipt_joined w)
-        (recorder_data done.old (map (λ v. v.items) lists.old.items))
-        (recorder_data done.new (map (λ v. v.items) lists.new.items))) }
-    ensures err { OnErr result (recorder_data done.new (map (λ v. v.items) lists.new.items)
-        ≡ recorder_data done.old (map (λ v. v.items) lists.old.items)) }
+        (recorder_in done.old lists.old) (recorder_in done.new lists.new)) }
+    ensures err { OnErr result (recorder_in done.new lists.new ≡ recorder_in done.old lists.old) }
 {
     let witness = move_first(done, &mut lists[place])?;
     drop_empty(lists, place);

@@ -1,9 +1,9 @@
-use Rattle.std.proofs.Common.{◌≡◌, ◌+◌, ◌<◌, ℕ, List, length, get_or, map, sym, ap, ◌∙◌, subst, arith, Global, Some, Result, Ok, Err}
+use Rattle.std.proofs.Common.{◌≡◌, ◌+◌, ◌<◌, ℕ, List, length, get_or, map, sym, ap, ◌∙◌, subst, arith, Global, Some}
 use Rattle.std.specs.Prelude.{slice_get, slice_set}
-use Rattle.std.specs.Result.{OnErr}
 use Rattle.std.specs.declared.collections.VecDeque.{VecDeque}
 use Rattle.std.proofs.lemmas.List.{length-map, length-set, map-set}
 use Rattle.std.proofs.lemmas.Option.{same_Some, slice_get_within}
+use Rattle.std.proofs.lemmas.Result.{MatchResult-from_err}
 use Rattle.tv_base.proofs.ByPlace.{get_map}
 use Rattle.letter_types.specs.declared.entries.Entry.{Entry}
 use Rattle.history_merge.specs.Recording.{FirstHas, IsFirstAt, lists_left, recorder_data, without_empty}
@@ -13,11 +13,6 @@ use Rattle.history_merge.proofs.recorder.record_first.Goals as goal
 
 abbrev items_of : VecDeque Entry Global → List Entry
 items_of v = v.items
-
--- what holds whatever comes holds where no memory is found
-any_err : {T E : Type 0} {P : Type 0} (r : Result T E) → P → OnErr r P
-any_err (Ok value) holds = tt
-any_err (Err e) holds = holds
 
 place_within : (lists : List (VecDeque Entry Global)) (place : ℕ) (es : List Entry) → slice_get (map items_of lists) place ≡ Some es
     → place < length lists
@@ -58,7 +53,7 @@ returns-in_err-witness-clause-err g c =
     ∙ same_there (map items_of old) place c.index_mut.result.now.items here.0 in
     let same : recorder_data c.move_first.new.done (map items_of (slice_set old place list)) ≡ recorder_data c.args.done.now (map items_of old) =
     λ i. recorder_data (c.in_err-witness.ensures.err_done i) (lists i) in
-    any_err c.from_residual.result same
+    MatchResult-from_err c.from_residual.result _ _ c.from_residual.ensures.0 (λ _. same)
 
 pub returns-clause-recorded : goal.returns-clause-recorded
 returns-clause-recorded g c =

@@ -1,17 +1,15 @@
-use Rattle.std.proofs.Common.{◌≡◌, ◌+◌, ℕ, List, [], ◌∷◌, ◌++◌, length, map, sym, ap, ◌∙◌, subst, Global}
-use Rattle.std.specs.declared.collections.VecDeque.{VecDeque}
+use Rattle.std.proofs.Common.{◌≡◌, ◌+◌, ℕ, List, [], ◌∷◌, ◌++◌, length, sym, ap, ◌∙◌, subst}
 use Rattle.letter_types.specs.declared.entries.Entry.{Entry}
 use Rattle.stamp_post.specs.declared.rule.JoinedReceipt.{JoinedReceipt}
 use Rattle.stamp_post.specs.Shown.{GathererData, receipt_joined}
-use Rattle.history_merge.specs.Recording.{AreRecorded, IsFirstAt}
+use Rattle.history_merge.specs.Recording.{AreRecorded, IsFirstAt, waiting_in}
 use Rattle.history_merge.proofs.Recordings.{recorded_more}
 use Rattle.history_merge.proofs.recorder.Recorder.record_next.Goals as goal
 
 pub record_first-requires : goal.record_first-requires
 record_first-requires g c =
-    let items_of : VecDeque Entry Global → List Entry = λ v. v.items in
     let number : c.len.result + 1 ≡ length c.self.inside.done + 1 = ap (λ (n : ℕ). n + 1) c.len.ensures.len in
-    subst (λ (n : ℕ). IsFirstAt n (map items_of c.self.inside.waiting.items) c.in-Some.place) number c.in-Some.ensures.found
+    subst (λ (n : ℕ). IsFirstAt n (waiting_in c.self.inside.waiting) c.in-Some.place) number c.in-Some.ensures.found
 
 pub invariant_of-self-2 : goal.invariant_of-self-2
 invariant_of-self-2 g c =
