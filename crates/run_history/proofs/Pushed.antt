@@ -11,7 +11,7 @@ use Rattle.letter_types.specs.declared.entries.Letter.{Letter}
 use Rattle.letter_types.specs.declared.entries.Outgoing.{Outgoing}
 use Rattle.letter_types.specs.Letters.{go, sealed}
 use Rattle.run_history.specs.declared.record.Slot.{Slot}
-use Rattle.run_history.specs.Messages.{entry_behind, messages_of, outgoing_of, with_entry}
+use Rattle.run_history.specs.Messages.{entry_behind, messages_of, outgoing_of, entries_then}
 use Rattle.run_history.specs.inside.Slots.{AreSlots, entries_of_slots, IsSlot, IsTakenFrom, Lists, lists_of, taken_of_slot}
 use Rattle.run_history.proofs.Kept.{entries_count, kept_more, longer, messages_from, one_more, range_behind}
 use Rattle.run_history.proofs.Sealed.{unsealed}
@@ -19,7 +19,7 @@ use Rattle.run_history.proofs.Sealed.{unsealed}
 -- the lists with one more entry's parts, and the entries that they mean
 pub record Pushed (es : List Entry) (ls : Lists) (qs : List Slot) (p : Slot) (os : List Outgoing) (ds : List Act) : Type 0 where
   pub kept : AreSlots ls qs
-  pub entries : entries_of_slots ls qs ≡ with_entry es p.actor (taken_of_slot ls.letters ls.came p) os ds
+  pub entries : entries_of_slots ls qs ≡ entries_then es p.actor (taken_of_slot ls.letters ls.came p) os ds
 
 pushed_to : (ls : Lists) (ps : List Slot) (p : Slot) (stamp : ℕ) (os : List Outgoing) (more : List Letter) (ds : List Act)
     → AreSlots ls ps → length ps < MOST_ENTRIES → stamp ≡ length ps + 1

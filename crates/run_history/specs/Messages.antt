@@ -25,5 +25,5 @@ abbrev pub entry_behind : ℕ → ActorNo → Letter → List Outgoing → List 
 entry_behind n actor l sent acts = record { stamp = record { 0 = n + 1 }; actor = actor; took = l; sent = sent; acts = acts }
 
 -- these entries, and behind them that of an actor that took a message, sent these and did these
-abbrev pub with_entry : List Entry → ActorNo → Letter → List Outgoing → List Act → List Entry
-with_entry es actor l sent acts = es ++ entry_behind (length es) actor l sent acts ∷ []
+abbrev pub entries_then : List Entry → ActorNo → Letter → List Outgoing → List Act → List Entry
+entries_then es actor l sent acts = es ++ entry_behind (length es) actor l sent acts ∷ []

@@ -11,7 +11,7 @@ pub record RecordData : Type 0 where
   pub acts_room : ℕ
 
 -- there is room for one more entry, which sends n messages and does m acts
-pub record HasRoom (n m : ℕ) (r : RecordData) : Type 0 where
+pub record HasRoomFor (n m : ℕ) (r : RecordData) : Type 0 where
   pub few : length r.entries < MOST_ENTRIES
   pub slots : 0 < r.slots_room
   pub came : 0 < r.came_room

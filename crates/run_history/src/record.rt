@@ -2,8 +2,8 @@
 ghost use Rattle.std.specs.Prelude.{◌≡◌, ◌<◌, ◌≤◌, [], length, slice_get, IfSome, OnOk, Some};
 ghost use Rattle.std.specs.List.{slice_range};
 ghost use Rattle.tv_base.specs.declared.numbers.TheConstants.{MOST_ENTRIES};
-ghost use Rattle.run_history.specs.Messages.{acts_of, messages_of, with_entry};
-ghost use Rattle.run_history.specs.Records.{HasRoom};
+ghost use Rattle.run_history.specs.Messages.{acts_of, messages_of, entries_then};
+ghost use Rattle.run_history.specs.Records.{HasRoomFor};
 ghost use Rattle.run_history.specs.inside.Slots.{acts_begin, IsTakenFrom, sent_begins, taken_of_slot};
 
 use crate::entry::EntryRef;
@@ -160,7 +160,7 @@ impl Record {
     #[inline(always)]
     pub fn make_room(&mut self, sent: usize, acts: usize) -> Result<(), NoMemory>
         ensures entries { self.new.entries ≡ self.old.entries }
-        ensures ok { OnOk result (HasRoom sent acts self.new) }
+        ensures ok { OnOk result (HasRoomFor sent acts self.new) }
     {
         if MOST_ENTRIES <= self.slots.len() {
             return Err(NoMemory);
@@ -176,10 +176,10 @@ impl Record {
     /// lists, which keep their room.
     #[inline(always)]
     pub fn enter(&mut self, took: usize, actor: ActorNo, sent: &mut Letters, acts: &mut Acts)
-        requires room { HasRoom (length sent.old) (length acts.old) self.old }
+        requires room { HasRoomFor (length sent.old) (length acts.old) self.old }
         requires took { took < length (messages_of self.old.entries) }
         ensures entry { IfSome (slice_get (messages_of self.old.entries) took)
-            (λ l. self.new.entries ≡ with_entry self.old.entries actor l sent.old acts.old) }
+            (λ l. self.new.entries ≡ entries_then self.old.entries actor l sent.old acts.old) }
         ensures sent { sent.new ≡ [] }
         ensures acts { acts.new ≡ [] }
     {
@@ -197,8 +197,8 @@ impl Record {
 
     /// The same of a message that no entry here sent, which is kept beside the others.
     pub fn enter_whole(&mut self, took: Letter, actor: ActorNo, sent: &mut Letters, acts: &mut Acts)
-        requires { HasRoom (length sent.old) (length acts.old) self.old }
-        ensures entry { self.new.entries ≡ with_entry self.old.entries actor took sent.old acts.old }
+        requires { HasRoomFor (length sent.old) (length acts.old) self.old }
+        ensures entry { self.new.entries ≡ entries_then self.old.entries actor took sent.old acts.old }
         ensures sent { sent.new ≡ [] }
         ensures acts { acts.new ≡ [] }
     {

@@ -2,8 +2,8 @@
 ghost use Rattle.std.specs.Prelude.{◌≡◌, ◌<◌, ◌≤◌, ◌+◌, ◌-◌, ◌++◌, [], length, slice_get, IfOk, IfSome, OnOk, OnErr, Some};
 ghost use Rattle.tv_base.specs.declared.numbers.TheConstants.{MOST_ENTRIES};
 ghost use Rattle.letter_types.specs.Letters.{go};
-ghost use Rattle.run_history.specs.Messages.{messages_of, with_entry};
-ghost use Rattle.run_history.specs.Records.{HasRoom};
+ghost use Rattle.run_history.specs.Messages.{messages_of, entries_then};
+ghost use Rattle.run_history.specs.Records.{HasRoomFor};
 ghost use Rattle.tx_trees.specs.ScriptData.{ScriptData};
 ghost use Rattle.world_core.specs.Actors.{AreStatesOf, IsLedTo, IsWorldOf, TookLetter};
 ghost use Rattle.tree_step.specs.Meant.{IsEmpty, out_in};
@@ -133,8 +133,8 @@ fn act(
 #[inline(always)]
 fn enter(log: &mut Record, place: usize, actor: ActorNo, scratch: &mut Scratch)
     requires place { place ≤ length (messages_of log.old.entries) }
-    requires room { HasRoom (length scratch.old.sent) (length scratch.old.acts) log.old }
-    ensures { log.new.entries ≡ with_entry log.old.entries actor (message_at (go actor.0) (messages_of log.old.entries) place)
+    requires room { HasRoomFor (length scratch.old.sent) (length scratch.old.acts) log.old }
+    ensures { log.new.entries ≡ entries_then log.old.entries actor (message_at (go actor.0) (messages_of log.old.entries) place)
         scratch.old.sent scratch.old.acts }
 {
     let sent = &mut scratch.sent;

@@ -9,7 +9,7 @@ use Rattle.letter_types.specs.declared.entries.Letter.{Letter}
 use Rattle.letter_types.specs.declared.entries.Outgoing.{Outgoing}
 use Rattle.letter_types.specs.declared.entries.StepOut.{StepOut}
 use Rattle.letter_types.specs.Letters.{go, sealed}
-use Rattle.run_history.specs.Messages.{entry_behind, messages_of, with_entry}
+use Rattle.run_history.specs.Messages.{entry_behind, messages_of, entries_then}
 use Rattle.run_history.proofs.Sealed.{sealed_count}
 use Rattle.tree_step.specs.Meant.{out_in}
 use Rattle.world_core.specs.declared.world.Flow.{Flow}
@@ -93,8 +93,8 @@ entered c =
     let le = place_in h f.bag.items c.args.k place c.requires.flow.placed c.requires.waits c.at-place.ensures in
     let is = c.message_at-letter.ensures ∙ ap (λ (ls : List Letter). message_at f.go ls place) c.messages.ensures in
     c.enter.ensures
-    ∙ ap (λ (es : List Entry). with_entry es l.to (message_at (go l.to.0) (messages_of es) place) sent acts) c.in_ok-make_room-2.ensures.entries
-    ∙ ap (λ (m : Letter). with_entry h l.to m sent acts) (message_to f.go (messages_of h) place l c.requires.flow.first le is)
+    ∙ ap (λ (es : List Entry). entries_then es l.to (message_at (go l.to.0) (messages_of es) place) sent acts) c.in_ok-make_room-2.ensures.entries
+    ∙ ap (λ (m : Letter). entries_then h l.to m sent acts) (message_to f.go (messages_of h) place l c.requires.flow.first le is)
 
 -- what is left of the bag
 left : (c : goal.After-wipe) → c.take.new.self.items ≡ remove (c.args.flow.now.bag.items

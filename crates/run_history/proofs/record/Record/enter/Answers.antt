@@ -4,7 +4,7 @@ use Rattle.std.proofs.lemmas.List.{append-nil, get_or_append_left}
 use Rattle.letter_types.specs.declared.entries.Letter.{Letter}
 use Rattle.letter_types.specs.Letters.{go, sealed}
 use Rattle.run_history.specs.declared.record.Slot.{Slot}
-use Rattle.run_history.specs.Messages.{with_entry}
+use Rattle.run_history.specs.Messages.{entries_then}
 use Rattle.run_history.specs.Records.{RecordData}
 use Rattle.run_history.specs.inside.Slots.{lists_of}
 use Rattle.run_history.proofs.Kept.{entries_count}
@@ -44,4 +44,4 @@ returns-clause-entry c =
     let took : get_or c.push_sent.new.letters.items c.args.took (go 0) ≡ get_or i.letters.items c.args.took (go 0) =
     ap (λ (xs : List Letter). get_or xs c.args.took (go 0)) c.push_sent.ensures.moved ∙ stays in
     rw there.1 ((made c).entries
-    ∙ (λ x. with_entry c.args.self.now.entries c.args.actor (took x) c.args.sent.now c.args.acts.now))
+    ∙ (λ x. entries_then c.args.self.now.entries c.args.actor (took x) c.args.sent.now c.args.acts.now))

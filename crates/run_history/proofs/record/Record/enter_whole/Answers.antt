@@ -5,7 +5,7 @@ use Rattle.std.proofs.lemmas.List.{length-append}
 use Rattle.letter_types.specs.declared.entries.Letter.{Letter}
 use Rattle.letter_types.specs.Letters.{go}
 use Rattle.run_history.specs.declared.record.Slot.{Slot}
-use Rattle.run_history.specs.Messages.{with_entry}
+use Rattle.run_history.specs.Messages.{entries_then}
 use Rattle.run_history.specs.Records.{RecordData}
 use Rattle.run_history.specs.inside.Slots.{lists_of}
 use Rattle.run_history.proofs.Kept.{entries_count}
@@ -45,4 +45,4 @@ invariant_of-self c = (made c).kept
 pub returns-clause-entry : goal.returns-clause-entry
 returns-clause-entry c =
     (made c).entries
-    ∙ (λ x. with_entry c.args.self.now.entries c.args.actor (took_is c x) c.args.sent.now c.args.acts.now)
+    ∙ (λ x. entries_then c.args.self.now.entries c.args.actor (took_is c x) c.args.sent.now c.args.acts.now)
