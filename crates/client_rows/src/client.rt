@@ -66,6 +66,7 @@ impl Client {
     /// Prepares what the client's table says of a message. The script is the one that the client was made with. What goes
     /// out is put into the two lists, whose items are dropped and whose room is used. It takes time for the rows that are
     /// submitted, and not for those before them; it takes all memory that the step needs, and changes nothing else.
+    #[inline(never)]
     pub fn prepare(
         &self,
         letter: &Letter,

@@ -1,11 +1,9 @@
 // The actors as one, and their steps.
 ghost use Rattle.std.specs.Prelude.{◌≡◌, ◌<◌, ◌+◌, [], IfOk, OnOk, OnErr};
 ghost use Rattle.advance_coord.specs.Changes.{MayKeep, IsCoordinatorStepOf, after_coordinator_change};
-ghost use Rattle.client_rows.specs.Changes.{IsClientStepOf};
-ghost use Rattle.client_rows.specs.Kept.{IsKeptOf};
 ghost use Rattle.coord_restart.specs.RestartChanges.{MayTakeUp, IsRestartStepOf, after_restart_change};
 ghost use Rattle.tree_step.specs.Meant.{IsEmpty, out_in};
-ghost use Rattle.world_model.specs.Tables.{client_table, coordinator_table, restarting_table, start_coordination};
+ghost use Rattle.world_model.specs.Tables.{coordinator_table, restarting_table, start_coordination};
 ghost use Rattle.world_core.specs.Actors.{actor_data, IsFor, IsStateOf};
 ghost use Rattle.world_core.specs.Steps.{ActorMayDo, IsActorDone, IsActorStepOf, MayTake, out_of};
 ghost use Rattle.pair_counters.specs.Numbers.{MOST_COUNT};
@@ -139,13 +137,14 @@ pub fn actor_plan(
             Ok(ActorPlan::Restarting(prepared))
         }
         ActorState::Client(client) => {
-            let change = prepare_client(client, came, scratch)?;
+            let sent = &mut scratch.sent;
+            let change = client.prepare(came.letter, came.script, sent, &mut scratch.acts)?;
             Ok(ActorPlan::Client(change))
         }
     }
 }
 
-// What the coordinators and the client prepare is large: in a call of its own it costs nothing where a node acts.
+// What the coordinators prepare is large: in a call of its own it costs nothing where a node acts.
 
 /// Prepares the coordinator's step.
 #[inline(never)]
@@ -171,26 +170,6 @@ fn prepare_restarting(
 {
     let prepared = restarting.prepare(alloc, letter)?;
     Ok(Boxed::new(alloc, prepared)?)
-}
-
-/// Prepares the client's step. What goes out lies in the scratch.
-#[inline(never)]
-fn prepare_client(
-    client: &Client,
-    came: &Incoming,
-    scratch: &mut Scratch,
-) -> Result<ClientChange, NoMemory>
-    requires { IsKeptOf came.now.script.now client.now }
-    ensures { IfOk result (λ change. IsClientStepOf came.now.script.now
-        (client_table came.now.script.now client.now.client came.now.letter.now) client.now
-        (record { change = change; out = out_in scratch.new })) }
-{
-    client.prepare(
-        came.letter,
-        came.script,
-        &mut scratch.sent,
-        &mut scratch.acts,
-    )
 }
 
 /// Does a step that was planned for this actor; what goes out lies in the scratch then. If a node finds no memory, it
