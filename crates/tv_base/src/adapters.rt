@@ -1,7 +1,9 @@
 // A source over any reader, and a sink over any writer.
-ghost use Rattle.std.specs.Prelude.{◌≡◌, ◌<◌, ◌≤◌, length};
+ghost use Rattle.std.specs.Io.KnownBytes.{Keeps};
+ghost use Rattle.std.specs.Prelude.{◌≡◌, ◌<◌, ◌≤◌, length, OnErr};
 ghost use Rattle.tv_base.specs.Outside.{Reads, Rose, Writes, faults_after_read, faults_after_write};
 
+use crate::moving::WriteFailed;
 use crate::outside::{ReadStep, Sink, Source, WriteStep};
 use std::io::{Read, Write};
 
@@ -95,6 +97,21 @@ impl<W: Write> Sink for WriterSink<W> {
             Ok(_) | Err(_) => {
                 self.faults = self.faults.saturating_add(1);
                 WriteStep::Failed
+            }
+        }
+    }
+
+    /// Flushes the writer. An error is a fault.
+    fn flush(&mut self) -> Result<(), WriteFailed>
+        ensures kept { Keeps (W.contents self.old.inner) (W.contents self.new.inner) }
+        ensures later { self.old.faults ≤ self.new.faults }
+        ensures cause { OnErr result (Rose self.old.faults self.new.faults) }
+    {
+        match self.inner.flush() {
+            Ok(()) => Ok(()),
+            Err(_) => {
+                self.faults = self.faults.saturating_add(1);
+                Err(WriteFailed)
             }
         }
     }

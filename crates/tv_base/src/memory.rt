@@ -1,8 +1,10 @@
 // A source and a sink in memory, which fail where they are told to.
-ghost use Rattle.std.specs.Prelude.{◌≡◌, ◌<◌, ◌≤◌, ◌↔◌, ℕ, length, Some, IfOk, IsTrue};
+ghost use Rattle.std.specs.Io.KnownBytes.{Keeps};
+ghost use Rattle.std.specs.Prelude.{◌≡◌, ◌<◌, ◌≤◌, ◌↔◌, ℕ, length, Some, IfOk, IsTrue, OnErr};
 ghost use Rattle.tv_base.specs.Memory.{lists, source_of, read_fails, most_given, after_read, sink_of, write_fails, most_written, after_write};
 ghost use Rattle.tv_base.specs.Outside.{Reads, Rose, Writes};
 
+use crate::moving::WriteFailed;
 use crate::numbers::NoMemory;
 use crate::outside::{ReadStep, Sink, Source, WriteStep};
 use std::alloc::Global;
@@ -195,5 +197,15 @@ impl Sink for MemSink {
         self.bytes[self.len..self.len + count].copy_from_slice(&piece[..count]);
         self.len += count;
         WriteStep::Took(count)
+    }
+
+    /// Nothing is kept back, so nothing happens.
+    fn flush(&mut self) -> Result<(), WriteFailed>
+        ensures kept { Keeps (Some self.old.written) (Some self.new.written) }
+        ensures later { self.old.faults ≤ self.new.faults }
+        ensures cause { OnErr result (Rose self.old.faults self.new.faults) }
+        ensures same { self.new ≡ self.old }
+    {
+        Ok(())
     }
 }

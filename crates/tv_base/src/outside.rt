@@ -1,8 +1,10 @@
 // What the program reads from, writes to and waits at.
-ghost use Rattle.std.specs.Prelude.{◌≡◌, ◌<◌, ◌≤◌, ℕ, List, length};
+ghost use Rattle.std.specs.Prelude.{◌≡◌, ◌<◌, ◌≤◌, ℕ, List, length, OnErr};
+ghost use Rattle.std.specs.Io.KnownBytes.{Keeps};
 ghost use Rattle.std.specs.declared.option.Option.{Option};
 ghost use Rattle.tv_base.specs.Outside.{Reads, Rose, Writes};
 
+use crate::moving::WriteFailed;
 use crate::numbers::ActorNo;
 
 /// What one read gave.
@@ -61,6 +63,14 @@ pub trait Sink {
         ensures step { Writes (written self.old) (written self.new) result piece.now }
         ensures later { faults self.old ≤ faults self.new }
         ensures cause { result ≡ WriteStep.Failed → Rose (faults self.old) (faults self.new) };
+
+    /// Passes on what was written and kept back, to where another sees it. What was written stays as it was.
+    ///
+    /// `Err` comes only with one more fault counted.
+    fn flush(&mut self) -> Result<(), WriteFailed>
+        ensures kept { Keeps (written self.old) (written self.new) }
+        ensures later { faults self.old ≤ faults self.new }
+        ensures cause { OnErr result (Rose (faults self.old) (faults self.new)) };
 }
 
 /// A place where actors may be made to wait.
