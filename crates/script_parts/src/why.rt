@@ -60,6 +60,9 @@ pub enum Why {
     /// A strict tree already has an operation on the item.
     #[error("a strict tree already has an operation on the item")]
     ItemTwice,
+    /// The record may only come in the first part, of a script that comes part by part.
+    #[error("the record comes too late, behind the first part")]
+    TooLate,
 }
 
 impl Why {
@@ -85,6 +88,7 @@ impl Why {
             Why::TooMany => "TooMany",
             Why::TooMuch => "TooMuch",
             Why::ItemTwice => "ItemTwice",
+            Why::TooLate => "TooLate",
         }
     }
 }
