@@ -1,7 +1,8 @@
 // The client: it submits the script's rows.
-ghost use Rattle.std.specs.Prelude.{◌≡◌, ◌==◌, ◌&&◌, ◌≤◌, [], length, not, IfOk};
+ghost use Rattle.std.specs.Prelude.{if◌then◌else◌, ◌≡◌, ◌==◌, ◌&&◌, ◌≤◌, ◌∷◌, [], length, not, IfOk, OnErr, OnOk};
+ghost use Rattle.letter_types.specs.declared.acts.Act.TheVariants.{Finished};
 ghost use Rattle.world_model.specs.Client.{client_row, start_client, wanted};
-ghost use Rattle.client_rows.specs.Changes.{IsClientStepOf, after_client_change, client_step};
+ghost use Rattle.client_rows.specs.Changes.{IsClientStepOf, after_client_change, client_step, with_all_places};
 ghost use Rattle.client_rows.specs.Kept.{IsKeptOf, kept_of};
 ghost use Rattle.client_rows.specs.inside.Heard.{finishes_with_news, submit_at};
 ghost use Rattle.client_rows.specs.inside.Places.{is_over, place_reached};
@@ -123,6 +124,30 @@ impl Client {
         let ended = ended_after(news, self.ended);
         let known = with_news(rows, &self.answered, news, self.at);
         furthest(rows, &self.answered, news, ended, known)
+    }
+
+    /// Whether the client would finish with a message: then it would have submitted all rows, all would have ended, and
+    /// it hasn't finished before. The script is the one that the client was made with.
+    pub fn ends_with(&self, letter: &Letter, script: &Script) -> bool
+        requires { IsKeptOf script.now self.now }
+        ensures { (client_row script.now self.now.client letter.now.body).acts ≡ (if result then Finished ∷ [] else []) }
+    {
+        match heard_of(script, &letter.body) {
+            Heard::Nothing => false,
+            Heard::Told(news) => self.finishes_at(news, script),
+            Heard::Asked(_epoch) => false,
+        }
+    }
+
+    /// Gives each transaction that came with a longer script its place among the answers: it isn't answered. If memory
+    /// runs out, the client is as it was.
+    pub fn make_places(&mut self, script: &Script) -> Result<(), NoMemory>
+        requires { length self.old.client.answered ≤ length script.now.trees }
+        ensures ok { OnOk result (self.new ≡ with_all_places script.now self.old) }
+        ensures err { OnErr result (self.new ≡ self.old) }
+    {
+        self.answered.resize(script.trees().len(), false)?;
+        Ok(())
     }
 
     /// Whether it would finish at news.

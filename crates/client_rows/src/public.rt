@@ -1,14 +1,10 @@
-// No run makes these calls: a run prepares the client's step and does it apart, ends by its history, and has one
-// script.
-ghost use Rattle.std.specs.Prelude.{if◌then◌else◌, ◌≡◌, ◌≤◌, ◌∷◌, [], length, IfOk, OnErr, OnOk};
-ghost use Rattle.letter_types.specs.declared.acts.Act.TheVariants.{Finished};
+// No run makes these calls: a run prepares the client's step and does it apart, and ends by its history.
+ghost use Rattle.std.specs.Prelude.{◌≡◌, IfOk, OnErr, OnOk};
 ghost use Rattle.letter_types.specs.Steps.{made};
 ghost use Rattle.world_model.specs.Client.{client_row};
-ghost use Rattle.client_rows.specs.Changes.{with_all_places};
 ghost use Rattle.client_rows.specs.Kept.{IsKeptOf};
 
 use crate::client::Client;
-use crate::news::{Heard, heard_of};
 use letter_types::{Letter, Step, StepOut};
 use std::alloc::Global;
 use tv_base::NoMemory;
@@ -38,29 +34,5 @@ impl Client {
         let kept = given.copy(alloc)?;
         self.done(change);
         Ok(Step { given, kept })
-    }
-
-    /// Whether the client would finish with a message: then it would have submitted all rows, all would have ended, and
-    /// it hasn't finished before. The script is the one that the client was made with.
-    pub fn ends_with(&self, letter: &Letter, script: &Script) -> bool
-        requires { IsKeptOf script.now self.now }
-        ensures { (client_row script.now self.now.client letter.now.body).acts ≡ (if result then Finished ∷ [] else []) }
-    {
-        match heard_of(script, &letter.body) {
-            Heard::Nothing => false,
-            Heard::Told(news) => self.finishes_at(news, script),
-            Heard::Asked(_epoch) => false,
-        }
-    }
-
-    /// Gives each transaction that came with a longer script its place among the answers: it isn't answered. If memory
-    /// runs out, the client is as it was.
-    pub fn make_places(&mut self, script: &Script) -> Result<(), NoMemory>
-        requires { length self.old.client.answered ≤ length script.now.trees }
-        ensures ok { OnOk result (self.new ≡ with_all_places script.now self.old) }
-        ensures err { OnErr result (self.new ≡ self.old) }
-    {
-        self.answered.resize(script.trees().len(), false)?;
-        Ok(())
     }
 }

@@ -3,3 +3,4 @@ pub mod Picked
 pub mod PickNumbers
 pub mod OldestPlaces
 pub mod Quiet
+pub mod Held

@@ -1,3 +1,4 @@
 pub mod Picks
 pub mod Pickers
 pub mod Worlds
+pub mod Held

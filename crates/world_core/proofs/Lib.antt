@@ -6,3 +6,6 @@ pub mod Worlds
 pub mod Leads
 pub mod Events
 pub mod Places
+pub mod Kept
+pub mod Growth
+pub mod Finishing

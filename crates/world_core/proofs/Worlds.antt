@@ -134,7 +134,7 @@ pub row_is : (s : ScriptData) (past : List Entry) (l : Letter) (old next : List 
 row_is s past l old next out states a = a.is.row
     ∙ ap (λ (d : ActorData). actor_row s l.to.0 d l) (states l.to.0 a.before a.there).seen
 
-may_follow : (s : ScriptData) (w : WorldData) (k : ℕ) (l : Letter) (sent : List Outgoing) (acts : List Act)
+pub may_follow : (s : ScriptData) (w : WorldData) (k : ℕ) (l : Letter) (sent : List Outgoing) (acts : List Act)
     → IsWorldOf s w → IsValid s
     → slice_get w.bag k ≡ Some l
     → sent ≡ (actor_row s l.to.0 (actor_in s (reverse w.history) l.to.0) l).sent

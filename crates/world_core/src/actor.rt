@@ -5,6 +5,7 @@ ghost use Rattle.coord_restart.specs.RestartChanges.{MayTakeUp, IsRestartStepOf,
 ghost use Rattle.tree_step.specs.Meant.{IsEmpty, out_in};
 ghost use Rattle.world_model.specs.Tables.{coordinator_table, restarting_table, start_coordination};
 ghost use Rattle.world_core.specs.Actors.{actor_data, IsFor, IsStateOf};
+ghost use Rattle.world_core.specs.inside.Growth.{HasNoMorePlaces, IsEndOf, with_more_places};
 ghost use Rattle.world_core.specs.Steps.{ActorMayDo, IsActorDone, IsActorStepOf, MayTake, out_of};
 ghost use Rattle.pair_counters.specs.Numbers.{MOST_COUNT};
 
@@ -108,6 +109,30 @@ impl ActorState {
             return Ok(start_coordination(alloc, script));
         }
         Ok(ActorState::Client(Client::new(alloc, script)?))
+    }
+
+    /// Whether it is the client and would finish with a message that is addressed to it.
+    pub(crate) fn ends_with(&self, letter: &Letter, script: &Script) -> bool
+        requires { IsFor script.now self.now }
+        ensures { IsEndOf script.now letter.now self.now result }
+    {
+        match self {
+            ActorState::Client(client) => client.ends_with(letter, script),
+            ActorState::Node(_) | ActorState::Coordinator(_) | ActorState::Restarting(_) => false,
+        }
+    }
+
+    /// Gives the client a place for the answer of each transaction that the script has. Other actors stay as they are.
+    /// If memory runs out, it is as it was.
+    pub(crate) fn make_places(&mut self, script: &Script) -> Result<(), NoMemory>
+        requires { HasNoMorePlaces script.now self.old }
+        ensures ok { OnOk result (self.new ≡ with_more_places script.now self.old) }
+        ensures err { OnErr result (self.new ≡ self.old) }
+    {
+        match self {
+            ActorState::Client(client) => client.make_places(script),
+            ActorState::Node(_) | ActorState::Coordinator(_) | ActorState::Restarting(_) => Ok(()),
+        }
     }
 }
 

@@ -1,5 +1,5 @@
 // A world: all actors, the messages in flight, and the history so far.
-ghost use Rattle.std.specs.Prelude.{◌≡◌, ◌<◌, ◌≤◌, ◌+◌, ◌-◌, ◌++◌, [], length, slice_get, IfOk, IfSome, OnOk, OnErr, Some};
+ghost use Rattle.std.specs.Prelude.{◌≡◌, ◌<◌, ◌≤◌, ◌+◌, ◌-◌, ◌++◌, [], length, reverse, slice_get, true, false, IfOk, IfSome, OnOk, OnErr, Some};
 ghost use Rattle.tv_base.specs.declared.numbers.TheConstants.{MOST_ENTRIES};
 ghost use Rattle.letter_types.specs.Letters.{go};
 ghost use Rattle.run_history.specs.Messages.{messages_of, entries_then};
@@ -7,6 +7,7 @@ ghost use Rattle.run_history.specs.Records.{HasRoomFor};
 ghost use Rattle.tx_trees.specs.ScriptData.{ScriptData};
 ghost use Rattle.world_core.specs.Actors.{AreStatesOf, IsLedTo, IsWorldOf, TookLetter};
 ghost use Rattle.tree_step.specs.Meant.{IsEmpty, out_in};
+ghost use Rattle.world_core.specs.Growth.{FinishesWith, MayGoOn, StaysUnfinished};
 ghost use Rattle.world_core.specs.Steps.{ActorMayDo, MayTake};
 ghost use Rattle.world_core.specs.inside.Actors.{Acted, IsPlanFor};
 ghost use Rattle.world_core.specs.inside.Flows.{IsFlowOf, message_at, places_from, world_in};
@@ -270,6 +271,36 @@ impl World {
             wipe(&mut self.scratch);
         }
         result
+    }
+
+    /// Whether the client would finish with message `k` of those in flight: it would have submitted all rows, and all
+    /// would have ended.
+    pub fn ends_with(&self, script: &Script, k: usize) -> bool
+        requires waits { k < length self.now.bag }
+        requires world { IsWorldOf script.now self.now }
+        ensures ends { result ≡ true → IfSome (slice_get self.now.bag k)
+            (FinishesWith script.now (reverse self.now.history)) }
+        ensures stays { result ≡ false → IfSome (slice_get self.now.bag k)
+            (StaysUnfinished script.now (reverse self.now.history)) }
+    {
+        let _valid = script.nodes();
+        let letter = self.letter(k);
+        let state = state_at(&self.flow.actors, letter.to);
+        state.ends_with(letter, script)
+    }
+
+    /// The script has gone on, while the client waits at a `settle` row: the client gets a place for the answer of each
+    /// transaction that came. If memory runs out, the world is as it was.
+    pub fn go_on(&mut self, script: &Script) -> Result<(), NoMemory>
+        requires { MayGoOn self.old script.now }
+        ensures world { OnOk result (IsWorldOf script.now self.new) }
+        ensures history { self.new.history ≡ self.old.history }
+        ensures bag { self.new.bag ≡ self.old.bag }
+        ensures err { OnErr result (self.new ≡ self.old) }
+    {
+        let place = self.flow.actors.len() - 1;
+        let state = &mut self.flow.actors[place];
+        state.make_places(script)
     }
 
     /// The history so far. It has at most `MOST_ENTRIES` entries: one that would pass that finds no memory.
