@@ -1,6 +1,7 @@
 -- A run that is held: its letters stay as they were chosen, in each step and where the script goes on.
 use Rattle.std.proofs.Common.{◌≡◌, ℕ, zero, suc, ◌%◌, ◌∙◌, false, List, [], ◌∷◌, ◌++◌, length, reverse, Option, Some, None, refl, sym, ap, subst}
-use Rattle.std.specs.Prelude.{IfSome, slice_get}
+use Rattle.std.specs.Prelude.{IfSome, OnOk, Result, Ok, Err, slice_get}
+use Rattle.tv_base.specs.declared.numbers.NoMemory.{NoMemory}
 use Rattle.std.proofs.lemmas.List.{append_assoc, append-nil, reverse-append}
 use Rattle.letter_types.specs.declared.entries.Entry.{Entry}
 use Rattle.letter_types.specs.declared.entries.Letter.{Letter}
@@ -70,8 +71,8 @@ module _ {P : Type 0} (place : P → List Letter → ℕ) (after : P → List Le
       subst (λ (o : Option ℕ). IsNext place after p r.world.bag o r.picker) at by.next in
       record {
         world = world;
-        picked = picked_more place after s start r.world new p k by.world by.picked refl chose.place took;
-        next = picker_more place after s start r.world new p r.picker k by.world refl chose.after took;
+        picked = picked_more place after s start r.world new p k by.world by.picked refl chose.at took;
+        next = picker_more place after s start r.world new p r.picker k by.world refl chose.next took;
       }
 
   module _ (s t : ScriptData) (start : P) (same : (h : List Entry) (k : ℕ) → waiting_at t h k ≡ waiting_at s h k) where
@@ -107,3 +108,9 @@ module _ {P : Type 0} (place : P → List Letter → ℕ) (after : P → List Le
             (subst (λ (g : List Entry). IsNext place after (picker_at after t start g (length g)) r.world.bag r.chosen r.picker) (sym history)
             (subst (λ (p : P). IsNext place after p r.world.bag r.chosen r.picker) (sym (picker_same s t start same h (length h))) by.next));
       }
+
+  pub run_grown_if : {T : Type 0} (s t : ScriptData) (start : P) (r : HeldData P) (new : WorldData) (res : Result T NoMemory) → Extends s t → By s start r
+      → OnOk res (IsWorldOf t new) → new.history ≡ r.world.history → new.bag ≡ r.world.bag
+      → OnOk res (By t start (record { world = new; picker = r.picker; chosen = r.chosen }))
+  run_grown_if s t start r new (Ok done) extends by world history bag = run_grown s t start r new extends by world history bag
+  run_grown_if s t start r new (Err e) extends by world history bag = tt

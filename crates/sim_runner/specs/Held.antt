@@ -17,8 +17,8 @@ HasChosen r = IfSome r.chosen (λ k. k < length r.world.bag)
 -- picker p chose place k of these letters and became q
 pub record Chose {P : Type 0} (place : P → List Letter → ℕ) (after : P → List Letter → P) (p : P) (letters : List Letter)
     (k : ℕ) (q : P) : Type 0 where
-  pub place : k ≡ place p letters % length letters
-  pub after : q ≡ after p letters
+  pub at : k ≡ place p letters % length letters
+  pub next : q ≡ after p letters
 
 -- the picker is as it is after all entries; or it has chosen the next letter since
 abbrev pub IsNext : {P : Type 0} → (P → List Letter → ℕ) → (P → List Letter → P) → P → List Letter → Option ℕ → P → Type 0

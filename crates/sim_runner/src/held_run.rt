@@ -127,7 +127,7 @@ impl<P: Picker + Drop> HeldRun<P> {
 
     /// The history, by value.
     pub fn into_history(self) -> History
-        ensures { result ≡ self.entry.world.history }
+        ensures { result ≡ self.world.history }
     {
         self.world.into_history()
     }
