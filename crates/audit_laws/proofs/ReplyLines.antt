@@ -25,11 +25,12 @@ use Rattle.world_model.proofs.Posts.{steps}
 use Rattle.board_rules.specs.Histories.{places_of, version_of}
 use Rattle.board_rules.specs.Outcomes.{acts_in, cause_from, decision_in}
 use Rattle.report_text.specs.Outcomes.{decided_text, outcome_of, strict_line, why_text}
+use Rattle.report_text.specs.Replies.{line_by, outcome_by}
 use Rattle.report_text.specs.Report.{gets_text, read_line, tree_line}
 use Rattle.run_laws.specs.Replies.{AnswersAsDecided, AnswersByActs, IsRightReply, NamesCause, ReplyShows, ShowsWorths}
 use Rattle.run_laws.proofs.replies_told.Replies.{replies_tell}
 use Rattle.run_laws.proofs.replies_told.Shown.{replies_show}
-use Rattle.audit_laws.specs.ReplyLines.{IsItsLine, LinesSayReplies, line_by, outcome_by}
+use Rattle.audit_laws.specs.ReplyLines.{IsItsLine, LinesSayReplies}
 
 -- what is decided of a tree and what its reply says of that have one text
 decided_says : (s : ScriptData) (does : List Act) (t : ℕ) (subs : List Sub) (answer : Answer) (decision : Option Bool) → AnswersAsDecided does t subs decision answer
