@@ -70,7 +70,7 @@ both_lines s h e right shows =
     (λ o it. its_line s h e.actor.0 o.to.0 o.body it.0 it.1)
     (each_both (λ (o : Outgoing). IsRightReply s h e.actor.0 o.to.0 o.body) (λ (o : Outgoing). ReplyShows s h o.body) e.sent right shows)
 
-lines_past : (s : ScriptData) (past : List Entry) → IsValid s → IsStepRun s past → LinesSayReplies s (reverse past)
+pub lines_past : (s : ScriptData) (past : List Entry) → IsValid s → IsStepRun s past → LinesSayReplies s (reverse past)
 lines_past s past valid run =
     let h : List Entry = reverse past in
     let right : Entry → Type 0 = λ e. Each (λ (o : Outgoing). IsRightReply s h e.actor.0 o.to.0 o.body) e.sent in
