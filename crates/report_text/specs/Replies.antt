@@ -58,13 +58,13 @@ reply_lines s h next t [] = []
 reply_lines s h next t (x ∷ xs) = line_if_any s x (reply_or_next h next t) ++ reply_lines s h next (t + 1) xs
 
 -- place n, if the message of this body that was taken there is the reply of transaction t
-abbrev pub place_by : ℕ → Body → ℕ → Option ℕ
-place_by n b t = if is_some (reply_by t b) then Some n else None
+abbrev pub reply_place : ℕ → Body → ℕ → Option ℕ
+reply_place n b t = if is_some (reply_by t b) then Some n else None
 
 -- the place of the first entry that took the reply of transaction t, if the history begins with place n
-abbrev pub place_in : ℕ → List Entry → ℕ → Option ℕ
-place_in n [] t = None
-place_in n (e ∷ h) t = option_or (place_by n e.took.body t) (place_in (n + 1) h t)
+abbrev pub first_place : ℕ → List Entry → ℕ → Option ℕ
+first_place n [] t = None
+first_place n (e ∷ h) t = option_or (reply_place n e.took.body t) (first_place (n + 1) h t)
 
 -- the place that is listed for transaction t
 abbrev pub place_listed : List (Option ℕ) → ℕ → Option ℕ
@@ -73,4 +73,4 @@ place_listed places t = option_and_then (λ (p : Option ℕ). p) (slice_get plac
 -- all of the history was looked at, and the first entry that took a transaction's reply is listed for it
 pub record AreRepliesOf (r : Replies) (h : List Entry) : Type 0 where
   pub looked : r.looked ≡ length h
-  pub listed : (t : ℕ) → place_listed r.places t ≡ place_in 0 h t
+  pub listed : (t : ℕ) → place_listed r.places t ≡ first_place 0 h t

@@ -5,7 +5,7 @@ ghost use Rattle.std.specs.Io.{StartsWith};
 ghost use Rattle.std.specs.Str.{IsAscii};
 ghost use Rattle.tx_trees.specs.AsciiNames.{AreAsciiTrees};
 ghost use Rattle.history_text.specs.TreeNames.{got_text};
-ghost use Rattle.report_text.specs.Replies.{AreRepliesOf, answer_values, line_by, line_if_any, outcome_by, place_by, place_listed, reply_by, reply_lines, reply_or_next};
+ghost use Rattle.report_text.specs.Replies.{AreRepliesOf, answer_values, line_by, line_if_any, outcome_by, reply_place, place_listed, reply_by, reply_lines, reply_or_next};
 ghost use Rattle.report_text.specs.Report.{read_line};
 ghost use Rattle.report_text.specs.Outcomes.{strict_line};
 
@@ -20,14 +20,14 @@ use tv_base::{Name, NoMemory, Seq, Text, Version};
 use tx_trees::{Script, Tree, TreeKind};
 
 // By tree number, the place of the first entry that took the tree's reply.
-type Places = Seq<Option<usize>, 0xffff_ffff>;
+type ReplyPlaces = Seq<Option<usize>, 0xffff_ffff>;
 
 /// Which entries of a history took the replies of trees, as far as it was looked at. So the lines of trees that were
 /// answered are put without walking the history again.
 #[derive(Drop)]
 pub struct Replies {
     pub(crate) looked: usize,
-    pub(crate) places: Places,
+    pub(crate) places: ReplyPlaces,
 }
 
 impl Replies {
@@ -37,7 +37,7 @@ impl Replies {
     {
         Replies {
             looked: 0,
-            places: Places::new(alloc),
+            places: ReplyPlaces::new(alloc),
         }
     }
 
@@ -116,7 +116,7 @@ impl Replies {
 }
 
 // The place that is listed for a tree.
-fn place_of(places: &Places, tree: usize) -> Option<usize>
+fn place_of(places: &ReplyPlaces, tree: usize) -> Option<usize>
     ensures { result ≡ place_listed places.now tree }
 {
     match places.items().get(tree) {
@@ -126,9 +126,9 @@ fn place_of(places: &Places, tree: usize) -> Option<usize>
 }
 
 // Lists the place of the entry that took a message of this body, if that is a reply and none is listed for its tree.
-fn note(places: &mut Places, place: usize, body: &Body) -> Result<(), NoMemory>
+fn note(places: &mut ReplyPlaces, place: usize, body: &Body) -> Result<(), NoMemory>
     ensures ok { OnOk result
-        ((t : ℕ) → place_listed places.new t ≡ option_or (place_listed places.old t) (place_by place body.now t)) }
+        ((t : ℕ) → place_listed places.new t ≡ option_or (place_listed places.old t) (reply_place place body.now t)) }
     ensures err { OnErr result ((t : ℕ) → place_listed places.new t ≡ place_listed places.old t) }
 {
     match body {
@@ -138,7 +138,7 @@ fn note(places: &mut Places, place: usize, body: &Body) -> Result<(), NoMemory>
 }
 
 // Lists the place for this tree, if none is listed.
-fn note_at(places: &mut Places, place: usize, tree: usize) -> Result<(), NoMemory>
+fn note_at(places: &mut ReplyPlaces, place: usize, tree: usize) -> Result<(), NoMemory>
     ensures ok { OnOk result
         ((t : ℕ) → place_listed places.new t ≡ option_or (place_listed places.old t) (if tree == t then Some place else None)) }
     ensures err { OnErr result ((t : ℕ) → place_listed places.new t ≡ place_listed places.old t) }
@@ -152,7 +152,7 @@ fn note_at(places: &mut Places, place: usize, tree: usize) -> Result<(), NoMemor
 }
 
 // Makes a place for this tree, where none is listed if it is new.
-fn make_places(places: &mut Places, tree: usize) -> Result<(), NoMemory>
+fn make_places(places: &mut ReplyPlaces, tree: usize) -> Result<(), NoMemory>
     ensures same { (t : ℕ) → place_listed places.new t ≡ place_listed places.old t }
     ensures there { OnOk result (tree < length places.new) }
 {

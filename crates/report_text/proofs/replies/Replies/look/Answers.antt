@@ -2,7 +2,7 @@ use Rattle.std.proofs.Common.{ℕ, ◌<◌, ◌∙◌, List, length, ap, arith}
 use Rattle.std.specs.Option.{option_or}
 use Rattle.letter_types.specs.declared.entries.Entry.{Entry}
 use Rattle.letter_types.specs.declared.entries.Letter.{Letter}
-use Rattle.report_text.specs.Replies.{place_by, place_listed}
+use Rattle.report_text.specs.Replies.{reply_place, place_listed}
 use Rattle.report_text.proofs.ReplyPlaces.{length_more, looked_more}
 use Rattle.report_text.proofs.replies.Replies.look.Goals as goal
 
@@ -17,5 +17,5 @@ loop-self-preserved c =
           looked_more h c.loop-self.self.places c.note.new.places k t c.entry.result c.entry.ensures c.loop-self.invariant.looked
           (c.loop-self.invariant.listed t)
           (c.in_ok-note.ensures.ok t
-          ∙ ap (λ (l : Letter). option_or (place_listed c.loop-self.self.places t) (place_by k l.body t)) c.took.ensures);
+          ∙ ap (λ (l : Letter). option_or (place_listed c.loop-self.self.places t) (reply_place k l.body t)) c.took.ensures);
     }
