@@ -25,11 +25,12 @@ use Rattle.world_model.proofs.Posts.{steps}
 use Rattle.board_rules.specs.Histories.{places_of, version_of}
 use Rattle.board_rules.specs.Outcomes.{acts_in, cause_from, decision_in}
 use Rattle.report_text.specs.Outcomes.{decided_text, outcome_of, strict_line, why_text}
+use Rattle.report_text.specs.Replies.{line_by, outcome_by}
 use Rattle.report_text.specs.Report.{gets_text, read_line, tree_line}
 use Rattle.run_laws.specs.Replies.{AnswersAsDecided, AnswersByActs, IsRightReply, NamesCause, ReplyShows, ShowsWorths}
 use Rattle.run_laws.proofs.replies_told.Replies.{replies_tell}
 use Rattle.run_laws.proofs.replies_told.Shown.{replies_show}
-use Rattle.audit_laws.specs.ReplyLines.{IsItsLine, LinesSayReplies, line_by, outcome_by}
+use Rattle.audit_laws.specs.ReplyLines.{IsItsLine, LinesSayReplies}
 
 -- what is decided of a tree and what its reply says of that have one text
 decided_says : (s : ScriptData) (does : List Act) (t : ℕ) (subs : List Sub) (answer : Answer) (decision : Option Bool) → AnswersAsDecided does t subs decision answer
@@ -69,7 +70,7 @@ both_lines s h e right shows =
     (λ o it. its_line s h e.actor.0 o.to.0 o.body it.0 it.1)
     (each_both (λ (o : Outgoing). IsRightReply s h e.actor.0 o.to.0 o.body) (λ (o : Outgoing). ReplyShows s h o.body) e.sent right shows)
 
-lines_past : (s : ScriptData) (past : List Entry) → IsValid s → IsStepRun s past → LinesSayReplies s (reverse past)
+pub lines_past : (s : ScriptData) (past : List Entry) → IsValid s → IsStepRun s past → LinesSayReplies s (reverse past)
 lines_past s past valid run =
     let h : List Entry = reverse past in
     let right : Entry → Type 0 = λ e. Each (λ (o : Outgoing). IsRightReply s h e.actor.0 o.to.0 o.body) e.sent in

@@ -63,7 +63,7 @@ last_places past e is =
     places_more e past
     ∙ ap (λ (acts : List Act). places_of (reverse past) ++ map (λ (a : Act). record { node = e.actor.0; act = a }) acts) is
 
-finished_there : (past : List Entry) (e : Entry) → e.acts ≡ Finished ∷ [] → HasFinished (reverse (e ∷ past))
+pub finished_there : (past : List Entry) (e : Entry) → e.acts ≡ Finished ∷ [] → HasFinished (reverse (e ∷ past))
 finished_there past e is =
     ap has_finished (last_places past e is)
     ∙ has_finished-append (places_of (reverse past)) (record { node = e.actor.0; act = Finished } ∷ []) ∙ or_true (has_finished (places_of (reverse past))) where

@@ -3,3 +3,4 @@ pub mod Strict
 pub mod Values
 pub mod Lines
 pub mod Fronts
+pub mod Replies

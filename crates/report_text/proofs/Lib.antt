@@ -2,6 +2,7 @@ pub mod Counts
 pub mod ItemLines
 pub mod OutcomeLines
 pub mod PlainLines
+pub mod ReplyPlaces
 pub mod Serving
 pub mod SmallWorths
 pub mod TreeLines

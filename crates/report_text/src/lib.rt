@@ -7,11 +7,13 @@ mod items;
 mod outcomes;
 mod parts;
 mod reads;
+mod replies;
 mod run_report;
 mod run_summary;
 mod served;
 mod trees;
 
 pub use check_text::check_line;
+pub use replies::Replies;
 pub use run_report::report;
 pub use run_summary::summary;

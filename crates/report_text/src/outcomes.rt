@@ -1,6 +1,7 @@
 // The lines of strict trees.
-ghost use Rattle.std.specs.Prelude.{◌≡◌, ◌++◌, OnOk};
+ghost use Rattle.std.specs.Prelude.{◌≡◌, ◌++◌, OnErr, OnOk};
 ghost use Rattle.std.specs.Option.{option_and_then, option_copied};
+ghost use Rattle.std.specs.Io.{StartsWith};
 ghost use Rattle.std.specs.Str.{IsAscii};
 ghost use Rattle.board_rules.specs.Outcomes.{cause_from};
 ghost use Rattle.board_rules.specs.Stands.{refusal_in};
@@ -112,8 +113,13 @@ fn cause_by(vote: Option<&Vote>) -> Option<&Cause>
 }
 
 // A cause, if there is one.
-fn push_why(text: &mut Text, script: &Script, cause: Option<&Cause>) -> Result<(), NoMemory>
-    ensures { OnOk result (text.new ≡ text.old ++ why_text script.now (option_copied cause.entry)) }
+pub(crate) fn push_why(
+    text: &mut Text,
+    script: &Script,
+    cause: Option<&Cause>,
+) -> Result<(), NoMemory>
+    ensures ok { OnOk result (text.new ≡ text.old ++ why_text script.now (option_copied cause.entry)) }
+    ensures err { OnErr result (StartsWith text.new text.old) }
 {
     match cause {
         Some(cause) => {

@@ -1,5 +1,6 @@
 // Parts of lines.
-ghost use Rattle.std.specs.Prelude.{◌≡◌, ◌++◌, OnOk};
+ghost use Rattle.std.specs.Prelude.{◌≡◌, ◌++◌, OnErr, OnOk};
+ghost use Rattle.std.specs.Io.{StartsWith};
 ghost use Rattle.std.specs.Str.{IsAscii};
 ghost use Rattle.report_text.specs.Parts.{version_text};
 
@@ -15,7 +16,8 @@ pub(crate) fn push_version(
 ) -> Result<(), NoMemory>
     requires word { IsAscii word.now }
     requires name { IsAscii name.now }
-    ensures { OnOk result (text.new ≡ text.old ++ version_text word.now name.now version.0) }
+    ensures ok { OnOk result (text.new ≡ text.old ++ version_text word.now name.now version.0) }
+    ensures err { OnErr result (StartsWith text.new text.old) }
 {
     text.push_all(word)?;
     text.push_all(name.bytes())?;

@@ -1,5 +1,6 @@
 // The lines of trees and of nodes.
-ghost use Rattle.std.specs.Prelude.{◌≡◌, ◌++◌, ◌<◌, ◌^◌, OnOk, length};
+ghost use Rattle.std.specs.Prelude.{◌≡◌, ◌++◌, ◌<◌, ◌^◌, OnErr, OnOk, length};
+ghost use Rattle.std.specs.Io.{StartsWith};
 ghost use Rattle.std.specs.Str.{IsAscii};
 ghost use Rattle.report_text.specs.inside.Lines.{lines_of_told};
 ghost use Rattle.tx_trees.specs.AsciiNames.{AreAsciiTrees};
@@ -77,9 +78,10 @@ fn push_tree(
 }
 
 // The line of an update tree of this version.
-fn push_update(text: &mut Text, tree: &Tree, version: Version) -> Result<(), NoMemory>
+pub(crate) fn push_update(text: &mut Text, tree: &Tree, version: Version) -> Result<(), NoMemory>
     requires { IsAscii tree.now.name }
-    ensures { OnOk result (text.new ≡ text.old ++ update_line tree.now.name version.0 tree.now.written) }
+    ensures ok { OnOk result (text.new ≡ text.old ++ update_line tree.now.name version.0 tree.now.written) }
+    ensures err { OnErr result (StartsWith text.new text.old) }
 {
     push_version(text, b"tree ", &tree.name, version)?;
     push_mark(text, &tree.written)?;
@@ -88,7 +90,8 @@ fn push_update(text: &mut Text, tree: &Tree, version: Version) -> Result<(), NoM
 
 // The mark of a tree that is undone.
 fn push_mark(text: &mut Text, written: &Option<Written>) -> Result<(), NoMemory>
-    ensures { OnOk result (text.new ≡ text.old ++ undone_mark written.now) }
+    ensures ok { OnOk result (text.new ≡ text.old ++ undone_mark written.now) }
+    ensures err { OnErr result (StartsWith text.new text.old) }
 {
     match written {
         Some(_) => text.push_all(b" undone"),
