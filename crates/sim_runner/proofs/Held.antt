@@ -12,7 +12,7 @@ use Rattle.world_model.specs.Runs.{IsStepRun, client_in}
 use Rattle.world_model.specs.Scheduled.{waiting_at}
 use Rattle.world_core.specs.Actors.{IsWorldOf, TookLetter, WorldData}
 use Rattle.world_core.specs.Growth.{StaysUnfinished}
-use Rattle.sim_runner.specs.Held.{Chose, HeldData, IsNext, IsRunBy}
+use Rattle.sim_runner.specs.Held.{Chose, HeldData, IsChosenNext, IsRunBy}
 use Rattle.sim_runner.specs.Pickers.{IsPickedBy, picked_at, picker_at}
 use Rattle.sim_runner.proofs.Picked.{picked_more, picked_none, picker_first, picker_more}
 
@@ -54,7 +54,7 @@ module _ {P : Type 0} (place : P → List Letter → ℕ) (after : P → List Le
       → Chose place after r.picker r.world.bag k q → By s start (record { world = r.world; picker = q; chosen = Some k })
   run_chosen s start r k q by none chose =
       let now : r.picker ≡ picker_at after s start r.world.history (length r.world.history) =
-      subst (λ (o : Option ℕ). IsNext place after (picker_at after s start r.world.history (length r.world.history)) r.world.bag o r.picker) none by.next in
+      subst (λ (o : Option ℕ). IsChosenNext place after (picker_at after s start r.world.history (length r.world.history)) r.world.bag o r.picker) none by.next in
       record {
         world = by.world;
         picked = by.picked;
@@ -68,7 +68,7 @@ module _ {P : Type 0} (place : P → List Letter → ℕ) (after : P → List Le
       let h : List Entry = r.world.history in
       let p : P = picker_at after s start h (length h) in
       let chose : Chose place after p r.world.bag k r.picker =
-      subst (λ (o : Option ℕ). IsNext place after p r.world.bag o r.picker) at by.next in
+      subst (λ (o : Option ℕ). IsChosenNext place after p r.world.bag o r.picker) at by.next in
       record {
         world = world;
         picked = picked_more place after s start r.world new p k by.world by.picked refl chose.at took;
@@ -104,9 +104,9 @@ module _ {P : Type 0} (place : P → List Letter → ℕ) (after : P → List Le
         world = world;
         picked = subst (λ (g : List Entry). IsPickedBy place after t start g) (sym history) (picked_too s t start same h by.picked);
         next =
-            subst (λ (ls : List Letter). IsNext place after (picker_at after t start new.history (length new.history)) ls r.chosen r.picker) (sym bag)
-            (subst (λ (g : List Entry). IsNext place after (picker_at after t start g (length g)) r.world.bag r.chosen r.picker) (sym history)
-            (subst (λ (p : P). IsNext place after p r.world.bag r.chosen r.picker) (sym (picker_same s t start same h (length h))) by.next));
+            subst (λ (ls : List Letter). IsChosenNext place after (picker_at after t start new.history (length new.history)) ls r.chosen r.picker) (sym bag)
+            (subst (λ (g : List Entry). IsChosenNext place after (picker_at after t start g (length g)) r.world.bag r.chosen r.picker) (sym history)
+            (subst (λ (p : P). IsChosenNext place after p r.world.bag r.chosen r.picker) (sym (picker_same s t start same h (length h))) by.next));
       }
 
   pub run_grown_if : {T : Type 0} (s t : ScriptData) (start : P) (r : HeldData P) (new : WorldData) (res : Result T NoMemory) → Extends s t → By s start r

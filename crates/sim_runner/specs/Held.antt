@@ -21,9 +21,9 @@ pub record Chose {P : Type 0} (place : P → List Letter → ℕ) (after : P →
   pub next : q ≡ after p letters
 
 -- the picker is as it is after all entries; or it has chosen the next letter since
-abbrev pub IsNext : {P : Type 0} → (P → List Letter → ℕ) → (P → List Letter → P) → P → List Letter → Option ℕ → P → Type 0
-IsNext place after p letters None q = q ≡ p
-IsNext place after p letters (Some k) q = Chose place after p letters k q
+abbrev pub IsChosenNext : {P : Type 0} → (P → List Letter → ℕ) → (P → List Letter → P) → P → List Letter → Option ℕ → P → Type 0
+IsChosenNext place after p letters None q = q ≡ p
+IsChosenNext place after p letters (Some k) q = Chose place after p letters k q
 
 -- the run so far is one of the script, whose letters were taken as the picker chose from its start on; a letter that is
 -- chosen and not taken is the one that comes next
@@ -31,4 +31,4 @@ pub record IsRunBy {P : Type 0} (place : P → List Letter → ℕ) (after : P �
     (r : HeldData P) : Type 0 where
   pub world : IsWorldOf s r.world
   pub picked : IsPickedBy place after s start r.world.history
-  pub next : IsNext place after (picker_at after s start r.world.history (length r.world.history)) r.world.bag r.chosen r.picker
+  pub next : IsChosenNext place after (picker_at after s start r.world.history (length r.world.history)) r.world.bag r.chosen r.picker

@@ -70,7 +70,7 @@ impl<P: Picker + Drop> HeldRun<P> {
         ensures later { IsFront self.old.world.history self.new.world.history }
         ensures waits { IfOk result (λ pause. pause ≡ pauses.Waits → (all ≡ false)
             × IfSome self.new.chosen (λ k. IfSome (slice_get self.new.world.bag k)
-                (FinishesWith script.now (reverse self.new.world.history)))) }
+            (FinishesWith script.now (reverse self.new.world.history)))) }
         ensures chosen { IfOk result (λ pause. pause ≡ pauses.Waits → IsSome self.new.chosen) }
         ensures over { IfOk result (λ pause. pause ≡ pauses.Over → self.new.world.bag ≡ []) }
         ensures unfinished { all ≡ false → (client_in script.now (reverse self.old.world.history)).finished ≡ false

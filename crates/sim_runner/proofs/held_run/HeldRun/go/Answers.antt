@@ -1,6 +1,5 @@
-use Rattle.std.proofs.Common.{◌≡◌, ◌∙◌, Bool, true, false, List, reverse, Some, sym, ap, subst}
+use Rattle.std.proofs.Common.{◌≡◌, ◌∙◌, Bool, true, false, reverse, sym, ap, subst}
 use Rattle.std.specs.Prelude.{IfSome, slice_get}
-use Rattle.letter_types.specs.declared.entries.Entry.{Entry}
 use Rattle.growth_laws.specs.Growth.{IsFront}
 use Rattle.world_core.specs.Actors.{WorldData}
 use Rattle.world_core.specs.Growth.{StaysUnfinished}
@@ -38,7 +37,9 @@ loop-self-preserved g c =
           let before : (client_in script (reverse w.history)).finished ≡ false =
           subst (λ (v : WorldData). (client_in script (reverse v.history)).finished ≡ false) (sym here) (inv.unfinished all first) in
           let stays : IfSome (slice_get w.bag c.choose-place.result) (StaysUnfinished script (reverse w.history)) =
-          elim c.else-not-all.branch [ else-not-all-via-then-not-all+else-ends_with b ↦ b.ends_with.ensures.stays b.if-ends_with.false
-          | else-not-all-via-else-not-all b ↦ absurd (both c.args.all b.if-not-all.false all) ] in
+          elim c.else-not-all.branch [
+            | else-not-all-via-then-not-all+else-ends_with b ↦ b.ends_with.ensures.stays b.if-ends_with.false
+            | else-not-all-via-else-not-all b ↦ absurd (both c.args.all b.if-not-all.false all)
+          ] in
           unfinished_step script w c.step.new.self c.choose-place.result took c.in_ok-step.ensures.world stays before;
     }
